@@ -1,0 +1,3 @@
+-- ---- numbers, lists, walks in general
+pub mod NumberLaws
+pub mod RunLaws

@@ -1,0 +1,234 @@
+-- Laws of functions that change at one place, of sums, counts and lists over 1 to n, and of members of a list.
+-- Assumes nothing.
+use Prim.Native.Nat.{ℕ, zero, suc, _+_, _*_, _≤_, _<_}
+use mathlib.Core.Path.{_≡_, refl, sym, ap, subst}
+use mathlib.Core.Bool.{Bool, true, false, cond, false≢true, true≢false}
+use mathlib.Core.List.{List, [], _∷_, _++_, List·Memᴰ, List·Memᴰ·head, List·Memᴰ·tail, List·Memᴰ·append-cases, List·Memᴰ·not-nil}
+use mathlib.Core.Logic.{_≢_, _⊎_, inl, inr}
+use native.Mathlib.Decide.{ℕ-discrete}
+use native.Mathlib.Nat.{le-suc-iff}
+use native.Mathlib.Omega.{arith}
+use lib.Dec.{eqb}
+use lib.ListN.{length, getD, set, length-append}
+use borrow.Author.Tests.{eq-eqb, ne-eqb}
+use Rattle.graph.specs.Numbers.{Obj, upd, bit, sum, count, gather}
+
+-- ---- a change at one place
+
+pub upd-same {ℓ} : {A : Type ℓ} (f : ℕ → A) (i : ℕ) (v : A) → upd f i v i ≡ v
+unfolding upd
+upd-same f i v = rw (eq-eqb i i refl) refl
+
+pub upd-other {ℓ} : {A : Type ℓ} (f : ℕ → A) (i x : ℕ) (v : A) → x ≢ i → upd f i v x ≡ f x
+unfolding upd
+upd-other f i x v h = rw (ne-eqb x i h) refl
+
+-- ---- sums and counts over 1 to n
+
+pub sum-mono : (n : ℕ) (f g : ℕ → ℕ) → ((x : ℕ) → 0 < x → x ≤ n → f x ≤ g x) → sum n f ≤ sum n g
+unfolding sum
+sum-mono zero f g h = omega arith
+sum-mono (suc n) f g h =
+    let a = sum-mono n f g (λ x p q. h x p (omega arith)) in
+    let b = h (suc n) (omega arith) (omega arith) in
+    omega arith
+
+pub sum-ext : (n : ℕ) (f g : ℕ → ℕ) → ((x : ℕ) → 0 < x → x ≤ n → f x ≡ g x) → sum n f ≡ sum n g
+unfolding sum
+sum-ext zero f g h = refl
+sum-ext (suc n) f g h =
+    let a = sum-ext n f g (λ x p q. h x p (omega arith)) in
+    let b = h (suc n) (omega arith) (omega arith) in
+    omega arith
+
+pub sum-add : (n : ℕ) (f g : ℕ → ℕ) → sum n (λ x. f x + g x) ≡ sum n f + sum n g
+unfolding sum
+sum-add zero f g = refl
+sum-add (suc n) f g = let a = sum-add n f g in omega arith
+
+pub sum-zero : (n : ℕ) (f : ℕ → ℕ) → ((x : ℕ) → 0 < x → x ≤ n → f x ≡ 0) → sum n f ≡ 0
+unfolding sum
+sum-zero zero f h = refl
+sum-zero (suc n) f h =
+    let a = sum-zero n f (λ x p q. h x p (omega arith)) in
+    let b = h (suc n) (omega arith) (omega arith) in
+    omega arith
+
+pub sum-le : (n : ℕ) (f : ℕ → ℕ) → ((x : ℕ) → 0 < x → x ≤ n → f x ≤ 1) → sum n f ≤ n
+unfolding sum
+sum-le zero f h = omega arith
+sum-le (suc n) f h =
+    let a = sum-le n f (λ x p q. h x p (omega arith)) in
+    let b = h (suc n) (omega arith) (omega arith) in
+    omega arith
+
+pub sum-bound : (n m : ℕ) (f : ℕ → ℕ) → ((x : ℕ) → f x ≤ m) → sum n f ≤ m * n
+unfolding sum
+sum-bound zero m f h = omega arith
+sum-bound (suc n) m f h =
+    let a = sum-bound n m f h in
+    let b = h (suc n) in
+    omega arith
+
+-- g is f but at o, where it is larger by d
+pub sum-bump : (n o d : ℕ) (f g : ℕ → ℕ) → 0 < o → o ≤ n → g o ≡ f o + d → ((x : ℕ) → x ≢ o → g x ≡ f x) → sum n g ≡ sum n f + d
+unfolding sum
+sum-bump zero o d f g p q e h = absurd (omega arith)
+sum-bump (suc n) o d f g p q e h = go (ℕ-discrete (suc n) o) (λ r. sum-bump n o d f g p r e h)
+  where
+    go : Dec (suc n ≡ o) → (o ≤ n → sum n g ≡ sum n f + d) → sum n g + g (suc n) ≡ sum n f + f (suc n) + d
+    go (yes i) rec =
+        let a = sum-ext n g f (λ x r s. h x (λ (j : x ≡ o). omega arith)) in
+        let b : g (suc n) ≡ f (suc n) + d = rw i e in
+        omega arith
+    go (no i) rec =
+        let a = rec (omega (arith, i)) in
+        let b = h (suc n) i in
+        omega arith
+
+pub sum-swap : (n m : ℕ) (f : ℕ → ℕ → ℕ) → sum n (λ h. sum m (λ x. f h x)) ≡ sum m (λ x. sum n (λ h. f h x))
+unfolding sum
+sum-swap zero m f = sym (sum-zero m (λ x. 0) (λ x p q. refl))
+sum-swap (suc n) m f =
+    let a = sum-swap n m f in
+    let b = sum-add m (λ x. sum n (λ h. f h x)) (λ x. f (suc n) x) in
+    omega arith
+
+-- a sum whose terms are 0 but at c
+pub sum-single : (n c : ℕ) (f : ℕ → ℕ) → ((x : ℕ) → x ≢ c → f x ≡ 0) → sum n f ≤ f c
+unfolding sum
+sum-single zero c f h = omega arith
+sum-single (suc n) c f h = go (ℕ-discrete (suc n) c) (sum-single n c f h)
+  where
+    go : Dec (suc n ≡ c) → sum n f ≤ f c → sum n f + f (suc n) ≤ f c
+    go (yes e) rec =
+        let a = sum-zero n f (λ x p q. h x (λ (j : x ≡ c). omega arith)) in
+        let b : f (suc n) ≡ f c = ap f e in
+        omega arith
+    go (no e) rec = let a = h (suc n) e in omega arith
+
+pub sum-at : (n c : ℕ) (f : ℕ → ℕ) → 0 < c → c ≤ n → ((x : ℕ) → x ≢ c → f x ≡ 0) → sum n f ≡ f c
+sum-at n c f p q h =
+    let a = sum-bump n c (f c) (λ x. 0) f p q (omega arith) h in
+    let b = sum-zero n (λ x. 0) (λ x r s. refl) in
+    omega arith
+
+pub bit-le : (b : Bool) → bit b ≤ 1
+bit-le true = omega arith
+bit-le false = omega arith
+
+pub count-le : (n : ℕ) (p : ℕ → Bool) → count n p ≤ n
+unfolding count
+count-le n p = sum-le n (λ x. bit (p x)) (λ x q r. bit-le (p x))
+
+pub length-gather : (n : ℕ) (p : ℕ → Bool) (f : ℕ → List ℕ) → length (gather n p f) ≡ sum n (λ x. cond (p x) (length (f x)) 0)
+unfolding gather sum
+length-gather zero p f = refl
+length-gather (suc n) p f =
+    let a = length-gather n p f in
+    let b = length-append (gather n p f) (cond (p (suc n)) (f (suc n)) []) in
+    let c = part (p (suc n)) (f (suc n)) in
+    omega arith
+  where
+    part : (b : Bool) (l : List ℕ) → length (cond b l []) ≡ cond b (length l) 0
+    part true l = refl
+    part false l = refl
+
+pub bit-mono : (p q : Bool) → (p ≡ true → q ≡ true) → bit p ≤ bit q
+bit-mono true true h = omega arith
+bit-mono true false h = absurd (false≢true (h refl))
+bit-mono false true h = omega arith
+bit-mono false false h = omega arith
+
+pub count-mono : (n : ℕ) (p q : ℕ → Bool) → ((x : ℕ) → p x ≡ true → q x ≡ true) → count n p ≤ count n q
+unfolding count
+count-mono n p q h = sum-mono n (λ x. bit (p x)) (λ x. bit (q x)) (λ x a b. bit-mono (p x) (q x) (h x))
+
+-- ---- lists of pointers
+
+-- a member that is not the one at k stays when k is set
+pub mem-set : (l : List ℕ) (k t y : ℕ) → List·Memᴰ y l → getD l k 0 ≢ y → List·Memᴰ y (set l k t)
+mem-set (x ∷ l) zero t y (List·Memᴰ·head e) h = absurd (h (sym e))
+mem-set (x ∷ l) zero t y (List·Memᴰ·tail m) h = List·Memᴰ·tail m
+mem-set (x ∷ l) (suc k) t y (List·Memᴰ·head e) h = List·Memᴰ·head e
+mem-set (x ∷ l) (suc k) t y (List·Memᴰ·tail m) h = List·Memᴰ·tail (mem-set l k t y m h)
+
+-- what holds of every member of the lists gathered
+pub gather-all : (Q : ℕ → Type 0) (n : ℕ) (p : ℕ → Bool) (f : ℕ → List ℕ)
+    → ((x : ℕ) → x ≤ n → (k : ℕ) → List·Memᴰ k (f x) → Q k) → (k : ℕ) → List·Memᴰ k (gather n p f) → Q k
+unfolding gather
+gather-all Q zero p f h k m = absurd (List·Memᴰ·not-nil m)
+gather-all Q (suc n) p f h k m =
+    go (λ m′. gather-all Q n p f (λ x q. h x (omega arith)) k m′) (List·Memᴰ·append-cases (gather n p f) m)
+  where
+    last : (b : Bool) → List·Memᴰ k (cond b (f (suc n)) []) → Q k
+    last true m′ = h (suc n) (omega arith) k m′
+    last false m′ = absurd (List·Memᴰ·not-nil m′)
+
+    go : (List·Memᴰ k (gather n p f) → Q k) → List·Memᴰ k (gather n p f) ⊎ List·Memᴰ k (cond (p (suc n)) (f (suc n)) []) → Q k
+    go rec (inl m′) = rec m′
+    go rec (inr m′) = last (p (suc n)) m′
+
+pub mem-of-set : (l : List ℕ) (k t y : ℕ) → List·Memᴰ y (set l k t) → (y ≡ t) ⊎ List·Memᴰ y l
+mem-of-set [] k t y m = inr m
+mem-of-set (x ∷ l) zero t y (List·Memᴰ·head e) = inl e
+mem-of-set (x ∷ l) zero t y (List·Memᴰ·tail m) = inr (List·Memᴰ·tail m)
+mem-of-set (x ∷ l) (suc k) t y (List·Memᴰ·head e) = inr (List·Memᴰ·head e)
+mem-of-set (x ∷ l) (suc k) t y (List·Memᴰ·tail m) = go (mem-of-set l k t y m)
+  where
+    go : (y ≡ t) ⊎ List·Memᴰ y l → (y ≡ t) ⊎ List·Memᴰ y (x ∷ l)
+    go (inl e) = inl e
+    go (inr n) = inr (List·Memᴰ·tail n)
+
+-- ---- functions that agree over 1 to n but at one place
+
+-- f and g agree over 1 to n but at o: the sums differ by what they differ there
+pub sum-differ : (n o : ℕ) (f g : ℕ → ℕ) → Obj n o → ((x : ℕ) → Obj n x → x ≢ o → f x ≡ g x) → sum n f + g o ≡ sum n g + f o
+unfolding sum
+sum-differ zero o f g b h = absurd (omega arith)
+sum-differ (suc n) o f g b h = go (λ c. sum-differ n o f g c (λ x d ne. h x (omega arith) ne)) (le-suc-iff .0 (b .1))
+  where
+    go : (Obj n o → sum n f + g o ≡ sum n g + f o) → (o ≤ n) ⊎ (o ≡ suc n) → sum n f + f (suc n) + g o ≡ sum n g + g (suc n) + f o
+    go r (inl le) = omega (arith, r (b .0, le), h (suc n) (omega arith) (omega arith))
+    go r (inr e) = omega (arith, sum-ext n f g (λ x p q. h x (omega arith) (omega arith)), ap f e, ap g e)
+
+-- a sum of 0 has no other term
+pub sum-none : (n : ℕ) (f : ℕ → ℕ) → sum n f ≡ 0 → (x : ℕ) → Obj n x → f x ≡ 0
+unfolding sum
+sum-none zero f e x b = absurd (omega arith)
+sum-none (suc n) f e x b = go (λ c. sum-none n f (omega arith) x c) (le-suc-iff .0 (b .1))
+  where
+    go : (Obj n x → f x ≡ 0) → (x ≤ n) ⊎ (x ≡ suc n) → f x ≡ 0
+    go r (inl le) = r (b .0, le)
+    go r (inr q) = omega (arith, ap f q)
+
+-- a sum over 1 to n of which no term is above m
+pub sum-most : (n m : ℕ) (f : ℕ → ℕ) → ((x : ℕ) → Obj n x → f x ≤ m) → sum n f ≤ m * n
+unfolding sum
+sum-most zero m f h = omega arith
+sum-most (suc n) m f h =
+    let a = sum-most n m f (λ x b. h x (omega arith)) in
+    let b = h (suc n) (omega arith) in
+    omega arith
+
+pub count-ext : (n : ℕ) (s t : ℕ → Bool) → ((x : ℕ) → Obj n x → s x ≡ t x) → count n s ≡ count n t
+unfolding count
+count-ext n s t h = sum-ext n (λ x. bit (s x)) (λ x. bit (t x)) (λ x p q. ap bit (h x (omega arith)))
+
+pub count-none : (n : ℕ) (t : ℕ → Bool) → ((x : ℕ) → Obj n x → t x ≡ false) → count n t ≡ 0
+unfolding count
+count-none n t h = sum-zero n (λ x. bit (t x)) (λ x p q. ap bit (h x (omega arith)))
+
+pub count-within : (n : ℕ) (s t : ℕ → Bool) → ((x : ℕ) → Obj n x → s x ≡ true → t x ≡ true) → count n s ≤ count n t
+unfolding count
+count-within n s t h = sum-mono n (λ x. bit (s x)) (λ x. bit (t x)) (λ x p q. bit-mono (s x) (t x) (h x (omega arith)))
+
+-- ---- members of a list
+
+pub in-left : (x : ℕ) (s t : List ℕ) → List·Memᴰ x s → List·Memᴰ x (s ++ t)
+in-left x (y ∷ s) t (List·Memᴰ·head e) = List·Memᴰ·head e
+in-left x (y ∷ s) t (List·Memᴰ·tail m) = List·Memᴰ·tail (in-left x s t m)
+
+pub in-right : (x : ℕ) (s t : List ℕ) → List·Memᴰ x t → List·Memᴰ x (s ++ t)
+in-right x [] t m = m
+in-right x (y ∷ s) t m = List·Memᴰ·tail (in-right x s t m)

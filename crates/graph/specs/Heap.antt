@@ -1,0 +1,35 @@
+-- The heap ("The heap"): objects 1 to n, their pointers, and what the calls know of each.
+use Prim.Native.Nat.{ℕ, _≤_}
+use mathlib.Core.Bool.{Bool, cond}
+use mathlib.Core.Logic.{_≢_}
+use mathlib.Core.List.{List, [], _∷_, _++_, List·Memᴰ}
+use lib.Dec.{eqb}
+use Rattle.graph.specs.Numbers.{gather}
+
+-- kids: an object's used slots in order, each the number that its word points at or 0 for no pointer; a free object has none.
+-- cluster: the head of the object's cluster, 0 for none. out is the term of "The heap": see `outBit`. written: stored into since the last analysis.
+pub record Heap : Type 0 where
+  pub n : ℕ
+  pub kids : ℕ → List ℕ
+  pub sink : ℕ → Bool
+  pub written : ℕ → Bool
+  pub cluster : ℕ → ℕ
+  pub out : ℕ → Bool
+
+-- the pointers in a list of words
+unfoldable pub pointers : List ℕ → List ℕ
+pointers [] = []
+pointers (w ∷ l) = cond (eqb w 0) (pointers l) (w ∷ pointers l)
+
+-- the pointers of an object, by slot
+abbrev pub targets : Heap → ℕ → List ℕ
+targets H x = pointers (H .kids x)
+
+-- where every walk begins ("Analysis", "Collection"): the roots by index, then the sinks by number
+unfoldable pub starts : Heap → List ℕ → List ℕ
+starts H roots = roots ++ gather (H .n) (H .sink) (λ x. x ∷ [])
+
+-- a path of pointers leads to the object from one of the starts
+pub data Reach (next : ℕ → List ℕ) (from : List ℕ) : ℕ → Type 0 where
+  start : {x : ℕ} → List·Memᴰ x from → Reach next from x
+  along : {x y : ℕ} → Reach next from x → List·Memᴰ y (next x) → Reach next from y

@@ -1,0 +1,8 @@
+-- The heap as a graph, the paths of pointers in it, and the rules of documents on clusters over it; no buffer and no bit.
+pub mod Numbers
+pub mod Heap
+pub mod Run
+pub mod Clusters
+pub mod Trace
+pub mod Analysis
+pub mod Writes

@@ -1,0 +1,42 @@
+-- Functions of numbers that change at one place, and sums, counts and lists over the numbers 1 to n.
+use Prim.Native.Nat.{ℕ, zero, suc, _+_, _≤_}
+use mathlib.Core.Bool.{Bool, true, false, cond}
+use mathlib.Core.List.{List, [], _∷_, _++_}
+use lib.Dec.{eqb}
+
+-- x is one of 1 to n
+abbrev pub Obj : ℕ → ℕ → Type 0
+Obj n x = (1 ≤ x) × (x ≤ n)
+
+-- f with the value v at i
+unfoldable pub upd {ℓ} : {A : Type ℓ} → (ℕ → A) → ℕ → A → ℕ → A
+upd f i v x = cond (eqb x i) v (f x)
+
+-- 1 for a test that passes
+abbrev pub bit : Bool → ℕ
+bit true = 1
+bit false = 0
+
+-- f 1 + .. + f n
+unfoldable pub sum : ℕ → (ℕ → ℕ) → ℕ
+sum zero f = 0
+sum (suc n) f = sum n f + f (suc n)
+
+-- how many of 1 to n pass the test
+unfoldable pub count : ℕ → (ℕ → Bool) → ℕ
+count n t = sum n (λ x. bit (t x))
+
+-- the lists of those of 1 to n that pass the test, by number, one after the other
+unfoldable pub gather : ℕ → (ℕ → Bool) → (ℕ → List ℕ) → List ℕ
+gather zero t f = []
+gather (suc n) t f = gather n t f ++ cond (t (suc n)) (f (suc n)) []
+
+-- the lowest of 1 to n that passes the test, 0 where none does
+unfoldable pub lowestOf : ℕ → Bool → ℕ → ℕ
+lowestOf zero true x = x
+lowestOf zero false x = zero
+lowestOf (suc m) b x = suc m
+
+unfoldable pub lowest : (ℕ → Bool) → ℕ → ℕ
+lowest t zero = zero
+lowest t (suc n) = lowestOf (lowest t n) (t (suc n)) (suc n)

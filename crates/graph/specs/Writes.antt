@@ -1,0 +1,63 @@
+-- Writes and sinks ("Writes and sinks (3.6, 3.7)"): what an accepted write and a declaration do to the clusters.
+use Prim.Native.Nat.{ℕ, _+_}
+use mathlib.Core.Bool.{Bool, true, false, not, _&&_}
+use mathlib.Core.List.{List}
+use lib.Dec.{eqb}
+use lib.ListN.{getD, set}
+use Rattle.graph.specs.Numbers.{upd}
+use Rattle.graph.specs.Heap.{Heap}
+use Rattle.graph.specs.Clusters.{size, keep, others, outBit}
+
+-- storing t in slot k of o dissolves o's cluster: the old word pointed into it (t, the new word's target, does not matter)
+unfoldable pub dissolves : Heap → ℕ → ℕ → ℕ → Bool
+dissolves H o k t =
+    not (eqb (H .cluster o) 0) && (not (eqb (getD (H .kids o) k 0) 0) && eqb (H .cluster (getD (H .kids o) k 0)) (H .cluster o))
+
+-- the pointers with t in slot k of o
+unfoldable pub stored : Heap → ℕ → ℕ → ℕ → ℕ → List ℕ
+stored H o k t = upd (H .kids) o (set (H .kids o) k t)
+
+-- the heap after the store, where the cluster of o is dissolved and where it is not
+unfoldable pub storeBy : Bool → Heap → ℕ → ℕ → ℕ → Heap
+storeBy true H o k t =
+    record {
+      n = H .n;
+      kids = stored H o k t;
+      sink = H .sink;
+      written = upd (H .written) o true;
+      cluster = keep (others (H .cluster o)) (H .cluster);
+      out = λ x. others (H .cluster o) (H .cluster x) && H .out x;
+    }
+storeBy false H o k t =
+    record {
+      n = H .n;
+      kids = stored H o k t;
+      sink = H .sink;
+      written = upd (H .written) o true;
+      cluster = H .cluster;
+      out = upd (H .out) o (outBit (stored H o k t) (H .sink) (H .cluster) o);
+    }
+
+-- the members that are dissolved
+unfoldable pub lossBy : Bool → Heap → ℕ → ℕ
+lossBy true H o = size (H .n) (H .cluster) (H .cluster o)
+lossBy false H o = 0
+
+-- t, an object number or 0 where the word is no pointer, is stored in slot k of o
+unfoldable pub store : Heap → ℕ → ℕ → ℕ → Heap
+store H o k t = storeBy (dissolves H o k t) H o k t
+
+unfoldable pub lossOf : Heap → ℕ → ℕ → ℕ → ℕ
+lossOf H o k t = lossBy (dissolves H o k t) H o
+
+-- o becomes a sink: its cluster is dissolved, and every out bit made exact
+unfoldable pub declare : Heap → ℕ → Heap
+declare H o =
+    record {
+      n = H .n;
+      kids = H .kids;
+      sink = upd (H .sink) o true;
+      written = H .written;
+      cluster = keep (others (H .cluster o)) (H .cluster);
+      out = outBit (H .kids) (upd (H .sink) o true) (keep (others (H .cluster o)) (H .cluster));
+    }

@@ -1,0 +1,8 @@
+-- The layout of words, records, maps and the control record.
+pub mod Limits
+pub mod Field
+pub mod Record
+pub mod Word
+pub mod Bits
+pub mod ControlRecord
+pub mod Refusal

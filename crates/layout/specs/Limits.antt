@@ -1,0 +1,35 @@
+-- The numbers that sizes are held to, and the lengths that follow from them ("The heap").
+use mathlib.Core.Bool.{Bool, _&&_}
+use Prim.Native.Nat.{ℕ, _+_, _*_, _/_}
+use lib.Dec.{leb}
+
+abbrev pub objectMax : ℕ
+objectMax = 4095
+
+abbrev pub rootMax : ℕ
+rootMax = 64
+
+-- the slots of an object, of which its width is used
+abbrev pub widthMax : ℕ
+widthMax = 8
+
+-- the lowest and the highest size limit ("Analysis")
+abbrev pub limitMin : ℕ
+limitMin = 8
+
+abbrev pub limitMax : ℕ
+limitMax = 4095
+
+-- the words of 32 bits that slots and work take, and the words of 64 bits of the freed map
+unfoldable pub slotsLen : ℕ → ℕ
+slotsLen n = widthMax * n
+
+unfoldable pub workLen : ℕ → ℕ
+workLen n = 10 * n + rootMax
+
+unfoldable pub mapLen : ℕ → ℕ
+mapLen n = n / 64 + 1
+
+-- a ≤ x ≤ b
+unfoldable pub within : ℕ → ℕ → ℕ → Bool
+within a b x = leb a x && leb x b

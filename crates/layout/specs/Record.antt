@@ -1,0 +1,95 @@
+-- The record of an object ("The heap"): which bits say what, and which records are legal.
+use mathlib.Core.Bool.{Bool, true, false, _&&_, _||_, not}
+use Prim.Native.Nat.{ℕ}
+use lib.Dec.{eqb, leb}
+use Rattle.layout.specs.Limits.{widthMax}
+use Rattle.layout.specs.Field.{field, put, flag, putFlag}
+
+-- ---- reading
+
+abbrev pub inUse : ℕ → Bool
+inUse r = flag 0 r
+
+abbrev pub isWritten : ℕ → Bool
+isWritten r = flag 1 r
+
+abbrev pub isSink : ℕ → Bool
+isSink r = flag 2 r
+
+-- out: the term of "The heap" for a member with a pointer to an object that is neither a sink nor in its cluster
+abbrev pub isOut : ℕ → Bool
+isOut r = flag 3 r
+
+-- the three flags of a collection or analysis, 0 between calls
+abbrev pub isMarked : ℕ → Bool
+isMarked r = flag 4 r
+
+abbrev pub isPostponed : ℕ → Bool
+isPostponed r = flag 5 r
+
+abbrev pub isReached : ℕ → Bool
+isReached r = flag 6 r
+
+abbrev pub width : ℕ → ℕ
+width r = field 8 4 r
+
+-- the object number of the cluster's head, 0 for none
+abbrev pub cluster : ℕ → ℕ
+cluster r = field 16 12 r
+
+-- ---- setting, each field by itself: all other bits stay
+
+abbrev pub withUse : Bool → ℕ → ℕ
+withUse b r = putFlag 0 b r
+
+abbrev pub withWritten : Bool → ℕ → ℕ
+withWritten b r = putFlag 1 b r
+
+abbrev pub withSink : Bool → ℕ → ℕ
+withSink b r = putFlag 2 b r
+
+abbrev pub withOut : Bool → ℕ → ℕ
+withOut b r = putFlag 3 b r
+
+abbrev pub withMarked : Bool → ℕ → ℕ
+withMarked b r = putFlag 4 b r
+
+abbrev pub withPostponed : Bool → ℕ → ℕ
+withPostponed b r = putFlag 5 b r
+
+abbrev pub withReached : Bool → ℕ → ℕ
+withReached b r = putFlag 6 b r
+
+abbrev pub withWidth : ℕ → ℕ → ℕ
+withWidth w r = put 8 4 w r
+
+abbrev pub withCluster : ℕ → ℕ → ℕ
+withCluster c r = put 16 12 c r
+
+-- a member after its cluster is dissolved ("Writes and sinks")
+unfoldable pub loose : ℕ → ℕ
+loose r = withCluster 0 (withOut false r)
+
+-- the record of an object just given: in use with that width, and no other bit
+unfoldable pub newRecord : ℕ → ℕ
+newRecord w = withWidth w (withUse true 0)
+
+-- ---- legality
+
+unfoldable pub free : ℕ → Bool
+free r = eqb r 0
+
+-- bits 4 to 6 and the unnamed bits 7, 12 to 15 and 28 to 31 are 0
+unfoldable pub clear : ℕ → Bool
+clear r = eqb (field 4 4 r) 0 && eqb (field 12 4 r) 0 && eqb (field 28 4 r) 0
+
+-- a legal record in a heap of n objects
+unfoldable pub legal : ℕ → ℕ → Bool
+legal n r =
+    clear r && inUse r && leb (width r) widthMax && leb (cluster r) n
+    && (not (isSink r) || eqb (cluster r) 0)
+    && (not (isOut r) || not (eqb (cluster r) 0))
+
+-- damage of one record: neither 0 nor legal
+unfoldable pub damaged : ℕ → ℕ → Bool
+damaged n r = not (free r) && not (legal n r)

@@ -1,0 +1,29 @@
+-- A word ("The heap"): nil, an object number or an immediate; no other is legal.
+use mathlib.Core.Bool.{Bool, _&&_, _||_, cond}
+use Prim.Native.Nat.{ℕ, _^_}
+use lib.Dec.{eqb, leb}
+use Rattle.layout.specs.Limits.{objectMax, within}
+use Rattle.layout.specs.declared.words.Word.{Word}
+use Rattle.layout.specs.declared.words.Word.the-variants.{Nil, Object, Immediate, Illegal}
+
+unfoldable pub isNil : ℕ → Bool
+isNil w = eqb w 0
+
+-- the number of one of n objects
+unfoldable pub isPointer : ℕ → ℕ → Bool
+isPointer n w = within 1 n w
+
+unfoldable pub isImmediate : ℕ → Bool
+isImmediate w = leb (2 ^ 31) w
+
+-- what may stand in a used slot of a heap of n objects, as far as the word alone tells
+unfoldable pub legalWord : ℕ → ℕ → Bool
+legalWord n w = isNil w || isPointer n w || isImmediate w
+
+-- the sort of a word; a number above 4,095 is none, whatever n is
+unfoldable pub sortOf : ℕ → ℕ → Word
+sortOf n w =
+    cond (isNil w) Nil
+    (cond (isPointer n w && leb w objectMax) (Object w)
+    (cond (isImmediate w) Immediate
+    Illegal))

@@ -1,0 +1,61 @@
+// The control record and the answers of the calls, as they cross to C: structs of u32 by value.
+// `refusal` is 0 for an accepted call. After a refusal every count, word and number is 0 and the control record is the one handed in.
+
+// n objects, r roots, the number given last, the size limit (0 before the first analysis), and the two losses.
+#[repr(C)]
+pub struct Control {
+    pub n: u32,
+    pub r: u32,
+    pub last: u32,
+    pub limit: u32,
+    pub write_loss: u32,
+    pub out_loss: u32,
+}
+
+// What create, write, set root and declare sink answer.
+#[repr(C)]
+pub struct Done {
+    pub refusal: u32,
+    pub control: Control,
+}
+
+#[repr(C)]
+pub struct Allocated {
+    pub refusal: u32,
+    pub object: u32,
+    pub control: Control,
+}
+
+#[repr(C)]
+pub struct WordRead {
+    pub refusal: u32,
+    pub word: u32,
+    pub control: Control,
+}
+
+// What show answers over C: the part of the lent slots from `start`, `length` words long.
+#[repr(C)]
+pub struct Part {
+    pub refusal: u32,
+    pub start: u32,
+    pub length: u32,
+    pub control: Control,
+}
+
+// The clusters that an analysis formed and left, and their members.
+#[repr(C)]
+pub struct Analysed {
+    pub refusal: u32,
+    pub clusters: u32,
+    pub members: u32,
+    pub control: Control,
+}
+
+#[repr(C)]
+pub struct Collected {
+    pub refusal: u32,
+    pub freed: u32,
+    pub kept: u32,
+    pub scanned: u32,
+    pub control: Control,
+}

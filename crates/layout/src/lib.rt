@@ -1,0 +1,3 @@
+// The layout of words, records, maps and the control record, which every other crate reads and writes by.
+pub mod answers;
+pub mod words;
