@@ -1,0 +1,45 @@
+-- Allocate ("The heap"): the first free object past the last one given, or else from 1 on.
+use Prim.Native.Nat.{ℕ, suc, _-_}
+use mathlib.Core.Bool.{Bool, _||_, cond}
+use mathlib.Core.List.{List, [], _∷_, _++_}
+use lib.Dec.{eqb, ltb}
+use Rattle.layout.specs.declared.answers.Control.{Control}
+use Rattle.layout.specs.declared.answers.Allocated.{Allocated}
+use Rattle.layout.specs.Limits.{widthMax, slotsLen}
+use Rattle.layout.specs.Record.{free, newRecord}
+use Rattle.layout.specs.ControlRecord.{badControl, withLast}
+use Rattle.layout.specs.Refusal.{Test, outcome}
+use Rattle.rules.specs.Buffers.{short, recOf, eachRecord, eachSlot, numbers}
+
+-- the numbers in the order in which they are tried: from last + 1 to n, then from 1 to last
+unfoldable pub candidates : ℕ → ℕ → List ℕ
+candidates last n = numbers (suc last) (n - last) ++ numbers 1 last
+
+-- the first number that passes, 0 where none does
+unfoldable pub firstOf : (ℕ → Bool) → List ℕ → ℕ
+firstOf t [] = 0
+firstOf t (x ∷ l) = cond (t x) x (firstOf t l)
+
+pub record Outcome : Type 0 where
+  pub answer : Allocated
+  pub records : List ℕ
+  pub slots : List ℕ
+
+module _ (c : Control) (width : ℕ) (recs slots : List ℕ) where
+  -- the object that is given, 0 where every record is nonzero
+  unfoldable pub given : ℕ
+  given = firstOf (λ x. free (recOf (c .n) recs x)) (candidates (c .last) (c .n))
+
+  unfoldable pub allocateTests : List Test
+  allocateTests =
+      (20, badControl c) ∷ (2, short (c .n) recs || short (slotsLen (c .n)) slots) ∷ (3, ltb widthMax width) ∷ (24, eqb given 0) ∷ []
+
+  unfoldable pub allocate : Outcome
+  allocate =
+      outcome allocateTests
+      (record {
+        answer = record { refusal = 0; object = given; control = withLast given c };
+        records = eachRecord (c .n) (λ x r. cond (eqb x given) (newRecord width) r) recs;
+        slots = eachSlot (c .n) (λ x w. cond (eqb x given) 0 w) slots;
+      })
+      (λ k. record { answer = record { refusal = k; object = 0; control = c }; records = recs; slots = slots })

@@ -1,0 +1,68 @@
+-- Analyse ("Analysis"): the next size limit, then the clusters that the walk forms and the rule leaves.
+use Prim.Native.Nat.{ℕ, _*_, _/_, min, max}
+use mathlib.Core.Bool.{not, _||_, cond}
+use mathlib.Core.List.{List, [], _∷_}
+use lib.Dec.{eqb, ltb}
+use lib.ListN.{take}
+use Rattle.layout.specs.declared.answers.Control.{Control}
+use Rattle.layout.specs.declared.answers.Analysed.{Analysed}
+use Rattle.layout.specs.Limits.{limitMin, limitMax, slotsLen, workLen}
+use Rattle.layout.specs.Record.{inUse}
+use Rattle.layout.specs.ControlRecord.{badControl, withAnalysis}
+use Rattle.layout.specs.Refusal.{Test, outcome}
+use Rattle.graph.specs.Numbers.{count}
+use Rattle.graph.specs.Analysis.{Rule}
+use Rattle.graph.specs.Analysis as Graph
+use Rattle.rules.specs.Buffers.{short, recOf, zeros}
+use Rattle.rules.specs.View.{view, laid}
+use Rattle.rules.specs.WellFormed.{wellFormed}
+
+-- a new cluster with fewer members is deleted
+abbrev pub least : ℕ
+least = 4
+
+-- and one with more out pointers than this for ten members
+abbrev pub outPerTen : ℕ
+outPerTen = 25
+
+abbrev pub rule : Rule
+rule = record { outPerTen = outPerTen; least = least }
+
+-- the next size limit: a sixteenth of the objects in use the first time, later the last limit halved or doubled, and always held to its range
+unfoldable pub nextLimit : Control → ℕ → ℕ
+nextLimit c used =
+    max limitMin
+    (min limitMax (cond (eqb (c .limit) 0) (used / 16) (cond (ltb (c .«out_loss») (c .«write_loss»)) (c .limit / 2) (2 * c .limit))))
+
+unfoldable pub usedCount : ℕ → List ℕ → ℕ
+usedCount n recs = count n (λ x. inUse (recOf n recs x))
+
+pub record Outcome : Type 0 where
+  pub answer : Analysed
+  pub records : List ℕ
+  pub work : List ℕ
+
+module _ (c : Control) (recs slots roots work : List ℕ) where
+  unfoldable pub analyseTests : List Test
+  analyseTests =
+      (20, badControl c)
+      ∷ (2, short (c .n) recs || short (slotsLen (c .n)) slots || short (c .r) roots || short (workLen (c .n)) work)
+      ∷ (21, not (wellFormed (c .n) (c .r) recs slots roots)) ∷ []
+
+  unfoldable pub limitAfter : ℕ
+  limitAfter = nextLimit c (usedCount (c .n) recs)
+
+  -- the walk starts from the roots and from the sinks, which `Graph.analyse` adds
+  unfoldable pub analysed : Graph.Analysed
+  analysed = Graph.analyse rule (view (c .n) recs slots) limitAfter (take (c .r) roots)
+
+  unfoldable pub analyse : Outcome
+  analyse =
+      outcome analyseTests
+      (let a = analysed in
+      record {
+        answer = record { refusal = 0; clusters = a .clusters; members = a .members; control = withAnalysis limitAfter (a .outLoss) c };
+        records = laid (a .heap) recs;
+        work = zeros (workLen (c .n)) work;
+      })
+      (λ m. record { answer = record { refusal = m; clusters = 0; members = 0; control = c }; records = recs; work = work })

@@ -1,0 +1,23 @@
+-- Calls with their arguments, and what the game sees of their answers ("The plain heap").
+use Prim.Native.Nat.{ℕ}
+use mathlib.Core.List.{List}
+use Rattle.rules.specs.Collect.{Kind}
+
+-- each collection is lent work and map of its own, each analysis work of its own
+pub data Call : Type 0 where
+  allocate : (width : ℕ) → Call
+  read : (object slot : ℕ) → Call
+  show : (object : ℕ) → Call
+  write : (object slot word : ℕ) → Call
+  setRoot : (index word : ℕ) → Call
+  declareSink : (object : ℕ) → Call
+  collect : (kind : Kind) (work map : List ℕ) → Call
+  analyse : (work : List ℕ) → Call
+
+-- the number of a refusal, or 0, and what the call answers; of a collection freed, kept and the words of the freed map
+pub data Answer : Type 0 where
+  gave : (number object : ℕ) → Answer
+  gotWord : (number word : ℕ) → Answer
+  gotWords : (number : ℕ) (words : List ℕ) → Answer
+  did : (number : ℕ) → Answer
+  swept : (number freed kept : ℕ) (map : List ℕ) → Answer

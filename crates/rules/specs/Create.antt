@@ -1,0 +1,31 @@
+-- Create ("The heap"): n records, 8n slots and r roots become 0.
+use Prim.Native.Nat.{ℕ}
+use mathlib.Core.Bool.{_||_}
+use mathlib.Core.List.{List, [], _∷_}
+use Rattle.layout.specs.declared.answers.Done.{Done}
+use Rattle.layout.specs.Limits.{slotsLen}
+use Rattle.layout.specs.ControlRecord.{badSizes, newControl}
+use Rattle.layout.specs.Refusal.{Test, outcome}
+use Rattle.rules.specs.Buffers.{short, zeros}
+
+pub record Outcome : Type 0 where
+  pub answer : Done
+  pub records : List ℕ
+  pub slots : List ℕ
+  pub roots : List ℕ
+
+module _ (n r : ℕ) (recs slots roots : List ℕ) where
+  unfoldable pub createTests : List Test
+  createTests = (1, badSizes n r) ∷ (2, short n recs || short (slotsLen n) slots || short r roots) ∷ []
+
+  -- refused, it gives a control record of zeros
+  unfoldable pub create : Outcome
+  create =
+      outcome createTests
+      (record {
+        answer = record { refusal = 0; control = newControl n r };
+        records = zeros n recs;
+        slots = zeros (slotsLen n) slots;
+        roots = zeros r roots;
+      })
+      (λ k. record { answer = record { refusal = k; control = newControl 0 0 }; records = recs; slots = slots; roots = roots })

@@ -1,0 +1,34 @@
+-- Declare sink ("Writes and sinks"): the object's cluster is dissolved and every out bit made exact; a second declaration changes nothing.
+use Prim.Native.Nat.{ℕ}
+use mathlib.Core.Bool.{not, _||_, cond}
+use mathlib.Core.List.{List, [], _∷_}
+use Rattle.layout.specs.declared.answers.Control.{Control}
+use Rattle.layout.specs.declared.answers.Done.{Done}
+use Rattle.layout.specs.Limits.{slotsLen}
+use Rattle.layout.specs.Record.{isSink, free}
+use Rattle.layout.specs.Word.{isPointer}
+use Rattle.layout.specs.ControlRecord.{badControl}
+use Rattle.layout.specs.Refusal.{Test, outcome}
+use Rattle.graph.specs.Writes.{declare}
+use Rattle.rules.specs.Buffers.{short, recOf}
+use Rattle.rules.specs.View.{view, laid}
+use Rattle.rules.specs.WellFormed.{wellFormed}
+
+pub record Outcome : Type 0 where
+  pub answer : Done
+  pub records : List ℕ
+
+module _ (c : Control) (i : ℕ) (recs slots roots : List ℕ) where
+  unfoldable pub declareTests : List Test
+  declareTests =
+      (20, badControl c) ∷ (2, short (c .n) recs || short (slotsLen (c .n)) slots || short (c .r) roots) ∷ (4, not (isPointer (c .n) i))
+      ∷ (21, not (wellFormed (c .n) (c .r) recs slots roots)) ∷ (22, free (recOf (c .n) recs i)) ∷ []
+
+  unfoldable pub declareSink : Outcome
+  declareSink =
+      outcome declareTests
+      (record {
+        answer = record { refusal = 0; control = c };
+        records = cond (isSink (recOf (c .n) recs i)) recs (laid (declare (view (c .n) recs slots) i) recs);
+      })
+      (λ m. record { answer = record { refusal = m; control = c }; records = recs })

@@ -1,0 +1,20 @@
+-- ---- the buffers, the heap that they hold, and when it is well formed
+pub mod Buffers
+pub mod View
+pub mod WellFormed
+-- ---- the calls
+pub mod Create
+pub mod Allocate
+pub mod Read
+pub mod Show
+pub mod Write
+pub mod SetRoot
+pub mod DeclareSink
+pub mod Analyse
+pub mod Collect
+-- ---- the plain heap and lists of calls
+pub mod Calls
+pub mod Plain
+pub mod Steps
+-- ---- what is computed from them
+pub mod Trials

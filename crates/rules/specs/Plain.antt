@@ -1,0 +1,143 @@
+-- The plain heap ("The plain heap"): no bits, no clusters, no buffers.
+use Prim.Native.Nat.{ℕ, zero, suc, _-_}
+use mathlib.Core.Bool.{Bool, true, false, not, cond, _&&_, _||_}
+use mathlib.Core.List.{List, [], _∷_, _++_, map}
+use lib.Dec.{leb, ltb, eqb}
+use lib.ListN.{length, getD, set, replicate}
+use Rattle.layout.specs.Limits.{widthMax, mapLen}
+use Rattle.layout.specs.Word.{isNil, isPointer, legalWord}
+use Rattle.layout.specs.Bits.{wordOf}
+use Rattle.layout.specs.Refusal.{Test, outcome}
+use Rattle.graph.specs.Numbers.{count, gather}
+use Rattle.rules.specs.Buffers.{eachFrom, numbers}
+use Rattle.rules.specs.Allocate.{candidates, firstOf}
+use Rattle.rules.specs.Calls.{Call, allocate, read, show, write, setRoot, declareSink, collect, analyse, Answer, gave, gotWord, gotWords, did, swept}
+
+-- free, or an object: its words, as many as its width, and whether it is a sink
+pub data Cell : Type 0 where
+  free : Cell
+  object : (words : List ℕ) (sink : Bool) → Cell
+
+-- number i is in place i - 1 of the n cells
+pub record Plain : Type 0 where
+  pub last : ℕ
+  pub roots : List ℕ
+  pub cells : List Cell
+
+unfoldable pub plainCreated : ℕ → ℕ → Plain
+plainCreated n r = record { last = 0; roots = replicate r 0; cells = replicate n free }
+
+unfoldable pub isFree : Cell → Bool
+isFree free = true
+isFree (object words sink) = false
+
+unfoldable pub wordsIn : Cell → List ℕ
+wordsIn free = []
+wordsIn (object words sink) = words
+
+unfoldable pub isSink : Cell → Bool
+isSink free = false
+isSink (object words sink) = sink
+
+unfoldable pub cellAt : List Cell → ℕ → Cell
+cellAt cells zero = free
+cellAt cells (suc i) = getD cells i free
+
+-- ---- what a path of pointers leads to
+
+unfoldable pub has : ℕ → List ℕ → Bool
+has x [] = false
+has x (y ∷ l) = eqb x y || has x l
+
+unfoldable pub anyOf : (ℕ → Bool) → List ℕ → Bool
+anyOf t [] = false
+anyOf t (y ∷ l) = t y || anyOf t l
+
+-- the numbers from 1 to n in the list, and those that one in the list points at
+unfoldable pub round : ℕ → (ℕ → List ℕ) → List ℕ → List ℕ
+round n words l = gather n (λ x. has x l || anyOf (λ y. has x (words y)) l) (λ x. x ∷ [])
+
+unfoldable pub rounds : ℕ → (ℕ → List ℕ) → ℕ → List ℕ → List ℕ
+rounds n words zero l = l
+rounds n words (suc k) l = rounds n words k (round n words l)
+
+module _ (P : Plain) where
+  abbrev pub plainSize : ℕ
+  plainSize = length (P .cells)
+
+  unfoldable pub plainWords : ℕ → List ℕ
+  plainWords x = wordsIn (cellAt (P .cells) x)
+
+  -- the objects that a root names, and the sinks
+  unfoldable pub plainStarts : List ℕ
+  plainStarts = P .roots ++ gather plainSize (λ x. isSink (cellAt (P .cells) x)) (λ x. x ∷ [])
+
+  -- what is kept: a path need pass no object twice, so n rounds find all
+  unfoldable pub keptNumbers : List ℕ
+  keptNumbers = rounds plainSize plainWords plainSize plainStarts
+
+  -- ---- tests
+
+  unfoldable pub plainGiven : ℕ
+  plainGiven = firstOf (λ x. isFree (cellAt (P .cells) x)) (candidates (P .last) plainSize)
+
+  unfoldable pub objectTests : ℕ → List Test
+  objectTests i = (4, not (isPointer plainSize i)) ∷ (22, isFree (cellAt (P .cells) i)) ∷ []
+
+  unfoldable pub slotTests : ℕ → ℕ → List Test
+  slotTests i k = objectTests i ++ ((5, leb (length (plainWords i)) k) ∷ [])
+
+  unfoldable pub namesFree : ℕ → Bool
+  namesFree w = isPointer plainSize w && isFree (cellAt (P .cells) w)
+
+  -- ---- effects
+
+  unfoldable pub withCell : ℕ → Cell → Plain
+  withCell i cell = record { last = P .last; roots = P .roots; cells = set (P .cells) (i - 1) cell }
+
+  unfoldable pub plainSwept : List ℕ → List Cell
+  plainSwept l = eachFrom 1 plainSize (λ x cell. cond (has x l) cell free) (P .cells)
+
+  unfoldable pub plainFreed : List ℕ → ℕ → Bool
+  plainFreed l x = not (isFree (cellAt (P .cells) x)) && not (has x l)
+
+  unfoldable pub plainMap : List ℕ → List ℕ
+  plainMap l = map (wordOf (plainFreed l)) (numbers 0 (mapLen plainSize))
+
+-- what a call answers (nothing, for an analysis), and the heap after it
+pub record Played (A : Type 0) : Type 0 where
+  pub answers : List Answer
+  pub after : A
+
+unfoldable pub answer : {A : Type 0} → Answer → A → Played A
+answer a s = record { answers = a ∷ []; after = s }
+
+unfoldable pub plainStep : Call → Plain → Played Plain
+plainStep (allocate width) P =
+    outcome ((3, ltb widthMax width) ∷ (24, eqb (plainGiven P) 0) ∷ [])
+    (let i = plainGiven P in answer (gave 0 i) (record { last = i; roots = P .roots; cells = set (P .cells) (i - 1) (object (replicate width 0) false) }))
+    (λ m. answer (gave m 0) P)
+plainStep (read i k) P = outcome (slotTests P i k) (answer (gotWord 0 (getD (plainWords P i) k 0)) P) (λ m. answer (gotWord m 0) P)
+plainStep (show i) P = outcome (objectTests P i) (answer (gotWords 0 (plainWords P i)) P) (λ m. answer (gotWords m []) P)
+plainStep (write i k w) P =
+    outcome (slotTests P i k ++ ((6, not (legalWord (plainSize P) w)) ∷ (23, namesFree P w) ∷ []))
+    (answer (did 0) (withCell P i (object (set (plainWords P i) k w) (isSink (cellAt (P .cells) i)))))
+    (λ m. answer (did m) P)
+plainStep (setRoot j w) P =
+    outcome ((7, leb (length (P .roots)) j) ∷ (6, not (isNil w || isPointer (plainSize P) w)) ∷ (23, namesFree P w) ∷ [])
+    (answer (did 0) (record { last = P .last; roots = set (P .roots) j w; cells = P .cells }))
+    (λ m. answer (did m) P)
+plainStep (declareSink i) P = outcome (objectTests P i) (answer (did 0) (withCell P i (object (plainWords P i) true))) (λ m. answer (did m) P)
+plainStep (collect kind work map) P =
+    let l = keptNumbers P in
+    answer (swept 0 (count (plainSize P) (plainFreed P l)) (count (plainSize P) (λ x. has x l)) (plainMap P l))
+    (record { last = P .last; roots = P .roots; cells = plainSwept P l })
+plainStep (analyse work) P = record { answers = []; after = P }
+
+-- the slots that the cells stand for: the words of each, filled up with 0 to eight
+unfoldable pub eightOf : Cell → List ℕ
+eightOf cell = wordsIn cell ++ replicate (8 - length (wordsIn cell)) 0
+
+unfoldable pub plainSlots : List Cell → List ℕ
+plainSlots [] = []
+plainSlots (cell ∷ l) = eightOf cell ++ plainSlots l

@@ -1,0 +1,29 @@
+-- Set root ("The heap"): a root becomes nil or the number of an object.
+use Prim.Native.Nat.{ℕ}
+use mathlib.Core.Bool.{not, _&&_, _||_}
+use mathlib.Core.List.{List, [], _∷_}
+use lib.Dec.{leb}
+use lib.ListN.{set}
+use Rattle.layout.specs.declared.answers.Control.{Control}
+use Rattle.layout.specs.declared.answers.Done.{Done}
+use Rattle.layout.specs.Record.{legal}
+use Rattle.layout.specs.Word.{isNil, isPointer}
+use Rattle.layout.specs.ControlRecord.{badControl}
+use Rattle.layout.specs.Refusal.{Test, outcome}
+use Rattle.rules.specs.Buffers.{short, recOf}
+
+pub record Outcome : Type 0 where
+  pub answer : Done
+  pub roots : List ℕ
+
+module _ (c : Control) (j w : ℕ) (recs roots : List ℕ) where
+  unfoldable pub setRootTests : List Test
+  setRootTests =
+      (20, badControl c) ∷ (2, short (c .n) recs || short (c .r) roots) ∷ (7, leb (c .r) j) ∷ (6, not (isNil w || isPointer (c .n) w))
+      ∷ (23, isPointer (c .n) w && not (legal (c .n) (recOf (c .n) recs w))) ∷ []
+
+  unfoldable pub setRoot : Outcome
+  setRoot =
+      outcome setRootTests
+      (record { answer = record { refusal = 0; control = c }; roots = set roots j w })
+      (λ m. record { answer = record { refusal = m; control = c }; roots = roots })

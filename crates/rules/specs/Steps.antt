@@ -1,0 +1,64 @@
+-- The heap of the buffers, call after call, and lists of calls ("The plain heap").
+use Prim.Native.Nat.{ℕ}
+use mathlib.Core.List.{List, [], _∷_, _++_}
+use lib.ListN.{take}
+use Rattle.layout.specs.declared.answers.Control.{Control}
+use Rattle.layout.specs.Limits.{mapLen}
+use Rattle.rules.specs.Calls.{Call, allocate, read, show, write, setRoot, declareSink, collect, analyse, Answer, gave, gotWord, gotWords, did, swept}
+use Rattle.rules.specs.Plain.{Played, answer}
+use Rattle.rules.specs.Create as Create
+use Rattle.rules.specs.Allocate as Allocate
+use Rattle.rules.specs.Read as Read
+use Rattle.rules.specs.Show as Show
+use Rattle.rules.specs.Write as Write
+use Rattle.rules.specs.SetRoot as SetRoot
+use Rattle.rules.specs.DeclareSink as DeclareSink
+use Rattle.rules.specs.Analyse as Analyse
+use Rattle.rules.specs.Collect as Collect
+
+-- the control record and the three buffers that are handed on from call to call
+pub record State : Type 0 where
+  pub control : Control
+  pub records : List ℕ
+  pub slots : List ℕ
+  pub roots : List ℕ
+
+unfoldable pub created : ℕ → ℕ → List ℕ → List ℕ → List ℕ → State
+created n r recs slots roots =
+    let o = Create.create n r recs slots roots in
+    record { control = o .answer .control; records = o .records; slots = o .slots; roots = o .roots }
+
+unfoldable pub step : Call → State → Played State
+step (allocate width) s =
+    let o = Allocate.allocate (s .control) width (s .records) (s .slots) in
+    answer (gave (o .answer .refusal) (o .answer .object))
+    (record { control = o .answer .control; records = o .records; slots = o .slots; roots = s .roots })
+step (read i k) s = let a = Read.read (s .control) i k (s .records) (s .slots) in answer (gotWord (a .refusal) (a .word)) s
+step (show i) s = let o = Show.show (s .control) i (s .records) (s .slots) in answer (gotWords (o .answer .refusal) (o .words)) s
+step (write i k w) s =
+    let o = Write.write (s .control) i k w (s .records) (s .slots) in
+    answer (did (o .answer .refusal)) (record { control = o .answer .control; records = o .records; slots = o .slots; roots = s .roots })
+step (setRoot j w) s =
+    let o = SetRoot.setRoot (s .control) j w (s .records) (s .roots) in
+    answer (did (o .answer .refusal)) (record { control = s .control; records = s .records; slots = s .slots; roots = o .roots })
+step (declareSink i) s =
+    let o = DeclareSink.declareSink (s .control) i (s .records) (s .slots) (s .roots) in
+    answer (did (o .answer .refusal)) (record { control = s .control; records = o .records; slots = s .slots; roots = s .roots })
+step (collect kind work map) s =
+    let o = Collect.collect kind (s .control) (s .records) (s .slots) (s .roots) work map in
+    answer (swept (o .answer .refusal) (o .answer .freed) (o .answer .kept) (take (mapLen (s .control .n)) (o .map)))
+    (record { control = s .control; records = o .records; slots = o .slots; roots = s .roots })
+step (analyse work) s =
+    let o = Analyse.analyse (s .control) (s .records) (s .slots) (s .roots) work in
+    record { answers = []; after = record { control = o .answer .control; records = o .records; slots = s .slots; roots = s .roots } }
+
+-- ---- lists of calls, of either heap
+
+module _ {A : Type 0} (next : Call → A → Played A) where
+  unfoldable pub answersOf : List Call → A → List Answer
+  answersOf [] s = []
+  answersOf (call ∷ l) s = next call s .answers ++ answersOf l (next call s .after)
+
+  unfoldable pub afterAll : List Call → A → A
+  afterAll [] s = s
+  afterAll (call ∷ l) s = afterAll l (next call s .after)

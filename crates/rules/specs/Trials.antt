@@ -1,0 +1,314 @@
+-- The trials ("Trials"): calls from create on, or on buffers as they are given, and what comes of the last one, by computation.
+use Prim.Native.Nat.{ℕ, zero, suc, _+_, _*_}
+use mathlib.Core.Path.{_≡_, refl}
+use mathlib.Core.List.{List, [], _∷_, _++_, map}
+use lib.ListN.{getD, replicate}
+use Rattle.layout.specs.declared.answers.Control.{Control}
+use Rattle.layout.specs.Record.{cluster}
+use Rattle.rules.specs.Buffers.{recOf, numbers}
+use Rattle.rules.specs.Create as Create
+use Rattle.rules.specs.Allocate as Allocate
+use Rattle.rules.specs.Read as Read
+use Rattle.rules.specs.Show as Show
+use Rattle.rules.specs.Write as Write
+use Rattle.rules.specs.SetRoot as SetRoot
+use Rattle.rules.specs.DeclareSink as DeclareSink
+use Rattle.rules.specs.Analyse as Analyse
+use Rattle.rules.specs.Collect.{plainly, byClusters}
+use Rattle.rules.specs.Collect as Collect
+use Rattle.rules.specs.Calls.{Call, allocate, read, show, write, setRoot, declareSink, collect, analyse}
+use Rattle.rules.specs.Steps.{State, created, step, afterAll}
+
+-- ---- what is told of a call
+
+-- what the call answers, its refusal first; of a collection freed, kept, scanned and the map's first word, of an analysis clusters, members, limit and out loss
+unfoldable pub answered : Call → State → List ℕ
+answered (allocate width) s =
+    let a = Allocate.allocate (s .control) width (s .records) (s .slots) .answer in
+    a .refusal ∷ a .object ∷ []
+answered (read i k) s =
+    let a = Read.read (s .control) i k (s .records) (s .slots) in
+    a .refusal ∷ a .word ∷ []
+answered (show i) s =
+    let o = Show.show (s .control) i (s .records) (s .slots) in
+    o .answer .refusal ∷ o .words
+answered (write i k w) s = Write.write (s .control) i k w (s .records) (s .slots) .answer .refusal ∷ []
+answered (setRoot j w) s = SetRoot.setRoot (s .control) j w (s .records) (s .roots) .answer .refusal ∷ []
+answered (declareSink i) s = DeclareSink.declareSink (s .control) i (s .records) (s .slots) (s .roots) .answer .refusal ∷ []
+answered (collect kind work map) s =
+    let o = Collect.collect kind (s .control) (s .records) (s .slots) (s .roots) work map in
+    o .answer .refusal ∷ o .answer .freed ∷ o .answer .kept ∷ o .answer .scanned ∷ getD (o .map) 0 0 ∷ []
+answered (analyse work) s =
+    let a = Analyse.analyse (s .control) (s .records) (s .slots) (s .roots) work .answer in
+    a .refusal ∷ a .clusters ∷ a .members ∷ a .control .limit ∷ a .control .«out_loss» ∷ []
+
+-- write loss, and the cluster of each object up to the last one given
+unfoldable pub standing : State → List ℕ
+standing s = s .control .«write_loss» ∷ map (λ x. cluster (recOf (s .control .n) (s .records) x)) (numbers 1 (s .control .last))
+
+-- a state, calls made from it, a last call, and what is told of that and of the heap after it
+pub record Trial : Type 0 where
+  pub from : State
+  pub before : List Call
+  pub call : Call
+  pub answers : List ℕ
+  pub stands : List ℕ
+
+unfoldable pub told : Trial → List (List ℕ)
+told t =
+    let s = afterAll step (t .before) (t .from) in
+    answered (t .call) s ∷ standing (step (t .call) s .after) ∷ []
+
+unfoldable pub expected : Trial → List (List ℕ)
+expected t = t .answers ∷ t .stands ∷ []
+
+-- ---- heaps
+
+-- a heap just created in buffers one word longer than asked for, and full of ones
+unfoldable pub new : ℕ → ℕ → State
+new n r = created n r (replicate (n + 1) 1) (replicate (8 * n + 1) 1) (replicate (r + 1) 1)
+
+unfoldable pub analysis : ℕ → Call
+analysis n = analyse (replicate (10 * n + 64) 1)
+
+unfoldable pub clustered : ℕ → Call
+clustered n = collect byClusters (replicate (10 * n + 64) 1) (1 ∷ [])
+
+unfoldable pub plain : ℕ → Call
+plain n = collect plainly (replicate (10 * n + 64) 1) (1 ∷ [])
+
+-- heap H, before and after its two analyses
+unfoldable pub beforeH : List Call
+beforeH =
+    allocate 3 ∷ allocate 1 ∷ allocate 1 ∷ allocate 1 ∷ allocate 1 ∷ allocate 1
+    ∷ write 1 0 2 ∷ write 1 1 3 ∷ write 2 0 4 ∷ write 3 0 5 ∷ write 4 0 6 ∷ setRoot 0 1 ∷ []
+
+unfoldable pub heapH : List Call
+heapH = beforeH ++ (analysis 16 ∷ analysis 16 ∷ [])
+
+unfoldable pub onH : List Call → Call → List ℕ → List ℕ → Trial
+onH calls call answers stands = record { from = new 16 2; before = heapH ++ calls; call = call; answers = answers; stands = stands }
+
+-- so many objects of width 8, then one of width 1
+unfoldable pub wide : ℕ → List Call
+wide zero = allocate 1 ∷ []
+wide (suc k) = allocate 8 ∷ wide k
+
+-- objects 1 to 4 in a chain, with ten other slots that hold 5, and more; 5 is written again before the last analysis, so that it joins nothing
+unfoldable pub fan : List Call → List Call
+fan more =
+    wide 4 ++ (write 1 0 2 ∷ write 2 0 3 ∷ write 3 0 4 ∷ write 1 1 5 ∷ write 1 2 5 ∷ write 1 3 5 ∷ write 1 4 5 ∷ write 2 1 5 ∷ write 2 2 5 ∷ write 2 3 5
+    ∷ write 3 1 5 ∷ write 3 2 5 ∷ write 4 0 5 ∷ []) ++ more ++ (setRoot 0 1 ∷ analysis 24 ∷ write 5 0 0 ∷ [])
+
+-- ---- the marked trials
+
+unfoldable pub marked : List Trial
+marked =
+    -- the first analysis of H leaves nothing, the second has all six objects in cluster 1
+    record { from = new 16 2; before = beforeH; call = analysis 16; answers = 0 ∷ 0 ∷ 0 ∷ 8 ∷ 0 ∷ []; stands = 0 ∷ 0 ∷ 0 ∷ 0 ∷ 0 ∷ 0 ∷ 0 ∷ [] }
+    ∷ record {
+      from = new 16 2;
+      before = beforeH ++ (analysis 16 ∷ []);
+      call = analysis 16;
+      answers = 0 ∷ 1 ∷ 6 ∷ 16 ∷ 0 ∷ [];
+      stands = 0 ∷ 1 ∷ 1 ∷ 1 ∷ 1 ∷ 1 ∷ 1 ∷ [];
+    }
+    ∷ onH [] (clustered 16) (0 ∷ 0 ∷ 6 ∷ 0 ∷ 0 ∷ []) (0 ∷ 1 ∷ 1 ∷ 1 ∷ 1 ∷ 1 ∷ 1 ∷ [])
+    ∷ onH [] (plain 16) (0 ∷ 0 ∷ 6 ∷ 6 ∷ 0 ∷ []) (0 ∷ 1 ∷ 1 ∷ 1 ∷ 1 ∷ 1 ∷ 1 ∷ [])
+    -- a member points at a new object
+    ∷ onH (allocate 0 ∷ write 1 2 7 ∷ []) (clustered 16) (0 ∷ 0 ∷ 7 ∷ 2 ∷ 0 ∷ []) (0 ∷ 1 ∷ 1 ∷ 1 ∷ 1 ∷ 1 ∷ 1 ∷ 0 ∷ [])
+    -- a pointer inside the cluster is cleared
+    ∷ onH [] (write 1 0 0) (0 ∷ []) (6 ∷ 0 ∷ 0 ∷ 0 ∷ 0 ∷ 0 ∷ 0 ∷ [])
+    ∷ onH (write 1 0 0 ∷ []) (clustered 16) (0 ∷ 3 ∷ 3 ∷ 3 ∷ 84 ∷ []) (6 ∷ 0 ∷ 0 ∷ 0 ∷ 0 ∷ 0 ∷ 0 ∷ [])
+    -- the root leads to a member that is no head; then the head is met on the way
+    ∷ onH (setRoot 0 3 ∷ []) (clustered 16) (0 ∷ 4 ∷ 2 ∷ 2 ∷ 86 ∷ []) (0 ∷ 0 ∷ 0 ∷ 0 ∷ 0 ∷ 0 ∷ 0 ∷ [])
+    ∷ onH (write 5 0 1 ∷ setRoot 0 3 ∷ []) (clustered 16) (0 ∷ 0 ∷ 6 ∷ 2 ∷ 0 ∷ []) (0 ∷ 1 ∷ 1 ∷ 1 ∷ 1 ∷ 1 ∷ 1 ∷ [])
+    -- an equal word is stored; a member becomes a sink
+    ∷ onH [] (write 4 0 6) (0 ∷ []) (6 ∷ 0 ∷ 0 ∷ 0 ∷ 0 ∷ 0 ∷ 0 ∷ [])
+    ∷ onH [] (declareSink 6) (0 ∷ []) (0 ∷ 0 ∷ 0 ∷ 0 ∷ 0 ∷ 0 ∷ 0 ∷ [])
+    -- four members with ten out pointers, with eleven, and three members
+    ∷ record { from = new 24 2; before = fan []; call = analysis 24; answers = 0 ∷ 1 ∷ 4 ∷ 16 ∷ 0 ∷ []; stands = 0 ∷ 1 ∷ 1 ∷ 1 ∷ 1 ∷ 0 ∷ [] }
+    ∷ record {
+      from = new 24 2;
+      before = fan (write 4 1 5 ∷ []);
+      call = analysis 24;
+      answers = 0 ∷ 0 ∷ 0 ∷ 16 ∷ 4 ∷ [];
+      stands = 0 ∷ 0 ∷ 0 ∷ 0 ∷ 0 ∷ 0 ∷ [];
+    }
+    ∷ record {
+      from = new 24 2;
+      before = wide 2 ++ (write 1 0 2 ∷ write 2 0 3 ∷ setRoot 0 1 ∷ analysis 24 ∷ []);
+      call = analysis 24;
+      answers = 0 ∷ 0 ∷ 0 ∷ 16 ∷ 0 ∷ [];
+      stands = 0 ∷ 0 ∷ 0 ∷ 0 ∷ [];
+    }
+    ∷ []
+
+-- ---- heaps given as they are
+
+-- records, slots and one root, with nothing past their lengths
+unfoldable pub given : ℕ → ℕ → ℕ → List ℕ → List ℕ → ℕ → State
+given n limit loss recs slots root =
+    record {
+      control = record { n = n; r = 1; last = n; limit = limit; «write_loss» = loss; «out_loss» = 0 };
+      records = recs;
+      slots = slots;
+      roots = root ∷ [];
+    }
+
+-- the eight slots of an object that points at these
+unfoldable pub one : ℕ → List ℕ
+one a = a ∷ replicate 7 0
+
+unfoldable pub two : ℕ → ℕ → List ℕ
+two a b = a ∷ b ∷ replicate 6 0
+
+-- the record of an object of this width with these flags (written 2, sink 4, out 8) and this cluster
+unfoldable pub rec : ℕ → ℕ → ℕ → ℕ
+rec width flags c = 1 + flags + 256 * width + 65536 * c
+
+unfoldable pub fresh : State → Call → List ℕ → List ℕ → Trial
+fresh s call answers stands = record { from = s; before = []; call = call; answers = answers; stands = stands }
+
+-- ---- what the walks do, by value
+
+unfoldable pub ownRows : List Trial
+ownRows =
+    -- a chain of nine at limit 8: eight join, the ninth heads a cluster of its own, which is too small
+    fresh
+    (given 9 17 1 (replicate 9 (rec 1 0 0)) (one 2 ++ one 3 ++ one 4 ++ one 5 ++ one 6 ++ one 7 ++ one 8 ++ one 9 ++ one 0) 1)
+    (analysis 9)
+    (0 ∷ 1 ∷ 8 ∷ 8 ∷ 0 ∷ [])
+    (0 ∷ 1 ∷ 1 ∷ 1 ∷ 1 ∷ 1 ∷ 1 ∷ 1 ∷ 1 ∷ 0 ∷ [])
+    -- slot 0 first, and all that it leads to: with slot 1 first 5 to 8 would be the second cluster
+    ∷ fresh
+    (given
+    12
+    17
+    1
+    (rec 2 0 0 ∷ replicate 11 (rec 1 0 0))
+    (two 2 9 ++ one 3 ++ one 4 ++ one 5 ++ one 6 ++ one 7 ++ one 8 ++ one 0 ++ one 10 ++ one 11 ++ one 12 ++ one 0)
+    1)
+    (analysis 12)
+    (0 ∷ 2 ∷ 12 ∷ 8 ∷ 0 ∷ [])
+    (0 ∷ 1 ∷ 1 ∷ 1 ∷ 1 ∷ 1 ∷ 1 ∷ 1 ∷ 1 ∷ 9 ∷ 9 ∷ 9 ∷ 9 ∷ [])
+    -- the root leads to a member of an older cluster that is no head: the pointers of its out member are visited
+    ∷ fresh
+    (given
+    8
+    8
+    0
+    (rec 1 0 1 ∷ rec 1 0 1 ∷ rec 2 8 1 ∷ rec 1 0 1 ∷ replicate 4 (rec 1 0 0))
+    (one 2 ++ one 3 ++ two 4 5 ++ one 0 ++ one 6 ++ one 7 ++ one 8 ++ one 0)
+    2)
+    (analysis 8)
+    (0 ∷ 1 ∷ 4 ∷ 16 ∷ 0 ∷ [])
+    (0 ∷ 1 ∷ 1 ∷ 1 ∷ 1 ∷ 5 ∷ 5 ∷ 5 ∷ 5 ∷ [])
+    -- a written object and a sink among the children join nothing, and pass on no cluster
+    ∷ fresh
+    (given
+    8
+    8
+    0
+    (rec 3 0 0 ∷ rec 1 2 0 ∷ rec 1 4 0 ∷ replicate 5 (rec 1 0 0))
+    ((2 ∷ 3 ∷ 4 ∷ replicate 5 0) ++ one 5 ++ one 6 ++ one 7 ++ one 0 ++ one 0 ++ one 8 ++ one 0)
+    1)
+    (analysis 8)
+    (0 ∷ 1 ∷ 4 ∷ 16 ∷ 0 ∷ [])
+    (0 ∷ 1 ∷ 0 ∷ 0 ∷ 1 ∷ 0 ∷ 0 ∷ 1 ∷ 1 ∷ [])
+    -- of the postponed objects the lowest is taken: two are scanned, with the highest first it would be three
+    ∷ record {
+      from = new 16 2;
+      before =
+          allocate 5 ∷ allocate 1 ∷ allocate 1 ∷ allocate 1 ∷ allocate 1 ∷ allocate 1
+          ∷ write 1 0 2 ∷ write 1 1 3 ∷ write 1 2 4 ∷ write 1 3 5 ∷ write 1 4 6 ∷ setRoot 0 1 ∷ analysis 16 ∷ analysis 16
+          ∷ write 4 0 2 ∷ write 2 0 1 ∷ setRoot 0 4 ∷ setRoot 1 6 ∷ [];
+      call = clustered 16;
+      answers = 0 ∷ 0 ∷ 6 ∷ 2 ∷ 0 ∷ [];
+      stands = 0 ∷ 1 ∷ 1 ∷ 1 ∷ 1 ∷ 1 ∷ 1 ∷ [];
+    }
+    -- a plain collection that frees a head dissolves its cluster too
+    ∷ onH (setRoot 0 3 ∷ []) (plain 16) (0 ∷ 4 ∷ 2 ∷ 2 ∷ 86 ∷ []) (0 ∷ 0 ∷ 0 ∷ 0 ∷ 0 ∷ 0 ∷ 0 ∷ [])
+    ∷ onH [] (read 1 1) (0 ∷ 3 ∷ []) (0 ∷ 1 ∷ 1 ∷ 1 ∷ 1 ∷ 1 ∷ 1 ∷ [])
+    ∷ onH [] (show 1) (0 ∷ 2 ∷ 3 ∷ 0 ∷ []) (0 ∷ 1 ∷ 1 ∷ 1 ∷ 1 ∷ 1 ∷ 1 ∷ [])
+    ∷ []
+
+-- ---- two refusals that both hold: the first in the order is given
+
+-- two objects of width 1: 1 points at 2, 2 is free; and with no slice long enough, and with a control record out of range besides
+unfoldable pub small : ℕ → ℕ → State
+small a b = given 2 0 0 (a ∷ b ∷ []) (one 2 ++ one 0) 1
+
+unfoldable pub noBuffers : State
+noBuffers = given 2 0 0 [] [] 0
+
+unfoldable pub badControls : State
+badControls = given 4096 0 0 [] [] 0
+
+-- objects 1 and 2 are a cluster, 1 points at 2, and the write loss is n already
+unfoldable pub full : State
+full = given 2 8 2 (rec 1 0 1 ∷ rec 1 0 1 ∷ []) (one 2 ++ one 0) 1
+
+-- 1 and 2 are such a cluster, and 3 is free
+unfoldable pub lossy : State
+lossy = given 3 8 2 (rec 1 0 1 ∷ rec 1 0 1 ∷ 0 ∷ []) (one 2 ++ one 0 ++ one 0) 1
+
+unfoldable pub refused : State → Call → List ℕ → Trial
+refused s call answers = fresh s call answers (standing s)
+
+unfoldable pub noWork : Call
+noWork = analyse []
+
+unfoldable pub refusals : List Trial
+refusals =
+    -- 20 and 2
+    refused badControls (allocate 9) (20 ∷ 0 ∷ [])
+    ∷ refused badControls (read 0 0) (20 ∷ 0 ∷ [])
+    ∷ refused badControls (show 0) (20 ∷ [])
+    ∷ refused badControls (write 0 0 0) (20 ∷ [])
+    ∷ refused badControls (setRoot 9 0) (20 ∷ [])
+    ∷ refused badControls (declareSink 0) (20 ∷ [])
+    ∷ refused badControls noWork (20 ∷ 0 ∷ 0 ∷ 0 ∷ 0 ∷ [])
+    ∷ refused badControls (collect plainly [] []) (20 ∷ 0 ∷ 0 ∷ 0 ∷ 0 ∷ [])
+    ∷ refused badControls (collect byClusters [] []) (20 ∷ 0 ∷ 0 ∷ 0 ∷ 0 ∷ [])
+    -- 2 and the test after it
+    ∷ refused noBuffers (allocate 9) (2 ∷ 0 ∷ [])
+    ∷ refused noBuffers (read 0 0) (2 ∷ 0 ∷ [])
+    ∷ refused noBuffers (show 3) (2 ∷ [])
+    ∷ refused noBuffers (write 3 0 0) (2 ∷ [])
+    ∷ refused noBuffers (setRoot 1 0) (2 ∷ [])
+    ∷ refused noBuffers (declareSink 0) (2 ∷ [])
+    ∷ refused (small 0 0) noWork (2 ∷ 0 ∷ 0 ∷ 0 ∷ 0 ∷ [])
+    ∷ refused (small 0 0) (collect plainly [] []) (2 ∷ 0 ∷ 0 ∷ 0 ∷ 0 ∷ [])
+    ∷ refused (small 0 0) (collect byClusters [] []) (2 ∷ 0 ∷ 0 ∷ 0 ∷ 0 ∷ [])
+    -- allocate: 3 and 24
+    ∷ refused full (allocate 9) (3 ∷ 0 ∷ [])
+    -- 4 and 22; in declare sink 4 and 21, then 21 and 22
+    ∷ refused (small 257 0) (read 0 0) (4 ∷ 0 ∷ [])
+    ∷ refused (small 257 0) (show 3) (4 ∷ [])
+    ∷ refused (small 257 0) (write 3 0 0) (4 ∷ [])
+    ∷ refused (small 257 0) (declareSink 3) (4 ∷ [])
+    ∷ refused (small 257 0) (declareSink 2) (21 ∷ [])
+    -- 21 and 5, 22 and 5
+    ∷ refused (small 16 0) (read 1 0) (21 ∷ 0 ∷ [])
+    ∷ refused (small 16 0) (write 1 0 0) (21 ∷ [])
+    ∷ refused (small 16 0) (show 1) (21 ∷ [])
+    ∷ refused (small 257 0) (read 2 0) (22 ∷ 0 ∷ [])
+    ∷ refused (small 257 0) (write 2 0 0) (22 ∷ [])
+    -- write: 5 and 6, 5 and 23, 6 and 25, 23 and 25, and 25 alone
+    ∷ refused (small 257 0) (write 1 1 3) (5 ∷ [])
+    ∷ refused (small 257 0) (write 1 1 2) (5 ∷ [])
+    ∷ refused full (write 1 0 3) (6 ∷ [])
+    ∷ refused lossy (write 1 0 3) (23 ∷ [])
+    ∷ refused full (write 1 0 0) (25 ∷ [])
+    -- set root: 7 and 6, 7 and 23
+    ∷ refused (small 257 0) (setRoot 1 0x80000000) (7 ∷ [])
+    ∷ refused (small 257 0) (setRoot 1 2) (7 ∷ [])
+    ∷ []
+
+unfoldable pub table : List Trial
+table = marked ++ ownRows ++ refusals
+
+-- create: 1 and 2 both hold, and 2 alone
+unfoldable pub createRefusals : List ℕ
+createRefusals = Create.create 0 1 [] [] [] .answer .refusal ∷ Create.create 1 1 [] [] [] .answer .refusal ∷ []

@@ -1,0 +1,46 @@
+-- The rules of a well-formed heap ("The heap"), each a test over the objects 1 to n or over the roots. Refusal 21 of a whole heap: one is broken.
+use Prim.Native.Nat.{ℕ}
+use mathlib.Core.Bool.{Bool, _&&_, _||_, Bool·beq}
+use mathlib.Core.List.{List}
+use lib.Dec.{eqb}
+use lib.ListN.{take}
+use Rattle.layout.specs.Record.{inUse, cluster, free, legal}
+use Rattle.layout.specs.Word.{isNil, isPointer, isImmediate}
+use Rattle.rules.specs.Buffers.{recOf, usedWords, otherWords, allOf, allTo}
+use Rattle.rules.specs.View.{view, exactOut}
+
+module _ (n : ℕ) (recs slots : List ℕ) where
+  -- the word is the number of an object in use
+  unfoldable pub names : ℕ → Bool
+  names w = isPointer n w && inUse (recOf n recs w)
+
+  -- the record is 0 or legal
+  unfoldable pub legalAt : ℕ → Bool
+  legalAt x = free (recOf n recs x) || legal n (recOf n recs x)
+
+  -- the unused slots are 0; a free object has width 0, so all its slots are
+  unfoldable pub emptyAt : ℕ → Bool
+  emptyAt x = allOf isNil (otherWords n recs slots x)
+
+  -- a used slot is nil, an immediate, or the number of an object in use
+  unfoldable pub wordsAt : ℕ → Bool
+  wordsAt x = allOf (λ w. isNil w || isImmediate w || names w) (usedWords n recs slots x)
+
+  -- the object that the cluster number names carries that number too
+  unfoldable pub headAt : ℕ → Bool
+  headAt x =
+      let c = cluster (recOf n recs x) in
+      eqb c 0 || eqb (cluster (recOf n recs c)) c
+
+  -- out stands exactly where it should
+  unfoldable pub outAt : ℕ → Bool
+  outAt x = Bool·beq (view n recs slots .out x) (exactOut (view n recs slots) x)
+
+-- a root is nil or the number of an object in use
+unfoldable pub rootsNamed : ℕ → ℕ → List ℕ → List ℕ → List ℕ → Bool
+rootsNamed n r recs slots roots = allOf (λ w. isNil w || names n recs slots w) (take r roots)
+
+unfoldable pub wellFormed : ℕ → ℕ → List ℕ → List ℕ → List ℕ → Bool
+wellFormed n r recs slots roots =
+    allTo n (legalAt n recs slots) && allTo n (emptyAt n recs slots) && allTo n (wordsAt n recs slots)
+    && allTo n (headAt n recs slots) && allTo n (outAt n recs slots) && rootsNamed n r recs slots roots

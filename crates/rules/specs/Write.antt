@@ -1,0 +1,47 @@
+-- Write ("Writes and sinks"): a word is stored, and the object's cluster dissolved or its out bit made exact.
+use Prim.Native.Nat.{ℕ, _+_, _*_, _-_}
+use mathlib.Core.Bool.{not, _&&_, _||_}
+use mathlib.Core.List.{List, [], _∷_}
+use lib.Dec.{leb, ltb}
+use lib.ListN.{set}
+use Rattle.layout.specs.declared.answers.Control.{Control}
+use Rattle.layout.specs.declared.answers.Done.{Done}
+use Rattle.layout.specs.Limits.{widthMax, slotsLen}
+use Rattle.layout.specs.Record.{width, free, legal, damaged}
+use Rattle.layout.specs.Word.{isPointer, legalWord}
+use Rattle.layout.specs.ControlRecord.{badControl, withWriteLoss}
+use Rattle.layout.specs.Refusal.{Test, outcome}
+use Rattle.graph.specs.Heap.{Heap}
+use Rattle.graph.specs.Writes.{store, lossOf}
+use Rattle.rules.specs.Buffers.{short, recOf}
+use Rattle.rules.specs.View.{target, view, laid}
+
+pub record Outcome : Type 0 where
+  pub answer : Done
+  pub records : List ℕ
+  pub slots : List ℕ
+
+module _ (c : Control) (i k w : ℕ) (recs slots : List ℕ) where
+  -- the heap before the write
+  abbrev pub before : Heap
+  before = view (c .n) recs slots
+
+  -- write loss after it
+  unfoldable pub lossAfter : ℕ
+  lossAfter = c .«write_loss» + lossOf before i k (target (c .n) w)
+
+  unfoldable pub writeTests : List Test
+  writeTests =
+      (20, badControl c) ∷ (2, short (c .n) recs || short (slotsLen (c .n)) slots) ∷ (4, not (isPointer (c .n) i))
+      ∷ (21, damaged (c .n) (recOf (c .n) recs i)) ∷ (22, free (recOf (c .n) recs i)) ∷ (5, leb (width (recOf (c .n) recs i)) k)
+      ∷ (6, not (legalWord (c .n) w)) ∷ (23, isPointer (c .n) w && not (legal (c .n) (recOf (c .n) recs w))) ∷ (25, ltb (c .n) lossAfter) ∷ []
+
+  unfoldable pub write : Outcome
+  write =
+      outcome writeTests
+      (record {
+        answer = record { refusal = 0; control = withWriteLoss lossAfter c };
+        records = laid (store before i k (target (c .n) w)) recs;
+        slots = set slots (widthMax * (i - 1) + k) w;
+      })
+      (λ m. record { answer = record { refusal = m; control = c }; records = recs; slots = slots })

@@ -1,0 +1,4 @@
+// This crate holds definitions and theorems alone: specs/ and proofs/.
+pub fn version() -> u32 {
+    1
+}
