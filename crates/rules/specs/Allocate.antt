@@ -25,6 +25,10 @@ pub record Outcome : Type 0 where
   pub records : List ℕ
   pub slots : List ℕ
 
+-- an answer and what stands in the buffers, as an outcome
+abbrev pub gives : Allocated → List ℕ → List ℕ → Outcome
+gives a recs slots = record { answer = a; records = recs; slots = slots }
+
 module _ (c : Control) (width : ℕ) (recs slots : List ℕ) where
   -- the object that is given, 0 where every record is nonzero
   unfoldable pub given : ℕ

@@ -42,6 +42,10 @@ pub record Outcome : Type 0 where
   pub records : List ℕ
   pub work : List ℕ
 
+-- an answer and what stands in the buffers, as an outcome
+abbrev pub gives : Analysed → List ℕ → List ℕ → Outcome
+gives a recs work = record { answer = a; records = recs; work = work }
+
 module _ (c : Control) (recs slots roots work : List ℕ) where
   unfoldable pub analyseTests : List Test
   analyseTests =

@@ -14,6 +14,10 @@ pub record Outcome : Type 0 where
   pub slots : List ℕ
   pub roots : List ℕ
 
+-- an answer and what stands in the buffers, as an outcome
+abbrev pub gives : Done → List ℕ → List ℕ → List ℕ → Outcome
+gives a recs slots roots = record { answer = a; records = recs; slots = slots; roots = roots }
+
 module _ (n r : ℕ) (recs slots roots : List ℕ) where
   unfoldable pub createTests : List Test
   createTests = (1, badSizes n r) ∷ (2, short n recs || short (slotsLen n) slots || short r roots) ∷ []

@@ -18,6 +18,10 @@ pub record Outcome : Type 0 where
   pub answer : Done
   pub records : List ℕ
 
+-- an answer and what stands in the records, as an outcome
+abbrev pub gives : Done → List ℕ → Outcome
+gives a recs = record { answer = a; records = recs }
+
 module _ (c : Control) (i : ℕ) (recs slots roots : List ℕ) where
   unfoldable pub declareTests : List Test
   declareTests =

@@ -16,6 +16,10 @@ pub record Outcome : Type 0 where
   pub answer : Done
   pub roots : List ℕ
 
+-- an answer and what stands in the roots, as an outcome
+abbrev pub gives : Done → List ℕ → Outcome
+gives a roots = record { answer = a; roots = roots }
+
 module _ (c : Control) (j w : ℕ) (recs roots : List ℕ) where
   unfoldable pub setRootTests : List Test
   setRootTests =

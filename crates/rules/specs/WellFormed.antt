@@ -1,12 +1,13 @@
 -- The rules of a well-formed heap ("The heap"), each a test over the objects 1 to n or over the roots. Refusal 21 of a whole heap: one is broken.
 use Prim.Native.Nat.{ℕ}
-use mathlib.Core.Bool.{Bool, _&&_, _||_, Bool·beq}
+use mathlib.Core.Bool.{Bool, not, _&&_, _||_, Bool·beq}
 use mathlib.Core.List.{List}
-use lib.Dec.{eqb}
+use lib.Dec.{eqb, leb}
 use lib.ListN.{take}
+use Rattle.layout.specs.Limits.{objectMax, slotsLen}
 use Rattle.layout.specs.Record.{inUse, cluster, free, legal}
 use Rattle.layout.specs.Word.{isNil, isPointer, isImmediate}
-use Rattle.rules.specs.Buffers.{recOf, usedWords, otherWords, allOf, allTo}
+use Rattle.rules.specs.Buffers.{short, recOf, usedWords, otherWords, allOf, allTo}
 use Rattle.rules.specs.View.{view, exactOut}
 
 module _ (n : ℕ) (recs slots : List ℕ) where
@@ -44,3 +45,8 @@ unfoldable pub wellFormed : ℕ → ℕ → List ℕ → List ℕ → List ℕ �
 wellFormed n r recs slots roots =
     allTo n (legalAt n recs slots) && allTo n (emptyAt n recs slots) && allTo n (wordsAt n recs slots)
     && allTo n (headAt n recs slots) && allTo n (outAt n recs slots) && rootsNamed n r recs slots roots
+
+-- what the check answers for any slices: none is too short, n is a size, and the heap is well formed
+unfoldable pub checked : ℕ → ℕ → List ℕ → List ℕ → List ℕ → Bool
+checked n r recs slots roots =
+    leb n objectMax && not (short n recs || short (slotsLen n) slots || short r roots) && wellFormed n r recs slots roots

@@ -21,6 +21,10 @@ pub record Outcome : Type 0 where
   pub records : List ℕ
   pub slots : List ℕ
 
+-- an answer and what stands in the buffers, as an outcome
+abbrev pub gives : Done → List ℕ → List ℕ → Outcome
+gives a recs slots = record { answer = a; records = recs; slots = slots }
+
 module _ (c : Control) (i k w : ℕ) (recs slots : List ℕ) where
   -- the heap before the write
   abbrev pub before : Heap
