@@ -232,3 +232,35 @@ in-left x (y ∷ s) t (List·Memᴰ·tail m) = List·Memᴰ·tail (in-left x s t
 pub in-right : (x : ℕ) (s t : List ℕ) → List·Memᴰ x t → List·Memᴰ x (s ++ t)
 in-right x [] t m = m
 in-right x (y ∷ s) t m = List·Memᴰ·tail (in-right x s t m)
+
+-- ---- added for analysis
+
+-- the members of the lists gathered are those of the lists of the numbers that pass
+pub gather-from : (n : ℕ) (t : ℕ → Bool) (f : ℕ → List ℕ) (k : ℕ) → List·Memᴰ k (gather n t f)
+    → (x : ℕ) × Obj n x × (t x ≡ true) × List·Memᴰ k (f x)
+unfolding gather
+gather-from zero t f k m = absurd (List·Memᴰ·not-nil m)
+gather-from (suc n) t f k m =
+    go (λ a. gather-from n t f k a) (List·Memᴰ·append-cases (gather n t f) m)
+  where
+    last : (b : Bool) → t (suc n) ≡ b → List·Memᴰ k (cond b (f (suc n)) []) → (x : ℕ) × Obj (suc n) x × (t x ≡ true) × List·Memᴰ k (f x)
+    last true e a = (suc n, (omega arith, omega arith), e, a)
+    last false e a = absurd (List·Memᴰ·not-nil a)
+
+    wider : ((x : ℕ) × Obj n x × (t x ≡ true) × List·Memᴰ k (f x)) → (x : ℕ) × Obj (suc n) x × (t x ≡ true) × List·Memᴰ k (f x)
+    wider (x, b, e, a) = (x, (b .0, omega arith), e, a)
+
+    go : (List·Memᴰ k (gather n t f) → (x : ℕ) × Obj n x × (t x ≡ true) × List·Memᴰ k (f x))
+        → List·Memᴰ k (gather n t f) ⊎ List·Memᴰ k (cond (t (suc n)) (f (suc n)) [])
+        → (x : ℕ) × Obj (suc n) x × (t x ≡ true) × List·Memᴰ k (f x)
+    go rec (inl a) = wider (rec a)
+    go rec (inr a) = last (t (suc n)) refl a
+
+pub gather-in : (n : ℕ) (t : ℕ → Bool) (f : ℕ → List ℕ) (x k : ℕ) → Obj n x → t x ≡ true → List·Memᴰ k (f x) → List·Memᴰ k (gather n t f)
+unfolding gather
+gather-in zero t f x k b e m = absurd (omega arith)
+gather-in (suc n) t f x k b e m = go (λ c. gather-in n t f x k c e m) (le-suc-iff .0 (b .1))
+  where
+    go : (Obj n x → List·Memᴰ k (gather n t f)) → (x ≤ n) ⊎ (x ≡ suc n) → List·Memᴰ k (gather n t f ++ cond (t (suc n)) (f (suc n)) [])
+    go r (inl le) = in-left k (gather n t f) _ (r (b .0, le))
+    go r (inr q) = in-right k (gather n t f) _ (rw (← q, e) m)

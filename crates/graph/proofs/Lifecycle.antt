@@ -1,0 +1,112 @@
+-- The other calls that change the heap leave it good: create, allocate, collect.
+-- Assumes nothing.
+use Prim.Native.Nat.{ℕ, _≤_}
+use mathlib.Core.Path.{_≡_, refl, sym, ap, _∙_}
+use mathlib.Core.Bool.{Bool, true, false, not, cond, _&&_}
+use mathlib.Core.List.{List, [], List·Memᴰ, List·Memᴰ·not-nil}
+use mathlib.Core.Logic.{_≢_}
+use native.Mathlib.Decide.{ℕ-discrete}
+use native.Mathlib.Omega.{arith}
+use lib.Dec.{eqb}
+use Rattle.graph.specs.Numbers.{upd}
+use Rattle.graph.specs.Heap.{Heap}
+use Rattle.graph.specs.Clusters.{keep, outBit}
+use Rattle.graph.proofs.NumberLaws.{upd-same, upd-other, count-le}
+use Rattle.graph.proofs.Paths.{path-map, Connected, connected-keep, connected-kids, keep-zero}
+use Rattle.graph.proofs.OutLaws.{outBit-same, outBit-keep, outBit-none}
+use Rattle.graph.proofs.State.{Good, clustered, keep-fewer}
+
+-- ---- create
+
+unfoldable pub created : ℕ → Heap
+created n = record { n = n; kids = λ x. []; sink = λ x. false; written = λ x. false; cluster = λ x. 0; out = λ x. false }
+
+pub create-good : (n : ℕ) → Good (created n) 0
+unfolding created clustered Connected
+create-good n = record {
+  conn = λ y c e p. absurd (p (sym e));
+  zero-none = refl;
+  closed = λ x y m. absurd (List·Memᴰ·not-nil m);
+  range = λ x p. absurd (p refl);
+  sinks = λ x e. refl;
+  exact = λ x. sym (outBit-none (λ x. []) (λ x. false) (λ x. 0) x refl);
+  losses = let a = count-le n (λ x. not (eqb 0 0)) in omega arith;
+}
+
+-- ---- allocate: an object of no cluster gets other pointers
+
+unfoldable pub given : Heap → ℕ → List ℕ → Heap
+given H o l = record { n = H .n; kids = upd (H .kids) o l; sink = H .sink; written = H .written; cluster = H .cluster; out = H .out }
+
+pub given-good : (H : Heap) (loss o : ℕ) (l : List ℕ) → Good H loss → H .cluster o ≡ 0 → ((k : ℕ) → List·Memᴰ k l → k ≤ H .n) → Good (given H o l) loss
+unfolding given clustered
+given-good H loss o l G e h = record {
+  conn = connected-kids (H .kids) (H .cluster) o l (G .conn) (λ n. absurd (n e));
+  zero-none = G .zero-none;
+  closed = λ x y m. closed′ x y m (ℕ-discrete x o);
+  range = G .range;
+  sinks = G .sinks;
+  exact = λ x. exact′ x (ℕ-discrete x o);
+  losses = G .losses;
+}
+  where
+    closed′ : (x y : ℕ) → List·Memᴰ y (upd (H .kids) o l x) → Dec (x ≡ o) → y ≤ H .n
+    closed′ x y m (yes i) = h y (rw (i, upd-same (H .kids) o l) at m)
+    closed′ x y m (no i) = G .closed x y (rw (upd-other (H .kids) o x l i) at m)
+
+    exact′ : (x : ℕ) → Dec (x ≡ o) → H .out x ≡ outBit (upd (H .kids) o l) (H .sink) (H .cluster) x
+    exact′ x (yes i) =
+        let j : H .cluster x ≡ 0 = ap (H .cluster) i ∙ e in
+        G .exact x ∙ outBit-none (H .kids) (H .sink) (H .cluster) x j ∙ sym (outBit-none (upd (H .kids) o l) (H .sink) (H .cluster) x j)
+    exact′ x (no i) =
+        G .exact x ∙ outBit-same (H .kids) (upd (H .kids) o l) (H .sink) (H .cluster) (H .cluster) x (sym (upd-other (H .kids) o x l i)) refl (λ y. refl)
+
+-- ---- collect: the clusters that fail the test are dissolved, and objects of no cluster freed
+
+unfoldable pub collected : Heap → (ℕ → Bool) → (ℕ → Bool) → Heap
+collected H q dead = record {
+  n = H .n;
+  kids = λ x. cond (dead x) [] (H .kids x);
+  sink = H .sink;
+  written = λ x. not (dead x) && H .written x;
+  cluster = keep q (H .cluster);
+  out = λ x. q (H .cluster x) && H .out x;
+}
+
+pub collect-good : (H : Heap) (loss : ℕ) (q dead : ℕ → Bool) → Good H loss → ((x : ℕ) → dead x ≡ true → keep q (H .cluster) x ≡ 0)
+    → Good (collected H q dead) loss
+unfolding collected clustered Connected
+collect-good H loss q dead G d = record {
+  conn = λ y c e p. path-map (λ x i. i) (λ x z i j m. edge x z c p i m (dead x) refl) (connected-keep (H .kids) q (H .cluster) (G .conn) y c e p);
+  zero-none = keep-zero q (H .cluster) 0 (G .zero-none);
+  closed = λ x y m. closed′ x y (dead x) m;
+  range = λ x r. G .range x (λ j. r (keep-zero q (H .cluster) x j));
+  sinks = λ x e. keep-zero q (H .cluster) x (G .sinks x e);
+  exact = λ x. exact′ x (dead x) refl;
+  losses =
+      let a = keep-fewer (H .n) q (H .cluster) in
+      let b = G .losses in
+      omega arith;
+}
+  where
+    edge : (x z c : ℕ) → c ≢ 0 → keep q (H .cluster) x ≡ c → List·Memᴰ z (H .kids x) → (b : Bool) → dead x ≡ b → List·Memᴰ z (cond b [] (H .kids x))
+    edge x z c p i m true e = absurd (p (sym i ∙ d x e))
+    edge x z c p i m false e = m
+
+    closed′ : (x y : ℕ) (b : Bool) → List·Memᴰ y (cond b [] (H .kids x)) → y ≤ H .n
+    closed′ x y true m = absurd (List·Memᴰ·not-nil m)
+    closed′ x y false m = G .closed x y m
+
+    live : (x : ℕ) → dead x ≡ false → H .kids x ≡ cond (dead x) [] (H .kids x)
+    live x e = rw e refl
+
+    kept : (x : ℕ) → (q (H .cluster x) && H .out x) ≡ outBit (H .kids) (H .sink) (keep q (H .cluster)) x
+    kept x = rw (G .exact x) (sym (outBit-keep (H .kids) (H .sink) q (H .cluster) x))
+
+    exact′ : (x : ℕ) (b : Bool) → dead x ≡ b
+        → (q (H .cluster x) && H .out x) ≡ outBit (λ y. cond (dead y) [] (H .kids y)) (H .sink) (keep q (H .cluster)) x
+    exact′ x true e =
+        kept x ∙ outBit-none (H .kids) (H .sink) (keep q (H .cluster)) x (d x e)
+        ∙ sym (outBit-none (λ y. cond (dead y) [] (H .kids y)) (H .sink) (keep q (H .cluster)) x (d x e))
+    exact′ x false e =
+        kept x ∙ outBit-same (H .kids) (λ y. cond (dead y) [] (H .kids y)) (H .sink) (keep q (H .cluster)) (keep q (H .cluster)) x (live x e) refl (λ y. refl)

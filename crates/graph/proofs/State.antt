@@ -1,0 +1,37 @@
+-- What holds of the heap between calls.
+-- Assumes nothing.
+use Prim.Native.Nat.{ℕ, _+_, _≤_}
+use mathlib.Core.Path.{_≡_, ap}
+use mathlib.Core.Bool.{Bool, true, not}
+use mathlib.Core.List.{List·Memᴰ}
+use mathlib.Core.Logic.{_≢_}
+use lib.Dec.{eqb}
+use borrow.Author.Tests.{eqb-false, ne-eqb, not-true}
+use Rattle.graph.specs.Numbers.{count}
+use Rattle.graph.specs.Heap.{Heap}
+use Rattle.graph.specs.Clusters.{keep, outBit}
+use Rattle.graph.proofs.NumberLaws.{count-mono}
+use Rattle.graph.proofs.Paths.{Connected, connected-head, keep-zero}
+use Rattle.graph.proofs.AnalysisInv.{Ready}
+
+-- the members of all clusters
+unfoldable pub clustered : Heap → ℕ
+clustered H = count (H .n) (λ x. not (eqb (H .cluster x) 0))
+
+-- who has a cluster after some are dissolved had one
+pub keep-fewer : (n : ℕ) (q : ℕ → Bool) (cl : ℕ → ℕ) → count n (λ x. not (eqb (keep q cl x) 0)) ≤ count n (λ x. not (eqb (cl x) 0))
+keep-fewer n q cl = count-mono n _ _ (λ x e. ap not (ne-eqb (cl x) 0 (λ j. eqb-false (keep q cl x) 0 (not-true _ e) (keep-zero q cl x j))))
+
+-- Clusters are connected (so each has its head as a member), pointers and members are in range, sinks have no cluster, out bits
+-- are exact; and `loss` members dissolved since the last analysis and those still in clusters are together at most n.
+pub record Good (H : Heap) (loss : ℕ) : Type 0 where
+  pub conn : Connected (H .kids) (H .cluster)
+  pub zero-none : H .cluster 0 ≡ 0
+  pub closed : (x y : ℕ) → List·Memᴰ y (H .kids x) → y ≤ H .n
+  pub range : (x : ℕ) → H .cluster x ≢ 0 → x ≤ H .n
+  pub sinks : (x : ℕ) → H .sink x ≡ true → H .cluster x ≡ 0
+  pub exact : (x : ℕ) → H .out x ≡ outBit (H .kids) (H .sink) (H .cluster) x
+  pub losses : loss + clustered H ≤ H .n
+
+pub good-ready : {H : Heap} {loss : ℕ} → Good H loss → Ready H
+good-ready {H} G = record { heads = connected-head (H .kids) (H .cluster) (G .conn); zero-none = G .zero-none; closed = G .closed; range = G .range }

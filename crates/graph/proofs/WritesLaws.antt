@@ -1,0 +1,209 @@
+-- Writes and sinks leave a good heap, and a write loss of at most n.
+-- Assumes nothing.
+use Prim.Native.Nat.{ℕ, _+_, _≤_}
+use mathlib.Core.Path.{_≡_, refl, sym, ap, _∙_, fun-ext}
+use mathlib.Core.Bool.{Bool, true, false, not, cond, _&&_}
+use mathlib.Core.List.{List·Memᴰ}
+use mathlib.Core.Logic.{_≢_, _⊎_, inl, inr}
+use native.Mathlib.Decide.{ℕ-discrete}
+use native.Mathlib.Omega.{arith}
+use lib.Dec.{eqb}
+use lib.ListN.{getD, set}
+use borrow.Author.Tests.{eqb-true, eqb-false, eq-eqb, ne-eqb, not-true, not-false}
+use Rattle.graph.specs.Numbers.{upd, bit, count}
+use Rattle.graph.specs.Heap.{Heap}
+use Rattle.graph.specs.Clusters.{keep, size, outBit, others}
+use Rattle.graph.specs.Writes.{dissolves, stored, storeBy, lossBy, store, lossOf, declare}
+use Rattle.graph.proofs.NumberLaws.{upd-same, upd-other, bit-le, sum-add, sum-mono, mem-of-set}
+use Rattle.graph.proofs.Paths.{Connected, connected-keep, connected-store, keep-out, keep-zero}
+use Rattle.graph.proofs.OutLaws.{outBit-same, outBit-keep, outBit-none}
+use Rattle.graph.proofs.AnalysisInv.{and-split}
+use Rattle.graph.proofs.State.{Good, clustered, keep-fewer}
+
+others-same : (c : ℕ) → others c c ≡ false
+unfolding others
+others-same c = rw (eq-eqb c c refl) refl
+
+-- the members of c, and those of the other clusters
+pub dissolve-count : (n : ℕ) (cl : ℕ → ℕ) (c : ℕ) → c ≢ 0
+    → count n (λ x. not (eqb (keep (others c) cl x) 0)) + size n cl c ≤ count n (λ x. not (eqb (cl x) 0))
+unfolding count size
+dissolve-count n cl c p =
+    let a = sum-add n (λ x. bit (not (eqb (keep (others c) cl x) 0))) (λ x. bit (eqb (cl x) c)) in
+    let b = sum-mono n (λ x. bit (not (eqb (keep (others c) cl x) 0)) + bit (eqb (cl x) c)) (λ x. bit (not (eqb (cl x) 0)))
+    (λ x q r. each x (ℕ-discrete (cl x) c) (ℕ-discrete (cl x) 0)) in
+    omega arith
+  where
+    each : (x : ℕ) → Dec (cl x ≡ c) → Dec (cl x ≡ 0)
+        → bit (not (eqb (keep (others c) cl x) 0)) + bit (eqb (cl x) c) ≤ bit (not (eqb (cl x) 0))
+    each x (yes i) d =
+        rw (keep-out (others c) cl c x i (others-same c), i, eq-eqb c c refl, ne-eqb c 0 p) (omega arith)
+    each x (no i) (yes j) =
+        rw (keep-zero (others c) cl x j, ne-eqb (cl x) c i, j) (omega arith)
+    each x (no i) (no j) =
+        rw (ne-eqb (cl x) c i, ne-eqb (cl x) 0 j) (omega (arith, bit-le (not (eqb (keep (others c) cl x) 0))))
+
+-- a store of a pointer in range keeps pointers in range
+stored-closed : (H : Heap) (o k t : ℕ) → ((x y : ℕ) → List·Memᴰ y (H .kids x) → y ≤ H .n) → t ≤ H .n
+    → (x y : ℕ) → List·Memᴰ y (stored H o k t x) → y ≤ H .n
+unfolding stored
+stored-closed H o k t h p x y m = go (ℕ-discrete x o)
+  where
+    new : (y ≡ t) ⊎ List·Memᴰ y (H .kids o) → y ≤ H .n
+    new (inl e) = rw e p
+    new (inr n) = h o y n
+
+    go : Dec (x ≡ o) → y ≤ H .n
+    go (yes i) = new (mem-of-set (H .kids o) k t y (rw (i, upd-same (H .kids) o (set (H .kids o) k t)) at m))
+    go (no i) = h x y (rw (upd-other (H .kids) o x (set (H .kids o) k t) i) at m)
+
+-- the words of another object
+stored-other : (H : Heap) (o k t x : ℕ) → x ≢ o → H .kids x ≡ stored H o k t x
+unfolding stored
+stored-other H o k t x p = sym (upd-other (H .kids) o x (set (H .kids o) k t) p)
+
+-- so its out bit is exact after the store if it was before
+other-out : (H : Heap) (o k t x : ℕ) (cl : ℕ → ℕ) → x ≢ o → outBit (H .kids) (H .sink) cl x ≡ outBit (stored H o k t) (H .sink) cl x
+other-out H o k t x cl p = outBit-same (H .kids) (stored H o k t) (H .sink) cl cl x (stored-other H o k t x p) refl (λ y. refl)
+
+-- a write that dissolves is one to an object in a cluster
+pub points-clustered : (H : Heap) (o k t : ℕ) → dissolves H o k t ≡ true → H .cluster o ≢ 0
+unfolding dissolves
+points-clustered H o k t e = eqb-false (H .cluster o) 0 (not-true _ (and-split _ _ e .0))
+
+module _ (H : Heap) (loss o k t : ℕ) (G : Good H loss) (p : t ≤ H .n) where
+  -- the write that dissolves, of an object in a cluster
+  pub dissolving : H .cluster o ≢ 0 → Good (storeBy true H o k t) (loss + lossBy true H o)
+  unfolding storeBy lossBy clustered
+  dissolving q = record {
+    conn = conn′;
+    zero-none = keep-zero (others c) (H .cluster) 0 (G .zero-none);
+    closed = stored-closed H o k t (G .closed) p;
+    range = λ x r. G .range x (λ j. r (keep-zero (others c) (H .cluster) x j));
+    sinks = λ x e. keep-zero (others c) (H .cluster) x (G .sinks x e);
+    exact = λ x. exact′ x (ℕ-discrete x o);
+    losses = let a = dissolve-count (H .n) (H .cluster) c q in let b = G .losses in omega arith;
+  }
+    where
+      c : ℕ
+      c = H .cluster o
+
+      gone : keep (others c) (H .cluster) o ≡ 0
+      gone = keep-out (others c) (H .cluster) c o refl (others-same c)
+
+      conn′ : Connected (stored H o k t) (keep (others c) (H .cluster))
+      conn′ = unfold stored in
+          connected-store (H .kids) (keep (others c) (H .cluster)) o k t (connected-keep (H .kids) (others c) (H .cluster) (G .conn))
+          (λ r. absurd (r gone))
+
+      exact′ : (x : ℕ) → Dec (x ≡ o)
+          → (others c (H .cluster x) && H .out x) ≡ outBit (stored H o k t) (H .sink) (keep (others c) (H .cluster)) x
+      exact′ x (yes i) = rw (i, others-same c) (sym (outBit-none (stored H o k t) (H .sink) (keep (others c) (H .cluster)) o gone))
+      exact′ x (no i) =
+          rw (G .exact x) (sym (outBit-keep (H .kids) (H .sink) (others c) (H .cluster) x) ∙ other-out H o k t x (keep (others c) (H .cluster)) i)
+
+  -- the write that does not, if its cluster is still connected
+  pub staying : Connected (stored H o k t) (H .cluster) → Good (storeBy false H o k t) (loss + lossBy false H o)
+  unfolding storeBy lossBy clustered
+  staying q = record {
+    conn = q;
+    zero-none = G .zero-none;
+    closed = stored-closed H o k t (G .closed) p;
+    range = G .range;
+    sinks = G .sinks;
+    exact = λ x. exact′ x (ℕ-discrete x o);
+    losses = let b = G .losses in omega arith;
+  }
+    where
+      exact′ : (x : ℕ) → Dec (x ≡ o)
+          → upd (H .out) o (outBit (stored H o k t) (H .sink) (H .cluster) o) x ≡ outBit (stored H o k t) (H .sink) (H .cluster) x
+      exact′ x (yes i) = rw i (upd-same (H .out) o _)
+      exact′ x (no i) = upd-other (H .out) o x _ i ∙ G .exact x ∙ other-out H o k t x (H .cluster) i
+
+  -- the old pointer was not into o's cluster: the cluster is still connected
+  pub still-connected : dissolves H o k t ≡ false → Connected (stored H o k t) (H .cluster)
+  unfolding dissolves stored
+  still-connected e = connected-store (H .kids) (H .cluster) o k t (G .conn) (outside _ _ _ refl refl refl e)
+    where
+      u : ℕ
+      u = getD (H .kids o) k 0
+
+      outside : (a b d : Bool) → not (eqb (H .cluster o) 0) ≡ a → not (eqb u 0) ≡ b → eqb (H .cluster u) (H .cluster o) ≡ d
+          → (a && (b && d)) ≡ false → H .cluster o ≢ 0 → H .cluster u ≢ H .cluster o
+      outside true true d f g h e nz j = eqb-false (H .cluster u) (H .cluster o) (h ∙ e) j
+      outside true false d f g h e nz j = nz (sym j ∙ ap (H .cluster) (eqb-true u 0 (not-false (eqb u 0) g)) ∙ G .zero-none)
+      outside false b d f g h e nz j = nz (eqb-true (H .cluster o) 0 (not-false (eqb (H .cluster o) 0) f))
+
+  pub store-good : Good (store H o k t) (loss + lossOf H o k t)
+  unfolding store lossOf
+  store-good = go (dissolves H o k t) refl
+    where
+      go : (b : Bool) → dissolves H o k t ≡ b → Good (storeBy b H o k t) (loss + lossBy b H o)
+      go true e = dissolving (points-clustered H o k t e)
+      go false e = staying (still-connected e)
+
+-- write loss and the members that a write dissolves are together at most n
+pub write-fits : (H : Heap) (loss o k t : ℕ) → Good H loss → dissolves H o k t ≡ true → loss + size (H .n) (H .cluster) (H .cluster o) ≤ H .n
+unfolding clustered
+write-fits H loss o k t G e =
+    let a = dissolve-count (H .n) (H .cluster) (H .cluster o) (points-clustered H o k t e) in
+    let b = G .losses in
+    omega arith
+
+-- ---- sinks
+
+pub declare-good : (H : Heap) (loss o : ℕ) → Good H loss → Good (declare H o) loss
+unfolding declare clustered
+declare-good H loss o G = record {
+  conn = connected-keep (H .kids) (others c) (H .cluster) (G .conn);
+  zero-none = keep-zero (others c) (H .cluster) 0 (G .zero-none);
+  closed = G .closed;
+  range = λ x r. G .range x (λ j. r (keep-zero (others c) (H .cluster) x j));
+  sinks = λ x e. sinks′ x e (ℕ-discrete x o);
+  exact = λ x. refl;
+  losses =
+      let a = keep-fewer (H .n) (others c) (H .cluster) in
+      let b = G .losses in
+      omega arith;
+}
+  where
+    c : ℕ
+    c = H .cluster o
+
+    sinks′ : (x : ℕ) → upd (H .sink) o true x ≡ true → Dec (x ≡ o) → keep (others c) (H .cluster) x ≡ 0
+    sinks′ x e (yes i) = keep-out (others c) (H .cluster) c x (ap (H .cluster) i) (others-same c)
+    sinks′ x e (no i) = keep-zero (others c) (H .cluster) x (G .sinks x (sym (upd-other (H .sink) o x true i) ∙ e))
+
+-- to dissolve no cluster changes none
+keep-all : (cl : ℕ → ℕ) (x : ℕ) → keep (others 0) cl x ≡ cl x
+unfolding keep others
+keep-all cl x = go (ℕ-discrete (cl x) 0)
+  where
+    go : Dec (cl x ≡ 0) → cond (not (eqb (cl x) 0)) (cl x) 0 ≡ cl x
+    go (yes e) = rw e refl
+    go (no e) = rw (ne-eqb (cl x) 0 e) refl
+
+-- a second declaration changes nothing
+pub declare-again : (H : Heap) (loss o : ℕ) → Good H loss → H .sink o ≡ true → declare H o ≡ H
+unfolding declare
+declare-again H loss o G e = λ i. record {
+  n = H .n;
+  kids = H .kids;
+  sink = same-sink i;
+  written = H .written;
+  cluster = same-cluster i;
+  out = same-out i;
+}
+  where
+    same-sink : upd (H .sink) o true ≡ H .sink
+    same-sink = fun-ext (λ x. go x (ℕ-discrete x o))
+      where
+        go : (x : ℕ) → Dec (x ≡ o) → upd (H .sink) o true x ≡ H .sink x
+        go x (yes i) = rw i (upd-same (H .sink) o true ∙ sym e)
+        go x (no i) = upd-other (H .sink) o x true i
+
+    same-cluster : keep (others (H .cluster o)) (H .cluster) ≡ H .cluster
+    same-cluster = rw (G .sinks o e) (fun-ext (keep-all (H .cluster)))
+
+    same-out : outBit (H .kids) (upd (H .sink) o true) (keep (others (H .cluster o)) (H .cluster)) ≡ H .out
+    same-out = rw (same-sink, same-cluster) (fun-ext (λ x. sym (G .exact x)))
