@@ -549,7 +549,7 @@ module _ (H : Heap) (limit : ℕ) (roots : List ℕ) (R : Ready H) (p : 1 ≤ li
   pub seen-whole : (x y : ℕ) → H .cluster x ≢ 0 → H .cluster x ≡ H .cluster y → ended H limit roots .seen x ≡ ended H limit roots .seen y
   seen-whole x y = ended-inv H limit roots R p h .whole x y
 
-  -- so all that a path of pointers leads to is seen, if the out bits are exact
+  -- so every reachable object is seen, if the out bits are exact
   pub seen-reach : ((x : ℕ) → H .out x ≡ outBit (H .kids) (H .sink) (H .cluster) x) → (x : ℕ)
       → Reach (targets H) (pointers (starts H roots)) x → ended H limit roots .seen x ≡ true
   seen-reach e x (start m) = seen-start x (pointer-word (starts H roots) x m) (pointer-nonzero (starts H roots) x m)

@@ -1,4 +1,4 @@
--- Analysis ("Analysis (3.4, 3.5)"): the walk that forms clusters, then the deletion of those that are too small or too much pointed out of.
+-- Analysis ("Analysis"): the walk that forms clusters, then the deletion of those that are too small or too much pointed out of.
 use Prim.Native.Nat.{ℕ, _+_, _*_}
 use mathlib.Core.Bool.{Bool, true, false, not, cond, _&&_, _||_}
 use mathlib.Core.List.{List, [], _∷_, _++_}
@@ -26,7 +26,7 @@ unfoldable pub items : ℕ → List ℕ → List Item
 items c [] = []
 items c (x ∷ l) = record { obj = x; passed = c } ∷ items c l
 
--- a written object or a sink joins nothing and passes on no cluster
+-- what keeps an object out of every new cluster: it was written, or it is a sink
 unfoldable pub bars : Heap → ℕ → Bool
 bars H o = H .written o || H .sink o
 
@@ -46,7 +46,7 @@ unfoldable pub kind : Heap → ℕ → (ℕ → Bool) → (ℕ → ℕ) → ℕ 
 kind H limit seen cl o c =
     pick (eqb o 0 || seen o) (not (eqb (cl o) 0)) (bars H o) (not (eqb c 0) && leb (size (H .n) cl c + 1) limit)
 
--- what is visited when an older cluster is met: the pointers of its out members, by number and slot
+-- what a met older cluster leads to: each out member's pointers, members in number order
 unfoldable pub visitsOfCluster : Heap → (ℕ → ℕ) → ℕ → List ℕ
 visitsOfCluster H cl c = gather (H .n) (λ x. eqb (cl x) c && H .out x) (H .kids)
 

@@ -17,7 +17,7 @@ keep t cl x = cond (t (cl x)) (cl x) 0
 unfoldable pub others : ℕ → ℕ → Bool
 others c d = not (eqb d c)
 
--- y is an object that is neither a sink nor in cluster c
+-- y is an object outside cluster c, and no sink
 unfoldable pub leaves : (ℕ → Bool) → (ℕ → ℕ) → ℕ → ℕ → Bool
 leaves sink cl c y = not (eqb y 0) && (not (sink y) && not (eqb (cl y) c))
 

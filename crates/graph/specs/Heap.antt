@@ -29,7 +29,7 @@ targets H x = pointers (H .kids x)
 unfoldable pub starts : Heap → List ℕ → List ℕ
 starts H roots = roots ++ gather (H .n) (H .sink) (λ x. x ∷ [])
 
--- a path of pointers leads to the object from one of the starts
+-- the object can be reached along pointers from one of the starts
 pub data Reach (next : ℕ → List ℕ) (from : List ℕ) : ℕ → Type 0 where
   start : {x : ℕ} → List·Memᴰ x from → Reach next from x
   along : {x y : ℕ} → Reach next from x → List·Memᴰ y (next x) → Reach next from y

@@ -1,4 +1,4 @@
--- The walk of a collection ("Collection (3.8)"): what is to be visited stands in a list, an object's pointers in front of the rest.
+-- The walk of a collection ("Collection"): what is to be visited stands in a list, an object's pointers in front of the rest.
 use Prim.Native.Nat.{ℕ, zero, suc, _+_, _*_}
 use mathlib.Core.Bool.{Bool, true, false, not, cond, _&&_, _||_}
 use mathlib.Core.List.{List, [], _∷_, _++_}
@@ -96,7 +96,7 @@ module _ (H : Heap) where
   take zero w = w
   take (suc m) w = takeBy (w .flags marked (suc m)) (w .flags reached (cluster (suc m))) (suc m) (unpostpone (suc m) w)
 
-  -- one step: the next visit, or, where nothing else remains, the lowest postponed object
+  -- one step: the next visit, or, with no visit left to make, the lowest of the postponed objects
   unfoldable pub stepBy : List ℕ → Walk → Walk
   stepBy [] w = take (lowest (λ x. w .flags postponed x) n) w
   stepBy (o ∷ rest) w = visit o (record { flags = w .flags; todo = rest; scanned = w .scanned })
@@ -125,7 +125,7 @@ module _ (H : Heap) where
   unfoldable pub traced : List ℕ → Walk
   traced from = finish (begin from)
 
-  -- kept are the marked objects and all members of reached clusters
+  -- kept: marked, or in a cluster that is reached
   unfoldable pub keeps : Flags → ℕ → Bool
   keeps s x = s marked x || (not (eqb (cluster x) 0) && s reached (cluster x))
 

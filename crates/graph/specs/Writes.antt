@@ -1,4 +1,4 @@
--- Writes and sinks ("Writes and sinks (3.6, 3.7)"): what an accepted write and a declaration do to the clusters.
+-- Writes and sinks ("Writes and sinks"): what an accepted write and a declaration do to the clusters.
 use Prim.Native.Nat.{ℕ, _+_}
 use mathlib.Core.Bool.{Bool, true, false, not, _&&_}
 use mathlib.Core.List.{List}

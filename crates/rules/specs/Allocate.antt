@@ -11,7 +11,7 @@ use Rattle.layout.specs.ControlRecord.{badControl, withLast}
 use Rattle.layout.specs.Refusal.{Test, outcome}
 use Rattle.rules.specs.Buffers.{short, recOf, eachRecord, eachSlot, numbers}
 
--- the numbers in the order in which they are tried: from last + 1 to n, then from 1 to last
+-- the numbers in the order in which they are tried: those past the last one given, then the rest
 unfoldable pub candidates : ℕ → ℕ → List ℕ
 candidates last n = numbers (suc last) (n - last) ++ numbers 1 last
 

@@ -1,4 +1,4 @@
--- Declare sink ("Writes and sinks"): the object's cluster is dissolved and every out bit made exact; a second declaration changes nothing.
+-- Declare sink ("Writes and sinks"): the object's cluster is dissolved and every out bit made exact. For an object that is a sink already nothing changes.
 use Prim.Native.Nat.{ℕ}
 use mathlib.Core.Bool.{not, _||_, cond}
 use mathlib.Core.List.{List, [], _∷_}

@@ -43,7 +43,7 @@ unfoldable pub cellAt : List Cell → ℕ → Cell
 cellAt cells zero = free
 cellAt cells (suc i) = getD cells i free
 
--- ---- what a path of pointers leads to
+-- ---- what can be reached along pointers
 
 unfoldable pub has : ℕ → List ℕ → Bool
 has x [] = false
@@ -68,7 +68,7 @@ module _ (P : Plain) where
   unfoldable pub plainWords : ℕ → List ℕ
   plainWords x = wordsIn (cellAt (P .cells) x)
 
-  -- the objects that a root names, and the sinks
+  -- what the roots name, and the sinks
   unfoldable pub plainStarts : List ℕ
   plainStarts = P .roots ++ gather plainSize (λ x. isSink (cellAt (P .cells) x)) (λ x. x ∷ [])
 

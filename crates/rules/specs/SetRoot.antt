@@ -1,4 +1,4 @@
--- Set root ("The heap"): a root becomes nil or the number of an object.
+-- Set root ("The heap"): a root becomes nil or names an object.
 use Prim.Native.Nat.{ℕ}
 use mathlib.Core.Bool.{not, _&&_, _||_}
 use mathlib.Core.List.{List, [], _∷_}

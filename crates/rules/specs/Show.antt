@@ -1,4 +1,4 @@
--- Show ("The heap"): an object's used slots, as a part of the lent slots.
+-- Show ("The heap"): the used slots of an object, where they stand in the caller's buffer.
 use Prim.Native.Nat.{ℕ, _*_, _-_}
 use mathlib.Core.Bool.{not, _||_}
 use mathlib.Core.List.{List, [], _∷_}

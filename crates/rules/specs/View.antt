@@ -8,7 +8,7 @@ use Rattle.graph.specs.Heap.{Heap}
 use Rattle.graph.specs.Clusters.{outBit}
 use Rattle.rules.specs.Buffers.{recOf, usedWords, eachRecord}
 
--- the object that a word points at, 0 where it is no pointer: a word outside 1 to n is none
+-- the object that a word points at, 0 where it is no pointer, as every word above n
 unfoldable pub target : ℕ → ℕ → ℕ
 target n w = cond (leb w n) w 0
 

@@ -11,7 +11,7 @@ use Rattle.rules.specs.Buffers.{short, recOf, usedWords, otherWords, all
 use Rattle.rules.specs.View.{view, exactOut}
 
 module _ (n : ℕ) (recs slots : List ℕ) where
-  -- the word is the number of an object in use
+  -- the word names an object in use
   unfoldable pub names : ℕ → Bool
   names w = isPointer n w && inUse (recOf n recs w)
 
@@ -23,7 +23,7 @@ module _ (n : ℕ) (recs slots : List ℕ) where
   unfoldable pub emptyAt : ℕ → Bool
   emptyAt x = allOf isNil (otherWords n recs slots x)
 
-  -- a used slot is nil, an immediate, or the number of an object in use
+  -- each used slot is nil, an immediate, or names an object in use
   unfoldable pub wordsAt : ℕ → Bool
   wordsAt x = allOf (λ w. isNil w || isImmediate w || names w) (usedWords n recs slots x)
 
@@ -37,7 +37,7 @@ module _ (n : ℕ) (recs slots : List ℕ) where
   unfoldable pub outAt : ℕ → Bool
   outAt x = Bool·beq (view n recs slots .out x) (exactOut (view n recs slots) x)
 
--- a root is nil or the number of an object in use
+-- a root is nil or names an object in use
 unfoldable pub rootsNamed : ℕ → ℕ → List ℕ → List ℕ → List ℕ → Bool
 rootsNamed n r recs slots roots = allOf (λ w. isNil w || names n recs slots w) (take r roots)
 
