@@ -1,3 +1,5 @@
+-- ---- by value
+pub mod Trials
 -- ---- numbers, lists, walks in general
 pub mod NumberLaws
 pub mod RunLaws

@@ -7,3 +7,4 @@ pub mod Trace
 pub mod Analysis
 pub mod DepthFirst
 pub mod Writes
+pub mod Trials

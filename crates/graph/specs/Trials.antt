@@ -1,0 +1,188 @@
+-- Small heaps and what the walks make of them, by value: what no law pins down, such as the order of visits, shows here.
+use Prim.Native.Nat.{ℕ, zero, suc}
+use mathlib.Core.Bool.{Bool, true, false, _||_}
+use mathlib.Core.List.{List, [], _∷_, _++_, map}
+use lib.Dec.{eqb}
+use lib.ListN.{getD, length}
+use Rattle.graph.specs.Heap.{Heap, starts}
+use Rattle.graph.specs.Clusters.{outBit}
+use Rattle.graph.specs.Trace.{traced, keeps}
+use Rattle.graph.specs.Analysis.{Rule, analyse}
+
+-- number i of a list, counted from 1; d for 0 and past the end
+unfoldable pub nth : {A : Type 0} → A → List A → ℕ → A
+nth d l zero = d
+nth d l (suc i) = getD l i d
+
+unfoldable pub has : List ℕ → ℕ → Bool
+has [] x = false
+has (y ∷ l) x = eqb x y || has l x
+
+unfoldable pub upTo : ℕ → List ℕ
+upTo zero = []
+upTo (suc n) = upTo n ++ (suc n ∷ [])
+
+-- the heap with these pointers by object, these objects written, these sinks and these clusters by object; its out bits are exact
+unfoldable pub heap : List (List ℕ) → List ℕ → List ℕ → List ℕ → Heap
+heap kids written sinks clusters =
+    record {
+      n = length kids;
+      kids = nth [] kids;
+      sink = has sinks;
+      written = has written;
+      cluster = nth 0 clusters;
+      out = outBit (nth [] kids) (has sinks) (nth 0 clusters);
+    }
+
+-- ---- analyses
+
+pub record Formed : Type 0 where
+  pub start : Heap
+  pub limit : ℕ
+  pub root : ℕ
+  pub clusters : List ℕ
+  pub outLoss : ℕ
+
+abbrev pub rule : Rule
+rule = record { outPerTen = 25; least = 4 }
+
+-- out loss, then the cluster of each object
+unfoldable pub formed : Formed → List ℕ
+formed t =
+    let a = analyse rule (t .start) (t .limit) (t .root ∷ []) in
+    a .outLoss ∷ map (a .heap .cluster) (upTo (t .start .n))
+
+unfoldable pub formedAs : Formed → List ℕ
+formedAs t = t .outLoss ∷ t .clusters
+
+unfoldable pub analyses : List Formed
+analyses =
+    -- a chain of nine at limit 8: eight join, the ninth heads a cluster of its own, which is too small
+    record {
+      start = heap ((2 ∷ []) ∷ (3 ∷ []) ∷ (4 ∷ []) ∷ (5 ∷ []) ∷ (6 ∷ []) ∷ (7 ∷ []) ∷ (8 ∷ []) ∷ (9 ∷ []) ∷ [] ∷ []) [] [] [];
+      limit = 8;
+      root = 1;
+      clusters = 1 ∷ 1 ∷ 1 ∷ 1 ∷ 1 ∷ 1 ∷ 1 ∷ 1 ∷ 0 ∷ [];
+      outLoss = 0;
+    }
+    -- slot 0 first, and all below it: limit 4, object 1 points at 2 and 5, both begin a chain
+    ∷ record {
+      start = heap ((2 ∷ 5 ∷ []) ∷ (3 ∷ []) ∷ (4 ∷ []) ∷ [] ∷ (6 ∷ []) ∷ (7 ∷ []) ∷ (8 ∷ []) ∷ [] ∷ []) [] [] [];
+      limit = 4;
+      root = 1;
+      clusters = 1 ∷ 1 ∷ 1 ∷ 1 ∷ 5 ∷ 5 ∷ 5 ∷ 5 ∷ [];
+      outLoss = 0;
+    }
+    -- a member of an older cluster that is no head is met: what its out member 3 points at is visited
+    ∷ record {
+      start =
+          heap
+          ((2 ∷ []) ∷ (3 ∷ []) ∷ (4 ∷ 5 ∷ []) ∷ [] ∷ (6 ∷ []) ∷ (7 ∷ []) ∷ (8 ∷ []) ∷ [] ∷ [])
+          []
+          []
+          (1 ∷ 1 ∷ 1 ∷ 1 ∷ []);
+      limit = 16;
+      root = 2;
+      clusters = 1 ∷ 1 ∷ 1 ∷ 1 ∷ 5 ∷ 5 ∷ 5 ∷ 5 ∷ [];
+      outLoss = 0;
+    }
+    -- written object 2 and sink 3 join nothing and pass on nothing
+    ∷ record {
+      start =
+          heap
+          ((2 ∷ 3 ∷ 4 ∷ []) ∷ (5 ∷ []) ∷ (6 ∷ []) ∷ (7 ∷ []) ∷ (9 ∷ 10 ∷ 11 ∷ []) ∷ [] ∷ (8 ∷ []) ∷ [] ∷ [] ∷ [] ∷ [] ∷ [])
+          (2 ∷ [])
+          (3 ∷ [])
+          [];
+      limit = 16;
+      root = 1;
+      clusters = 1 ∷ 0 ∷ 0 ∷ 1 ∷ 5 ∷ 0 ∷ 1 ∷ 1 ∷ 5 ∷ 5 ∷ 5 ∷ [];
+      outLoss = 0;
+    }
+    -- four members with ten pointers at written object 5: left; with eleven: deleted
+    ∷ record {
+      start =
+          heap ((2 ∷ 5 ∷ 5 ∷ 5 ∷ 5 ∷ []) ∷ (3 ∷ 5 ∷ 5 ∷ 5 ∷ []) ∷ (4 ∷ 5 ∷ 5 ∷ []) ∷ (5 ∷ []) ∷ [] ∷ []) (5 ∷ []) [] [];
+      limit = 16;
+      root = 1;
+      clusters = 1 ∷ 1 ∷ 1 ∷ 1 ∷ 0 ∷ [];
+      outLoss = 0;
+    }
+    ∷ record {
+      start =
+          heap ((2 ∷ 5 ∷ 5 ∷ 5 ∷ 5 ∷ []) ∷ (3 ∷ 5 ∷ 5 ∷ 5 ∷ []) ∷ (4 ∷ 5 ∷ 5 ∷ []) ∷ (5 ∷ 5 ∷ []) ∷ [] ∷ []) (5 ∷ []) [] [];
+      limit = 16;
+      root = 1;
+      clusters = 0 ∷ 0 ∷ 0 ∷ 0 ∷ 0 ∷ [];
+      outLoss = 4;
+    }
+    ∷ []
+
+-- ---- collections
+
+pub record Traced : Type 0 where
+  pub start : Heap
+  pub roots : List ℕ
+  pub scanned : ℕ
+  pub kept : List Bool
+
+unfoldable pub kept : Traced → List Bool
+kept t =
+    let w = traced (t .start) (starts (t .start) (t .roots)) in
+    map (keeps (t .start) (w .flags)) (upTo (t .start .n))
+
+unfoldable pub scanned : Traced → ℕ
+scanned t = traced (t .start) (starts (t .start) (t .roots)) .scanned
+
+-- object 1 points at 2 and 3, and 2, 3, 4 at 4, 5, 6; more pointers of 1 and 5
+unfoldable pub six : List ℕ → List ℕ → List ℕ → List (List ℕ)
+six more of4 of5 = (2 ∷ 3 ∷ more) ∷ (4 ∷ []) ∷ (5 ∷ []) ∷ (6 ∷ of4) ∷ of5 ∷ [] ∷ [] ∷ []
+
+unfoldable pub all1 : List ℕ
+all1 = 1 ∷ 1 ∷ 1 ∷ 1 ∷ 1 ∷ 1 ∷ []
+
+unfoldable pub collections : List Traced
+collections =
+    -- the head is reached: nothing is scanned, all six are kept
+    record {
+      start = heap (six [] [] []) [] [] all1;
+      roots = 1 ∷ [];
+      scanned = 0;
+      kept = true ∷ true ∷ true ∷ true ∷ true ∷ true ∷ false ∷ [];
+    }
+    -- head 1 has a pointer out, at 7
+    ∷ record {
+      start = heap (six (7 ∷ []) [] []) [] [] all1;
+      roots = 0 ∷ 1 ∷ [];
+      scanned = 2;
+      kept = true ∷ true ∷ true ∷ true ∷ true ∷ true ∷ true ∷ [];
+    }
+    -- only member 3 is reached: the cluster is not live for that, and 3 is scanned although its head never is reached
+    ∷ record {
+      start = heap (six [] [] []) [] [] all1;
+      roots = 3 ∷ [];
+      scanned = 2;
+      kept = false ∷ false ∷ true ∷ false ∷ true ∷ false ∷ false ∷ [];
+    }
+    -- 5 leads back to the head
+    ∷ record {
+      start = heap (six [] [] (1 ∷ [])) [] [] all1;
+      roots = 3 ∷ [];
+      scanned = 2;
+      kept = true ∷ true ∷ true ∷ true ∷ true ∷ true ∷ false ∷ [];
+    }
+    -- the lowest postponed object first: 4, which leads to 2 and so to the head; 6 is then dropped
+    ∷ record {
+      start = heap ((2 ∷ 3 ∷ 4 ∷ 5 ∷ 6 ∷ []) ∷ (1 ∷ []) ∷ [] ∷ (2 ∷ []) ∷ [] ∷ [] ∷ []) [] [] all1;
+      roots = 4 ∷ 6 ∷ [];
+      scanned = 2;
+      kept = true ∷ true ∷ true ∷ true ∷ true ∷ true ∷ [];
+    }
+    -- a sink is a start
+    ∷ record {
+      start = heap ((2 ∷ []) ∷ [] ∷ [] ∷ []) [] (1 ∷ []) [];
+      roots = 0 ∷ [];
+      scanned = 2;
+      kept = true ∷ true ∷ false ∷ [];
+    }
+    ∷ []
