@@ -1,10 +1,11 @@
 /*
- * pakzid.h - C interface of the Pakzid object heap.
+ * pakzid.h - the C interface of the Pakzid object heap.
  *
- * Every struct is a plain struct of 32-bit numbers and goes by value. A slice
- * is a pointer and then a length in elements. `refusal` is 0 for an accepted
- * call, else the number of docs/HEAP.md. After a refusal every other answer is
- * 0 and the control record is the one handed in (from create: zeros).
+ * Structs hold 32-bit numbers and go by value; a slice goes as a pointer and
+ * its length in elements. `refusal` is 0 where the call was accepted, else a
+ * number listed in docs/HEAP.md ("From the input", "From the state"). After a
+ * refusal the other answers are 0, and the control record is the one handed in
+ * (zeros where create refuses).
  */
 #ifndef PAKZID_H
 #define PAKZID_H
@@ -127,5 +128,8 @@ pakzid_allocated_in_place pakzid_allocate_in_place(pakzid_control *control, uint
 uint32_t pakzid_write_in_place(pakzid_control *control, uint32_t object, uint32_t slot, uint32_t word,
                                uint32_t *records, size_t records_length,
                                uint32_t *slots, size_t slots_length);
+
+/* 0 if the calls take this control record, else 20. */
+uint32_t pakzid_control_ok(pakzid_control control);
 
 #endif

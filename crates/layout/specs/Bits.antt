@@ -1,9 +1,14 @@
--- Sets of numbers as bits of words of 64 bits ("The heap", freed map): number i is bit i mod 64 of word i / 64.
+-- Sets of numbers as bits of words of 64 bits ("The heap", freed map): each word has 64 numbers, the lowest in bit 0.
 use mathlib.Core.List.{List, [], _∷_, _++_}
 use mathlib.Core.Bool.{Bool, true, cond}
 use Prim.Native.Nat.{ℕ, zero, suc, _+_, _*_, _/_, _%_}
 use lib.ListN.{getD, set}
 use Rattle.layout.specs.Field.{flag, putFlag}
+use Rattle.layout.specs.Limits.{objectMax, mapLen}
+
+-- the words of the longest map that a heap has
+abbrev pub mapMax : ℕ
+mapMax = mapLen objectMax
 
 -- whether number i is in the set; a number past the end is not
 abbrev pub holds : ℕ → List ℕ → Bool

@@ -5,11 +5,11 @@ use lib.Dec.{eqb, ltb}
 use Rattle.layout.specs.Limits.{objectMax, rootMax, limitMin, limitMax, within}
 use Rattle.layout.specs.declared.answers.Control.{Control}
 
--- refusal 1: n or r outside its range
+-- refusal 1: the sizes are not both in range
 unfoldable pub badSizes : ℕ → ℕ → Bool
 badSizes n r = not (within 1 objectMax n) || not (within 1 rootMax r)
 
--- refusal 20: n or r out of range, last above n, the limit neither 0 nor in its range, a loss above n
+-- refusal 20: a field has a value that no call leaves there
 unfoldable pub badControl : Control → Bool
 badControl c =
     badSizes (c .n) (c .r) || ltb (c .n) (c .last) || not (eqb (c .limit) 0 || within limitMin limitMax (c .limit))

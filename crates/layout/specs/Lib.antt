@@ -6,3 +6,4 @@ pub mod Word
 pub mod Bits
 pub mod ControlRecord
 pub mod Refusal
+pub mod RefusalNumbers

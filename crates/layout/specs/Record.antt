@@ -16,7 +16,7 @@ isWritten r = flag 1 r
 abbrev pub isSink : ℕ → Bool
 isSink r = flag 2 r
 
--- out: the term of "The heap" for a member with a pointer to an object that is neither a sink nor in its cluster
+-- out: the term of "The heap" for a member one of whose pointers leaves its cluster, sinks not counted
 abbrev pub isOut : ℕ → Bool
 isOut r = flag 3 r
 
@@ -33,7 +33,7 @@ isReached r = flag 6 r
 abbrev pub width : ℕ → ℕ
 width r = field 8 4 r
 
--- the object number of the cluster's head, 0 for none
+-- the head of the object's cluster, by number; 0 in no cluster
 abbrev pub cluster : ℕ → ℕ
 cluster r = field 16 12 r
 
@@ -70,7 +70,7 @@ withCluster c r = put 16 12 c r
 unfoldable pub loose : ℕ → ℕ
 loose r = withCluster 0 (withOut false r)
 
--- the record of an object just given: in use with that width, and no other bit
+-- the record of an object just given: bit 0 and the width, nothing else
 unfoldable pub newRecord : ℕ → ℕ
 newRecord w = withWidth w (withUse true 0)
 
@@ -79,7 +79,7 @@ newRecord w = withWidth w (withUse true 0)
 unfoldable pub free : ℕ → Bool
 free r = eqb r 0
 
--- bits 4 to 6 and the unnamed bits 7, 12 to 15 and 28 to 31 are 0
+-- no flag of a walk is set, and no bit without a name: 7, 12 to 15, 28 to 31
 unfoldable pub clear : ℕ → Bool
 clear r = eqb (field 4 4 r) 0 && eqb (field 12 4 r) 0 && eqb (field 28 4 r) 0
 

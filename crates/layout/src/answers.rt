@@ -1,7 +1,7 @@
 // The control record and the answers of the calls, as they cross to C: structs of u32 by value.
 // `refusal` is 0 for an accepted call. After a refusal every count, word and number is 0 and the control record is the one handed in.
 
-// n objects, r roots, the number given last, the size limit (0 before the first analysis), and the two losses.
+// n objects, r roots, the number given last, the size limit (0 until there was an analysis), and the two losses.
 #[repr(C)]
 pub struct Control {
     pub n: u32,
@@ -42,7 +42,7 @@ pub struct Part {
     pub control: Control,
 }
 
-// The clusters that an analysis formed and left, and their members.
+// How many new clusters an analysis leaves, and how many objects are in them.
 #[repr(C)]
 pub struct Analysed {
     pub refusal: u32,

@@ -23,7 +23,7 @@ module _ (n : ℕ) (recs slots : List ℕ) where
   unfoldable pub emptyAt : ℕ → Bool
   emptyAt x = allOf isNil (otherWords n recs slots x)
 
-  -- each used slot is nil, an immediate, or names an object in use
+  -- the used slots are nil, immediates, or name objects in use
   unfoldable pub wordsAt : ℕ → Bool
   wordsAt x = allOf (λ w. isNil w || isImmediate w || names w) (usedWords n recs slots x)
 

@@ -1,0 +1,87 @@
+-- The sort of a word, from the tests of the word and back. Assumes nothing.
+use Prim.Native.Nat.{ℕ, _^_, _≤_}
+use mathlib.Core.Path.{_≡_, refl, sym}
+use mathlib.Core.Bool.{Bool, true, false, cond, _&&_, _||_, false≢true}
+use native.Mathlib.Omega.{arith}
+use lib.Dec.{leb}
+use borrow.Author.Tests.{le-leb, lt-leb, leb-true, ne-eqb}
+use Rattle.layout.specs.Limits.{objectMax}
+use Rattle.layout.specs.Word.{isNil, isPointer, isImmediate, legalWord, sortOf}
+use Rattle.layout.proofs.LimitLaws.{within-true, above-within}
+use Rattle.layout.specs.declared.words.Word.{Word}
+use Rattle.layout.specs.declared.words.Word.the-variants.{Nil, Object, Immediate, Illegal}
+
+pub pointer-bound : (n w : ℕ) → isPointer n w ≡ true → w ≤ n
+unfolding isPointer
+pointer-bound n w e = within-true 1 n w e .1
+
+-- ---- the four sorts, in a heap of n ≤ 4,095 objects
+
+module _ (n w : ℕ) (h : n ≤ objectMax) where
+  pub sort-nil : isNil w ≡ true → sortOf n w ≡ Nil
+  unfolding sortOf
+  sort-nil e = rw e refl
+
+  pub sort-pointer : isPointer n w ≡ true → sortOf n w ≡ Object w
+  unfolding sortOf isNil isPointer
+  sort-pointer e =
+      let b = within-true 1 n w e in
+      let z = b .0 in
+      let k = b .1 in
+      rw (ne-eqb w 0 (λ q. omega arith), e, le-leb w objectMax (omega arith)) refl
+
+  pub sort-immediate : isImmediate w ≡ true → sortOf n w ≡ Immediate
+  unfolding sortOf isNil isPointer isImmediate
+  sort-immediate e =
+      let b : 2 ^ 31 ≤ w = leb-true (2 ^ 31) w e in
+      rw (ne-eqb w 0 (λ q. omega arith), above-within 1 n w (omega arith), e) refl
+
+  pub sort-illegal : legalWord n w ≡ false → sortOf n w ≡ Illegal
+  unfolding sortOf legalWord
+  sort-illegal e = none (isNil w) (isPointer n w) (isImmediate w) e
+    where
+      none : (a b c : Bool) → a || b || c ≡ false → cond a Nil (cond (b && leb w objectMax) (Object w) (cond c Immediate Illegal)) ≡ Illegal
+      none false false false q = refl
+      none false false true q = absurd (false≢true (sym q))
+      none false true c q = absurd (false≢true (sym q))
+      none true b c q = absurd (false≢true (sym q))
+
+  -- no word has two sorts
+  pub pointer-not-nil : isPointer n w ≡ true → isNil w ≡ false
+  unfolding isPointer isNil
+  pointer-not-nil e = let b = within-true 1 n w e .0 in ne-eqb w 0 (λ q. omega arith)
+
+  pub pointer-not-immediate : isPointer n w ≡ true → isImmediate w ≡ false
+  unfolding isPointer isImmediate
+  pointer-not-immediate e = let b = within-true 1 n w e .1 in lt-leb (2 ^ 31) w (omega arith)
+
+  pub pointer-legal : isPointer n w ≡ true → legalWord n w ≡ true
+  unfolding legalWord
+  pointer-legal e = rw e (go (isNil w))
+    where
+      go : (p : Bool) → p || true || isImmediate w ≡ true
+      go true = refl
+      go false = refl
+
+-- ---- back: what an answered sort says
+
+-- what each sort says of the word
+pub Says : ℕ → ℕ → Word → Type 0
+Says n w Nil = (isNil w ≡ true)
+Says n w (Object i) = (i ≡ w) × (isPointer n w ≡ true)
+Says n w Immediate = (isImmediate w ≡ true)
+Says n w Illegal = (legalWord n w ≡ false)
+
+pub sort-says : (n w : ℕ) → n ≤ objectMax → Says n w (sortOf n w)
+unfolding Says sortOf legalWord
+sort-says n w h = go (isNil w) (isPointer n w) (isImmediate w) refl refl refl (λ e. le-leb w objectMax (below e))
+  where
+    below : isPointer n w ≡ true → w ≤ objectMax
+    below e = let b = pointer-bound n w e in omega arith
+
+    go : (a b c : Bool) → isNil w ≡ a → isPointer n w ≡ b → isImmediate w ≡ c → (b ≡ true → leb w objectMax ≡ true)
+        → Says n w (cond a Nil (cond (b && leb w objectMax) (Object w) (cond c Immediate Illegal)))
+    go true b c p q r m = p
+    go false true c p q r m = rw (m refl) (refl, q)
+    go false false true p q r m = r
+    go false false false p q r m = rw (p, q, r) refl

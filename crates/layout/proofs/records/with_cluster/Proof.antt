@@ -1,0 +1,10 @@
+-- `layout::records::with_cluster` puts the cluster. Assumes nothing.
+use Rattle.layout.proofs.FieldLaws.{set-bits}
+use Rattle.layout.proofs.records.with_cluster.Statement.{statement}
+use Rattle.layout.proofs.records.with_cluster.Tie as tie
+
+returns : tie.Need-returns
+returns c = set-bits 4 12 16 (c .args .c) (c .args .r) (c .fits .r .fits)
+
+pub with-cluster-spec : {M : Type 1} → statement M
+with-cluster-spec = tie.close (tie.spec returns)

@@ -1,0 +1,60 @@
+// The numbers of the refusals, and the tests of the control record.
+ghost use mathlib.Core.Path.{_≡_};
+ghost use Rattle.layout.specs.ControlRecord.{badSizes, badControl};
+use crate::answers::Control;
+use crate::limits::LIMIT_MAX;
+use crate::limits::LIMIT_MIN;
+use crate::limits::OBJECT_MAX;
+use crate::limits::ROOT_MAX;
+use crate::limits::within;
+
+// Refusals of a call's arguments.
+pub const BAD_SIZES: u32 = 1;
+
+pub const TOO_SHORT: u32 = 2;
+
+pub const TOO_WIDE: u32 = 3;
+
+pub const NO_OBJECT: u32 = 4;
+
+pub const NO_SLOT: u32 = 5;
+
+pub const BAD_WORD: u32 = 6;
+
+pub const NO_ROOT: u32 = 7;
+
+// Refusals of the heap that was handed in.
+pub const BAD_CONTROL: u32 = 20;
+
+pub const DAMAGED: u32 = 21;
+
+pub const IS_FREE: u32 = 22;
+
+pub const NAMES_NONE: u32 = 23;
+
+pub const FULL: u32 = 24;
+
+pub const LOSS_FULL: u32 = 25;
+
+// Whether n or r is outside its range.
+pub fn bad_sizes(n: u32, r: u32) -> bool
+    ensures { λ b. ⌜ b ≡ badSizes n r ⌝ }
+{
+    !within(1, OBJECT_MAX, n) || !within(1, ROOT_MAX, r)
+}
+
+// Whether the control record is refused.
+pub fn bad_control(c: Control) -> bool
+    ensures { λ b. ⌜ b ≡ badControl c ⌝ }
+{
+    if bad_sizes(c.n, c.r) {
+        return true;
+    }
+    if c.n < c.last {
+        return true;
+    }
+    if c.limit != 0 && !within(LIMIT_MIN, LIMIT_MAX, c.limit) {
+        return true;
+    }
+    c.n < c.write_loss || c.n < c.out_loss
+}

@@ -1,0 +1,52 @@
+/* Sizes of the structs, and control records as they cross to the proved test. */
+#include "../../include/pakzid.h"
+
+#include <stdio.h>
+
+static int failed;
+
+static void expect(const char *what, size_t got, size_t want)
+{
+    if (got != want) {
+        printf("%s: %zu, expected %zu\n", what, got, want);
+        failed = 1;
+    }
+}
+
+int main(void)
+{
+    expect("control", sizeof(pakzid_control), 24);
+    expect("done", sizeof(pakzid_done), 28);
+    expect("allocated", sizeof(pakzid_allocated), 32);
+    expect("word", sizeof(pakzid_word), 32);
+    expect("part", sizeof(pakzid_part), 36);
+    expect("analysed", sizeof(pakzid_analysed), 36);
+    expect("collected", sizeof(pakzid_collected), 40);
+
+    /* each row differs from a fine one in one field */
+    static const struct {
+        const char *what;
+        pakzid_control control;
+        uint32_t refusal;
+    } rows[] = {
+        {"least", {1, 1, 0, 0, 0, 0}, 0},
+        {"most", {4095, 64, 4095, 4095, 4095, 4095}, 0},
+        {"no objects", {0, 1, 0, 0, 0, 0}, 20},
+        {"too many objects", {4096, 1, 0, 0, 0, 0}, 20},
+        {"no roots", {10, 0, 0, 0, 0, 0}, 20},
+        {"too many roots", {10, 65, 0, 0, 0, 0}, 20},
+        {"last is n", {10, 1, 10, 0, 0, 0}, 0},
+        {"last above n", {10, 1, 11, 0, 0, 0}, 20},
+        {"limit 8", {10, 1, 0, 8, 0, 0}, 0},
+        {"limit 7", {10, 1, 0, 7, 0, 0}, 20},
+        {"limit 4096", {10, 1, 0, 4096, 0, 0}, 20},
+        {"write loss above n", {10, 1, 0, 0, 11, 0}, 20},
+        {"out loss above n", {10, 1, 0, 0, 0, 11}, 20},
+    };
+    for (size_t i = 0; i < sizeof rows / sizeof rows[0]; i++)
+        expect(rows[i].what, pakzid_control_ok(rows[i].control), rows[i].refusal);
+
+    if (!failed)
+        printf("control: ok\n");
+    return failed;
+}
