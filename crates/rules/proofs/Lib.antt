@@ -1,5 +1,40 @@
--- ---- lists and passes over them
+-- ---- tests, lists, records, the invariant, the plain heap of a state
+pub mod BoolLaws
 pub mod ListLaws
 pub mod PassLaws
--- ---- what the definitions compute
+pub mod LaidRecord
+pub mod ViewLaws
+pub mod Invariant
+pub mod Abstraction
+pub mod Simulation
+-- ---- every input: refusals, what may change, that the walks end
+pub mod Refused
+pub mod Frames
+pub mod WalksEnd
+-- ---- call by call, in a heap with the invariant
+pub mod ReadLaws
+pub mod SetRootLaws
+pub mod LaidLaws
+pub mod PointerLaws
+pub mod WriteLaws
+pub mod WriteFacts
+pub mod DeclareLaws
+pub mod AnalyseLaws
+pub mod AnalyseFacts
+pub mod CreateLaws
+pub mod AllocateLaws
+pub mod RoundLaws
+pub mod TraceLaws
+pub mod SweepLaws
+pub mod MapLaws
+pub mod CollectLaws
+pub mod Unmet
+-- ---- the records after a call, as code makes them
+pub mod Stores
+-- ---- the demands
+pub mod Calls
+pub mod Demand1
+pub mod Demand2
+pub mod Demand3
+-- ---- what is computed from the definitions
 pub mod Trials

@@ -2,18 +2,17 @@
 -- Assumes nothing.
 use Prim.Native.Nat.{ℕ, zero, suc, _+_, _-_, _*_, _/_, _≤_, _<_}
 use mathlib.Core.Path.{_≡_, refl, sym, ap, ap₂, _∙_}
-use mathlib.Core.Bool.{Bool, true, false, _&&_, false≢true}
+use mathlib.Core.Bool.{Bool, true}
 use mathlib.Core.List.{List, [], _∷_, map, List·Memᴰ, List·Memᴰ·head, List·Memᴰ·tail}
 use mathlib.Core.Logic.{_≢_, _⊎_, inl, inr}
 use native.Mathlib.Nat.{le-suc-iff}
 use native.Mathlib.Decide.{decLe}
 use native.Mathlib.Omega.{arith}
-use lib.ListN.{length, getD, take, drop, set}
-use lib.ListN.{length-take, length-drop, List·getD-eq-default}
-use lib.Seq.{take-set-le, take-set-lt, drop-set-lt, drop-set-add, length-take-le}
-use lib.ListN.{replicate}
+use lib.ListN.{length, getD, take, drop, set, length-take, length-drop, List·getD-eq-default, replicate}
+use lib.Seq.{take-set-le, take-set-lt, drop-set-lt, drop-set-add, length-take-le, getD-take, getD-set-same, getD-set-other}
 use Rattle.layout.specs.Limits.{slotsLen}
-use Rattle.rules.specs.Buffers.{recOf, eachFrom, eachRecord, eachSlot, eight, allOf, allTo, numbers, zeros}
+use Rattle.rules.specs.Buffers.{recOf, eachFrom, eachRecord, eachSlot, eight, allOf, allTo, numbers}
+use Rattle.rules.proofs.BoolLaws.{and-split}
 
 -- ---- eachFrom
 
@@ -23,7 +22,8 @@ length-each i zero f l = refl
 length-each i (suc k) f [] = refl
 length-each i (suc k) f (w ∷ l) = ap suc (length-each (suc i) k f l)
 
-pub get-each : {A : Type 0} (i k : ℕ) (f : ℕ → A → A) (l : List A) (j : ℕ) (d : A) → j < k → j < length l → getD (eachFrom i k f l) j d ≡ f (i + j) (getD l j d)
+pub get-each : {A : Type 0} (i k : ℕ) (f : ℕ → A → A) (l : List A) (j : ℕ) (d : A) → j < k → j < length l → getD (eachFrom i k f l) j d
+    ≡ f (i + j) (getD l j d)
 unfolding eachFrom
 get-each i zero f l j d p q = absurd (omega arith)
 get-each i (suc k) f [] j d p q = absurd (omega arith)
@@ -60,7 +60,8 @@ take-each i zero f l (suc m) p = absurd (omega arith)
 take-each i (suc k) f [] (suc m) p = refl
 take-each i (suc k) f (w ∷ l) (suc m) p = ap (λ r. f i w ∷ r) (take-each (suc i) k f l m (omega arith))
 
-pub each-same : {A : Type 0} (i k : ℕ) (f g : ℕ → A → A) (l : List A) → ((j : ℕ) (w : A) → i ≤ j → j < i + k → f j w ≡ g j w) → eachFrom i k f l ≡ eachFrom i k g l
+pub each-same : {A : Type 0} (i k : ℕ) (f g : ℕ → A → A) (l : List A) → ((j : ℕ) (w : A) → i ≤ j → j < i + k → f j w ≡ g j w) → eachFrom i k f l
+    ≡ eachFrom i k g l
 unfolding eachFrom
 each-same i zero f g l h = refl
 each-same i (suc k) f g [] h = refl
@@ -80,6 +81,13 @@ each-map i zero f (w ∷ l) p = absurd (omega arith)
 each-map i (suc k) f [] p = refl
 each-map i (suc k) f (w ∷ l) p = ap (λ r. f w ∷ r) (each-map (suc i) k f l (omega arith))
 
+-- one change after the other
+pub each-each : {A : Type 0} (i k : ℕ) (f g : ℕ → A → A) (l : List A) → eachFrom i k g (eachFrom i k f l) ≡ eachFrom i k (λ x w. g x (f x w)) l
+unfolding eachFrom
+each-each i zero f g l = refl
+each-each i (suc k) f g [] = refl
+each-each i (suc k) f g (w ∷ l) = ap (λ r. g i (f i w) ∷ r) (each-each (suc i) k f g l)
+
 -- past the words that change all is as it was
 pub drop-past : {A : Type 0} (i k : ℕ) (f : ℕ → A → A) (l : List A) → drop k (eachFrom i k f l) ≡ drop k l
 unfolding eachFrom
@@ -87,20 +95,46 @@ drop-past i zero f l = refl
 drop-past i (suc k) f [] = refl
 drop-past i (suc k) f (w ∷ l) = drop-past (suc i) k f l
 
--- where only the one at j changes
-pub each-set : {A : Type 0} (i k : ℕ) (f : ℕ → A → A) (l : List A) (j : ℕ) (v : A) → j < k
-    → ((w : A) → getD l j v ≡ w → f (i + j) w ≡ v) → ((x : ℕ) (w : A) → i ≤ x → x < i + k → x ≢ i + j → f x w ≡ w) → eachFrom i k f l ≡ set l j v
+-- where every word becomes 0
+pub take-zeros : (j k : ℕ) (l : List ℕ) → k ≤ length l → take k (eachFrom j k (λ _ w. 0) l) ≡ replicate k 0
 unfolding eachFrom
-each-set i zero f l j v p e h = absurd (omega arith)
-each-set i (suc k) f [] zero v p e h = refl
-each-set i (suc k) f [] (suc j) v p e h = refl
-each-set i (suc k) f (w ∷ l) zero v p e h =
+take-zeros j zero l p = refl
+take-zeros j (suc k) [] p = absurd (omega arith)
+take-zeros j (suc k) (w ∷ l) p = ap (λ r. 0 ∷ r) (take-zeros (suc j) k l (omega arith))
+
+-- two changes that do the same to each element
+pub each-alike : {A : Type 0} (i k : ℕ) (f g : ℕ → A → A) (l : List A) (d : A)
+    → ((m : ℕ) → m < k → m < length l → f (i + m) (getD l m d) ≡ g (i + m) (getD l m d)) → eachFrom i k f l ≡ eachFrom i k g l
+unfolding eachFrom
+each-alike i zero f g l d h = refl
+each-alike i (suc k) f g [] d h = refl
+each-alike i (suc k) f g (w ∷ l) d h =
     let z : i + 0 ≡ i = omega arith in
-    ap₂ (λ x r. x ∷ r) (ap (λ (y : ℕ). f y w) (sym z) ∙ e w refl) (each-same (suc i) k f (λ x w. w) l (λ x u a b. h x u (omega arith) (omega arith) (omega arith)) ∙ each-id (suc i) k l)
-each-set i (suc k) f (w ∷ l) (suc j) v p e h =
+    ap₂ (λ x r. x ∷ r) (ap (λ (y : ℕ). f y w) (sym z) ∙ h 0 (omega arith) (omega arith) ∙ ap (λ (y : ℕ). g y w) z)
+    (each-alike (suc i) k f g l d (λ m p q.
+    let e : suc i + m ≡ i + suc m = omega arith in
+    ap (λ (y : ℕ). f y (getD l m d)) e ∙ h (suc m) (omega arith) (omega arith) ∙ ap (λ (y : ℕ). g y (getD l m d)) (sym e)))
+
+-- a change of the one at j alone
+pub each-set : {A : Type 0} (i k : ℕ) (f : ℕ → A → A) (l : List A) (j : ℕ) (v d : A) → j < k → f (i + j) (getD l j d) ≡ v
+    → ((m : ℕ) → m < k → m < length l → m ≢ j → f (i + m) (getD l m d) ≡ getD l m d) → eachFrom i k f l ≡ set l j v
+unfolding eachFrom
+each-set i zero f l j v d p e h = absurd (omega arith)
+each-set i (suc k) f [] zero v d p e h = refl
+each-set i (suc k) f [] (suc j) v d p e h = refl
+each-set i (suc k) f (w ∷ l) zero v d p e h =
+    let z : i + 0 ≡ i = omega arith in
+    ap₂ (λ x r. x ∷ r) (ap (λ (y : ℕ). f y w) (sym z) ∙ e)
+    (each-alike (suc i) k f (λ x w. w) l d (λ m q r.
+    let y : suc i + m ≡ i + suc m = omega arith in
+    ap (λ (y : ℕ). f y (getD l m d)) y ∙ h (suc m) (omega arith) (omega arith) (omega arith)) ∙ each-id (suc i) k l)
+each-set i (suc k) f (w ∷ l) (suc j) v d p e h =
     let z : suc i + j ≡ i + suc j = omega arith in
-    ap₂ (λ x r. x ∷ r) (h i w (omega arith) (omega arith) (omega arith))
-    (each-set (suc i) k f l j v (omega arith) (λ u q. ap (λ (y : ℕ). f y u) z ∙ e u q) (λ x u a b d. h x u (omega arith) (omega arith) (λ q. d (q ∙ sym z))))
+    let o : i + 0 ≡ i = omega arith in
+    ap₂ (λ x r. x ∷ r) (ap (λ (y : ℕ). f y w) (sym o) ∙ h 0 (omega arith) (omega arith) (omega arith))
+    (each-set (suc i) k f l j v d (omega arith) (ap (λ (y : ℕ). f y (getD l j d)) z ∙ e) (λ m q r n.
+    let y : suc i + m ≡ i + suc m = omega arith in
+    ap (λ (y : ℕ). f y (getD l m d)) y ∙ h (suc m) (omega arith) (omega arith) (omega (arith, n))))
 
 -- ---- records
 
@@ -109,7 +143,8 @@ unfolding recOf
 recOf-above n recs zero p = refl
 recOf-above n recs (suc i) p = List·getD-eq-default (take n recs) 0 (let a = length-take n recs in omega arith)
 
-pub recOf-each : (n : ℕ) (f : ℕ → ℕ → ℕ) (recs : List ℕ) (x : ℕ) → 1 ≤ x → x ≤ n → n ≤ length recs → recOf n (eachRecord n f recs) x ≡ f x (recOf n recs x)
+pub recOf-each : (n : ℕ) (f : ℕ → ℕ → ℕ) (recs : List ℕ) (x : ℕ) → 1 ≤ x → x ≤ n → n ≤ length recs → recOf n (eachRecord n f recs) x
+    ≡ f x (recOf n recs x)
 unfolding recOf eachRecord
 recOf-each n f recs zero p q l = absurd (omega arith)
 recOf-each n f recs (suc i) p q l =
@@ -117,6 +152,41 @@ recOf-each n f recs (suc i) p q l =
     ap (λ (r : List ℕ). getD r i 0) (take-each 1 n f recs n (omega arith))
     ∙ get-each 1 n f (take n recs) i 0 (omega arith) (omega arith)
     ∙ ap (λ (y : ℕ). f y (getD (take n recs) i 0)) (omega arith)
+
+-- the record of object m + 1 at its place in the list
+pub rec-get : (n : ℕ) (recs : List ℕ) (m : ℕ) → m < n → recOf n recs (suc m) ≡ getD recs m 0
+unfolding recOf
+rec-get n recs m p = getD-take n recs m 0 p
+
+pub records-alike : (n : ℕ) (f g : ℕ → ℕ → ℕ) (recs : List ℕ) → ((x : ℕ) → 1 ≤ x → x ≤ n → f x (recOf n recs x) ≡ g x (recOf n recs x))
+    → eachRecord n f recs ≡ eachRecord n g recs
+unfolding eachRecord
+records-alike n f g recs h =
+    each-alike 1 n f g recs 0 (λ m p q.
+    let z : 1 + m ≡ suc m = omega arith in
+    rw z (rw (sym (rec-get n recs m p)) (h (suc m) (omega arith) p)))
+
+-- a change of the record of object i + 1 alone
+pub records-set : (n : ℕ) (f : ℕ → ℕ → ℕ) (recs : List ℕ) (i v : ℕ) → i < n → f (suc i) (recOf n recs (suc i)) ≡ v
+    → ((x : ℕ) → 1 ≤ x → x ≤ n → x ≢ suc i → f x (recOf n recs x) ≡ recOf n recs x) → eachRecord n f recs ≡ set recs i v
+unfolding eachRecord
+records-set n f recs i v p e h =
+    let z : 1 + i ≡ suc i = omega arith in
+    each-set 1 n f recs i v 0 p (rw z (rw (sym (rec-get n recs i p)) e)) (λ m q r d.
+    let y : 1 + m ≡ suc m = omega arith in
+    rw y (rw (sym (rec-get n recs m q)) (h (suc m) (omega arith) q (omega (arith, d)))))
+
+pub recOf-set : (n : ℕ) (recs : List ℕ) (i v : ℕ) → i < n → n ≤ length recs → recOf n (set recs i v) (suc i) ≡ v
+recOf-set n recs i v p q = rec-get n (set recs i v) i p ∙ getD-set-same recs i v 0 (omega arith)
+
+pub recOf-set-other : (n : ℕ) (recs : List ℕ) (i v x : ℕ) → x ≢ suc i → recOf n (set recs i v) x ≡ recOf n recs x
+unfolding recOf
+recOf-set-other n recs i v zero e = refl
+recOf-set-other n recs i v (suc m) e = go (decLe (suc m) n)
+  where
+    go : Dec (suc m ≤ n) → getD (take n (set recs i v)) m 0 ≡ getD (take n recs) m 0
+    go (yes l) = getD-take n (set recs i v) m 0 l ∙ getD-set-other recs i m v 0 (omega (arith, e)) ∙ sym (getD-take n recs m 0 l)
+    go (no l) = recOf-above n (set recs i v) (suc m) (omega (arith, l)) ∙ sym (recOf-above n recs (suc m) (omega (arith, l)))
 
 -- ---- the eight words of an object
 
@@ -158,16 +228,31 @@ eight-each n f slots (suc i) p q =
     ∙ each-same (0 + 8 * i) 8 g (λ j w. f (suc i) w) (take 8 (drop (8 * i) slots)) (λ j w a b. ap (λ (y : ℕ). f y w) (omega arith))
     ∙ each-map (0 + 8 * i) 8 (f (suc i)) (take 8 (drop (8 * i) slots)) (let e = length-take 8 (drop (8 * i) slots) in omega arith)
 
--- ---- tests on all
+-- ---- mapped lists
 
-and-both : (a b : Bool) → (a && b) ≡ true → (a ≡ true) × (b ≡ true)
-and-both true b e = (refl, e)
-and-both false b e = absurd (false≢true e)
+pub map-id : (f : ℕ → ℕ) (l : List ℕ) → ((w : ℕ) → f w ≡ w) → map f l ≡ l
+map-id f [] h = refl
+map-id f (w ∷ l) h = ap₂ (λ x r. x ∷ r) (h w) (map-id f l h)
+
+pub map-set : (f : ℕ → ℕ) (l : List ℕ) (k w : ℕ) → map f (set l k w) ≡ set (map f l) k (f w)
+map-set f [] k w = refl
+map-set f (x ∷ l) zero w = refl
+map-set f (x ∷ l) (suc k) w = ap (λ r. f x ∷ r) (map-set f l k w)
+
+pub map-of : (f : ℕ → ℕ) (l : List ℕ) (y : ℕ) → List·Memᴰ y (map f l) → (w : ℕ) × List·Memᴰ w l × (y ≡ f w)
+map-of f (x ∷ l) y (List·Memᴰ·head e) = (x, List·Memᴰ·head refl, e)
+map-of f (x ∷ l) y (List·Memᴰ·tail m) = let a = map-of f l y m in (a .0, List·Memᴰ·tail (a .1), a .2)
+
+pub map-in : (f : ℕ → ℕ) (l : List ℕ) (w : ℕ) → List·Memᴰ w l → List·Memᴰ (f w) (map f l)
+map-in f (x ∷ l) w (List·Memᴰ·head e) = List·Memᴰ·head (ap f e)
+map-in f (x ∷ l) w (List·Memᴰ·tail m) = List·Memᴰ·tail (map-in f l w m)
+
+-- ---- tests on all
 
 pub allOf-at : (t : ℕ → Bool) (l : List ℕ) (w : ℕ) → allOf t l ≡ true → List·Memᴰ w l → t w ≡ true
 unfolding allOf
-allOf-at t (x ∷ l) w e (List·Memᴰ·head p) = rw p (and-both (t x) (allOf t l) e .0)
-allOf-at t (x ∷ l) w e (List·Memᴰ·tail m) = allOf-at t l w (and-both (t x) (allOf t l) e .1) m
+allOf-at t (x ∷ l) w e (List·Memᴰ·head p) = rw p (and-split (t x) (allOf t l) e .0)
+allOf-at t (x ∷ l) w e (List·Memᴰ·tail m) = allOf-at t l w (and-split (t x) (allOf t l) e .1) m
 
 pub allOf-all : (t : ℕ → Bool) (l : List ℕ) → ((w : ℕ) → List·Memᴰ w l → t w ≡ true) → allOf t l ≡ true
 unfolding allOf
@@ -182,7 +267,7 @@ allTo-all (suc n) t h = rw (allTo-all n t (λ x p q. h x p (omega arith)), h (su
 pub allTo-at : (n : ℕ) (t : ℕ → Bool) → allTo n t ≡ true → (x : ℕ) → 1 ≤ x → x ≤ n → t x ≡ true
 unfolding allTo
 allTo-at zero t e x p q = absurd (omega arith)
-allTo-at (suc n) t e x p q = let a = and-both (allTo n t) (t (suc n)) e in go (λ l. allTo-at n t (a .0) x p l) (a .1) (le-suc-iff .0 q)
+allTo-at (suc n) t e x p q = let a = and-split (allTo n t) (t (suc n)) e in go (λ l. allTo-at n t (a .0) x p l) (a .1) (le-suc-iff .0 q)
   where
     go : (x ≤ n → t x ≡ true) → t (suc n) ≡ true → (x ≤ n) ⊎ (x ≡ suc n) → t x ≡ true
     go r b (inl l) = r l

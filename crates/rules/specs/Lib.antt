@@ -16,5 +16,7 @@ pub mod Collect
 pub mod Calls
 pub mod Plain
 pub mod Steps
+-- ---- the demands
+pub mod Demands
 -- ---- what is computed from them
 pub mod Trials

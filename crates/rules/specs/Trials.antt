@@ -229,6 +229,15 @@ ownRows =
     }
     -- a plain collection that frees a head dissolves its cluster too
     ∷ onH (setRoot 0 3 ∷ []) (plain 16) (0 ∷ 4 ∷ 2 ∷ 2 ∷ 86 ∷ []) (0 ∷ 0 ∷ 0 ∷ 0 ∷ 0 ∷ 0 ∷ 0 ∷ [])
+    -- 1 is freed: the next object given is 3, past the last one; and with 3 the last of three, 1 is given again
+    ∷ record {
+      from = new 16 2;
+      before = allocate 1 ∷ allocate 1 ∷ setRoot 0 2 ∷ plain 16 ∷ [];
+      call = allocate 1;
+      answers = 0 ∷ 3 ∷ [];
+      stands = 0 ∷ 0 ∷ 0 ∷ 0 ∷ [];
+    }
+    ∷ fresh (given 3 0 0 (0 ∷ replicate 2 (rec 1 0 0)) (one 0 ++ one 3 ++ one 0) 2) (allocate 1) (0 ∷ 1 ∷ []) (0 ∷ 0 ∷ [])
     ∷ onH [] (read 1 1) (0 ∷ 3 ∷ []) (0 ∷ 1 ∷ 1 ∷ 1 ∷ 1 ∷ 1 ∷ 1 ∷ [])
     ∷ onH [] (show 1) (0 ∷ 2 ∷ 3 ∷ 0 ∷ []) (0 ∷ 1 ∷ 1 ∷ 1 ∷ 1 ∷ 1 ∷ 1 ∷ [])
     ∷ []

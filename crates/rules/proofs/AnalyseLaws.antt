@@ -1,0 +1,153 @@
+-- Analyse, of the buffers; the plain heap passes it over.
+-- Assumes nothing.
+use Prim.Native.Nat.{ℕ, _≤_}
+use mathlib.Core.Path.{_≡_, refl, sym, ap, _∙_}
+use mathlib.Core.Bool.{Bool, false}
+use mathlib.Core.List.{List, map}
+use mathlib.Core.Logic.{_≢_, _⊎_, inl, inr}
+use native.Mathlib.Nat.{suc-ne-zero}
+use native.Mathlib.Omega.{arith}
+use Rattle.layout.specs.ControlRecord.{withAnalysis}
+use Rattle.layout.specs.Field.{field, flag}
+use Rattle.layout.specs.declared.answers.Control.{Control}
+use Rattle.layout.proofs.ControlLaws.{analysis-sound}
+use Rattle.graph.specs.Analysis.{walked, stays, leftClusters, outLossOf}
+use Rattle.graph.specs.Analysis as Graph
+use Rattle.graph.specs.Clusters.{outBit}
+use Rattle.graph.specs.Heap.{Heap}
+use Rattle.graph.proofs.AnalysisLaws.{analyse-good, outLoss-le, walked-met}
+use Rattle.graph.proofs.Paths.{keep-zero}
+use Rattle.graph.proofs.State.{Good, good-ready}
+use Rattle.rules.specs.Analyse.{rule, nextLimit, usedCount, analysed}
+use Rattle.rules.specs.View.{view, target, laid}
+use Rattle.rules.specs.Calls.{analyse}
+use Rattle.rules.specs.Analyse as Analyse
+use Rattle.rules.specs.Plain.{Cell, plainStep}
+use Rattle.rules.specs.Steps.{State, step}
+use Rattle.rules.specs.Demands.{heapOf, wordsOf, rec, rootsOf}
+use Rattle.rules.proofs.ListLaws.{same-numbers}
+use Rattle.rules.proofs.Invariant.{Inv}
+use Rattle.rules.proofs.Abstraction.{plainOf, cellOf, cellsOf}
+use Rattle.rules.proofs.Simulation.{Same, all-by}
+use Rattle.rules.proofs.LaidLaws.{laid-inv, laid-cell, view-laid}
+use Rattle.rules.proofs.PointerLaws.{kids-in-use, roots-in-use, roots-low, sinks-in-use}
+
+-- ---- the call
+
+pub limit-range : (c : Control) (used : ℕ) → (8 ≤ nextLimit c used) × (nextLimit c used ≤ 4095)
+unfolding nextLimit
+limit-range c used = (omega arith, omega arith)
+
+module _ (s : State) (I : Inv s) (work : List ℕ) where
+  abbrev H : Heap
+  H = heapOf s
+
+  abbrev limit : ℕ
+  limit = nextLimit (s .control) (usedCount (s .control .n) (s .records))
+
+  abbrev roots : List ℕ
+  roots = rootsOf s
+
+  abbrev cl′ : ℕ → ℕ
+  cl′ = leftClusters rule H limit roots
+
+  low : 1 ≤ limit
+  low = let a = limit-range (s .control) (usedCount (s .control .n) (s .records)) in omega (arith, a .0)
+
+  G : Good (Graph.analyse rule H limit roots .heap) 0
+  unfolding view
+  G = analyse-good rule H limit roots (s .control .«write_loss») (I .good) low (roots-low s I)
+
+  abbrev Used : ℕ → Type 0
+  Used y = rec s y ≢ 0
+
+  -- who has a cluster is in use, so the walk leads from objects in use only to such
+  clustered-used : (x : ℕ) → H .cluster x ≢ 0 → Used x
+  unfolding view field
+  clustered-used x nz e = nz (rw e refl)
+
+  blank-cl : (x : ℕ) → rec s x ≡ 0 → cl′ x ≡ 0
+  unfolding view field
+  blank-cl x e =
+      go
+      (walked-met H limit (good-ready (I .good)) low Used (λ x y u m nz. used y nz (kids-in-use s I x y m)) (λ o y u nz j b. clustered-used y (λ z. nz (sym j ∙ z)))
+      roots (roots-low s I) (λ y m nz. used y nz (roots-in-use s I y m)) (λ y b q. sinks-in-use s I y q) x)
+    where
+      used : (y : ℕ) → y ≢ 0 → (y ≡ 0) ⊎ Used y → Used y
+      used y nz (inl z) = absurd (nz z)
+      used y nz (inr u) = u
+
+      none : H .cluster x ≡ 0
+      none = rw e refl
+
+      go : (walked H limit roots x ≡ H .cluster x) ⊎ Used x → leftClusters rule H limit roots x ≡ 0
+      go (inl i) = unfold leftClusters in (keep-zero (stays rule H (walked H limit roots)) (walked H limit roots) x (i ∙ none))
+      go (inr d) = absurd (d e)
+
+  blank : (x : ℕ) → rec s x ≡ 0 → (_≡_ {A = Bool} false false) × (H .sink x ≡ false) × (cl′ x ≡ 0)
+  unfolding view flag field
+  blank x e = (refl, rw e refl, blank-cl x e)
+
+  abbrev out′ : ℕ → Bool
+  out′ = outBit (H .kids) (H .sink) cl′
+
+  same-kids : (x : ℕ) → map (target (s .control .n)) (wordsOf s x) ≡ H .kids x
+  unfolding view
+  same-kids x = refl
+
+  abbrev after : State
+  after = record {
+    control = record { n = s .control .n; r = s .control .r; last = s .control .last; limit = limit; «write_loss» = 0; «out_loss» = Graph.analyse rule H limit roots .outLoss };
+    records = laid (Graph.analyse rule H limit roots .heap) (s .records);
+    slots = s .slots;
+    roots = s .roots;
+  }
+
+  after-inv : Inv after
+  unfolding Graph.analyse view withAnalysis
+  after-inv =
+      let l = limit-range (s .control) (usedCount (s .control .n) (s .records)) in
+      laid-inv s I (H .kids) (H .sink) (λ x. false) out′ cl′ 0 G blank (s .slots) same-kids (s .control .last) limit (outLossOf rule H (walked H limit roots))
+      (analysis-sound (s .control) (I .sound) limit _ (l .0) (l .1) (outLoss-le rule H (walked H limit roots)))
+      (I .slots-long) (I .empty) (I .named)
+
+  after-cells : cellsOf (s .control .n) (after .records) (s .slots) ≡ cellsOf (s .control .n) (s .records) (s .slots)
+  unfolding cellsOf
+  after-cells = same-numbers _ _ 1 (s .control .n) (λ x p q. cell x)
+    where
+      cell : (x : ℕ) → cellOf (s .control .n) (after .records) (s .slots) x ≡ cellOf (s .control .n) (s .records) (s .slots) x
+      cell x =
+          unfold Graph.analyse view in
+          (laid-cell s I (H .kids) (H .sink) (λ x. false) out′ cl′ 0 G blank (s .slots) same-kids x) ∙ unfold cellOf view flag field in refl
+
+  abbrev stateOf : Analyse.Outcome → State
+  stateOf o = record { control = o .answer .control; records = o .records; slots = s .slots; roots = s .roots }
+
+  pub analyse-inv : Inv (step (analyse work) s .after)
+  unfolding step Analyse.analyse Analyse.limitAfter analysed withAnalysis
+  analyse-inv = all-by (λ (o : Analyse.Outcome). Inv (stateOf o)) _ _ _ (λ z. after-inv) (λ m. I)
+
+  pub analyse-same : Same (analyse work) s
+  unfolding step Analyse.analyse Analyse.limitAfter analysed plainStep withAnalysis
+  analyse-same = record {
+    answers = refl;
+    after = all-by (λ (o : Analyse.Outcome). plainOf (stateOf o) ≡ plainOf s) _ _ _
+        (λ z. ap (λ (l : List Cell). record { last = s .control .last; roots = rootsOf s; cells = l }) after-cells) (λ m. refl);
+  }
+
+  after-view : view (s .control .n) (after .records) (s .slots) ≡ Graph.analyse rule H limit roots .heap
+  unfolding Graph.analyse view
+  after-view = view-laid s I (H .kids) (H .sink) (λ x. false) out′ cl′ 0 G blank (s .slots) same-kids
+
+  -- the buffers hold the heap that the rule gives
+  pub analyse-ruled : Analyse.analyse (s .control) (s .records) (s .slots) (s .roots) work .answer .refusal ≡ 0
+      → heapOf (step (analyse work) s .after)
+      ≡ Graph.analyse rule (heapOf s) (Analyse.limitAfter (s .control) (s .records) (s .slots) (s .roots) work) (rootsOf s) .heap
+  unfolding step Analyse.analyse Analyse.limitAfter analysed withAnalysis
+  analyse-ruled =
+      all-by (λ (o : Analyse.Outcome). o .answer .refusal ≡ 0 → view (o .answer .control .n) (o .records) (s .slots) ≡ Graph.analyse rule H limit roots .heap) _ _ _
+      (λ z e. after-view) (λ m e. absurd (suc-ne-zero m e))
+
+  pub limit-low : 1 ≤ Analyse.limitAfter (s .control) (s .records) (s .slots) (s .roots) work
+  unfolding Analyse.limitAfter
+  limit-low = low

@@ -1,0 +1,35 @@
+-- Every call keeps the invariant, so every heap that the calls made has it.
+-- Assumes nothing.
+use Prim.Native.Nat.{ℕ}
+use mathlib.Core.Path.{_≡_, sym, subst}
+use mathlib.Core.List.{List}
+use Rattle.rules.specs.Create.{create}
+use Rattle.rules.specs.Calls.{Call, allocate, read, show, write, setRoot, declareSink, collect, analyse}
+use Rattle.rules.specs.Plain.{answer}
+use Rattle.rules.specs.Steps.{State, created, step}
+use Rattle.rules.specs.Demands.{Made, new, called}
+use Rattle.rules.proofs.Invariant.{Inv}
+use Rattle.rules.proofs.SetRootLaws.{root-inv}
+use Rattle.rules.proofs.WriteLaws.{write-inv}
+use Rattle.rules.proofs.DeclareLaws.{declare-inv}
+use Rattle.rules.proofs.AnalyseLaws.{analyse-inv}
+use Rattle.rules.proofs.CreateLaws.{accepted, zeroed-inv}
+use Rattle.rules.proofs.AllocateLaws.{allocate-inv}
+use Rattle.rules.proofs.CollectLaws.{collect-inv}
+
+pub step-inv : (call : Call) (s : State) → Inv s → Inv (step call s .after)
+step-inv (allocate width) s I = allocate-inv s I width
+step-inv (read i k) s I = unfold step answer in I
+step-inv (show i) s I = unfold step answer in I
+step-inv (write i k w) s I = write-inv s I i k w
+step-inv (setRoot j w) s I = root-inv s I j w
+step-inv (declareSink i) s I = declare-inv s I i
+step-inv (collect kind work map) s I = collect-inv s I kind work map
+step-inv (analyse work) s I = analyse-inv s I work
+
+pub created-inv : (n r : ℕ) (recs slots roots : List ℕ) → create n r recs slots roots .answer .refusal ≡ 0 → Inv (created n r recs slots roots)
+created-inv n r recs slots roots e = let a = accepted n r recs slots roots e in subst Inv (sym (a .1)) (zeroed-inv n r recs slots roots (a .0))
+
+pub made-inv : {s : State} → Made s → Inv s
+made-inv (new n r recs slots roots e p) = subst Inv (sym p) (created-inv n r recs slots roots e)
+made-inv (called {s = s} call m p) = subst Inv (sym p) (step-inv call s (made-inv m))

@@ -1,0 +1,163 @@
+-- Demand 3, proved.
+-- Assumes nothing.
+use Prim.Native.Nat.{ℕ, zero, suc, _+_, _-_, _*_, _≤_, _<_}
+use mathlib.Core.Path.{_≡_, refl, sym, ap, ap₂, _∙_, subst}
+use mathlib.Core.Bool.{true}
+use mathlib.Core.List.{List, [], _∷_, _++_, map}
+use native.Mathlib.Omega.{arith}
+use lib.ListN.{length, take, drop, replicate, length-drop, take-append-drop}
+use lib.Seq.{take-add, drop-drop}
+use borrow.Author.Tests.{eqb-true}
+use Rattle.layout.specs.Limits.{slotsLen}
+use Rattle.layout.specs.Record.{width}
+use Rattle.layout.specs.Word.{isNil}
+use Rattle.layout.specs.ControlRecord.{withLast, withWriteLoss, withAnalysis, newControl}
+use Rattle.rules.specs.Buffers.{eight, usedWords, otherWords, allOf, numbers}
+use Rattle.rules.specs.Collect.{plainly, byClusters}
+use Rattle.rules.specs.Collect as Collect
+use Rattle.rules.specs.Allocate as Allocate
+use Rattle.rules.specs.Write as Write
+use Rattle.rules.specs.Analyse as Analyse
+use Rattle.rules.specs.Calls.{Call, allocate, read, show, write, setRoot, declareSink, collect, analyse}
+use Rattle.rules.specs.Plain.{Plain, Cell, eightOf, plainSlots, plainStep, plainCreated, answer}
+use Rattle.rules.specs.Steps.{State, step, answersOf, afterAll}
+use Rattle.rules.specs.Demands.{Lent, ScansFew, Alike, Demand3, PlainKeeps, wordsOf, rec}
+use Rattle.rules.proofs.ListLaws.{length-eight}
+use Rattle.rules.proofs.BoolLaws.{and-split}
+use Rattle.rules.proofs.Invariant.{Inv}
+use Rattle.rules.proofs.Abstraction.{plainOf, cellOf, cellsOf, cell-words}
+use Rattle.rules.proofs.Simulation.{Same, all-by, used-length}
+use Rattle.rules.proofs.ReadLaws.{read-same, show-same}
+use Rattle.rules.proofs.SetRootLaws.{root-same}
+use Rattle.rules.proofs.WriteLaws.{write-same}
+use Rattle.rules.proofs.DeclareLaws.{declare-same}
+use Rattle.rules.proofs.AnalyseLaws.{analyse-same}
+use Rattle.rules.proofs.RoundLaws.{plain-reach}
+use Rattle.rules.proofs.CreateLaws.{accepted, zeroed-inv, zeroed-plain}
+use Rattle.rules.proofs.AllocateLaws.{allocate-same}
+use Rattle.rules.proofs.CollectLaws.{collect-same, collect-is, scans-few}
+use Rattle.rules.proofs.Calls.{step-inv}
+
+-- ---- the slots are the plain heap's
+
+nil-list : (l : List ℕ) → allOf isNil l ≡ true → l ≡ replicate (length l) 0
+unfolding allOf isNil
+nil-list [] e = refl
+nil-list (w ∷ l) e = let t = and-split _ _ e in ap₂ (λ x r. x ∷ r) (eqb-true w 0 (t .0)) (nil-list l (t .1))
+
+slots-by : (f : ℕ → Cell) (slots : List ℕ) (k i : ℕ) → ((x : ℕ) → suc i ≤ x → x < suc i + k → eightOf (f x) ≡ eight slots x)
+    → plainSlots (map f (numbers (suc i) k)) ≡ take (8 * k) (drop (8 * i) slots)
+unfolding plainSlots numbers eight
+slots-by f slots zero i h = refl
+slots-by f slots (suc k) i h =
+    let a : 8 * suc k ≡ 8 + 8 * k = omega arith in
+    let b : 8 * i + 8 ≡ 8 * suc i = omega arith in
+    ap₂ _++_ (h (suc i) (omega arith) (omega arith)) (slots-by f slots k (suc i) (λ x p q. h x (omega arith) (omega arith)))
+    ∙ sym (ap (λ (m : ℕ). take m (drop (8 * i) slots)) a ∙ take-add 8 (8 * k) (drop (8 * i) slots)
+    ∙ ap (λ (l : List ℕ). take 8 (drop (8 * i) slots) ++ take (8 * k) l) (drop-drop 8 (8 * i) slots ∙ ap (λ (m : ℕ). drop m slots) b))
+
+module _ (s : State) (I : Inv s) where
+  eight-cell : (x : ℕ) → 1 ≤ x → x ≤ s .control .n → eightOf (cellOf (s .control .n) (s .records) (s .slots) x) ≡ eight (s .slots) x
+  unfolding eightOf
+  eight-cell x p q =
+      let u = used-length s I x in
+      ap (λ (l : List ℕ). l ++ replicate (8 - length l) 0) (cell-words (s .control .n) (s .records) (s .slots) x)
+      ∙ ap (λ (l : List ℕ). wordsOf s x ++ l) (sym rest)
+      ∙ unfold usedWords otherWords in (take-append-drop (width (rec s x)) (eight (s .slots) x))
+    where
+      long : length (otherWords (s .control .n) (s .records) (s .slots) x) ≡ 8 - length (wordsOf s x)
+      long = unfold otherWords in
+          (length-drop (width (rec s x)) (eight (s .slots) x)
+          ∙ ap₂ (λ (a b : ℕ). a - b) (length-eight (s .control .n) (s .slots) x p q (I .slots-long)) (sym (used-length s I x)))
+
+      rest : otherWords (s .control .n) (s .records) (s .slots) x ≡ replicate (8 - length (wordsOf s x)) 0
+      rest = nil-list _ (I .empty x p q) ∙ ap (λ (k : ℕ). replicate k 0) long
+
+  pub same-slots : take (slotsLen (s .control .n)) (s .slots) ≡ plainSlots (plainOf s .cells)
+  unfolding cellsOf slotsLen
+  same-slots = sym (slots-by (cellOf (s .control .n) (s .records) (s .slots)) (s .slots) (s .control .n) 0 (λ x p q. eight-cell x p (omega arith)))
+
+-- ---- demand 3
+
+-- n and r stay
+sizes-kept : (call : Call) (s : State) → (step call s .after .control .n ≡ s .control .n) × (step call s .after .control .r ≡ s .control .r)
+unfolding step answer Allocate.allocate Write.write Analyse.analyse withLast withWriteLoss withAnalysis
+sizes-kept (allocate width) s =
+    all-by (λ (o : Allocate.Outcome). (o .answer .control .n ≡ s .control .n) × (o .answer .control .r ≡ s .control .r)) _ _ _ (λ z. (refl, refl)) (λ m. (refl, refl))
+sizes-kept (read i k) s = (refl, refl)
+sizes-kept (show i) s = (refl, refl)
+sizes-kept (write i k w) s =
+    all-by (λ (o : Write.Outcome). (o .answer .control .n ≡ s .control .n) × (o .answer .control .r ≡ s .control .r)) _ _ _ (λ z. (refl, refl)) (λ m. (refl, refl))
+sizes-kept (setRoot j w) s = (refl, refl)
+sizes-kept (declareSink i) s = (refl, refl)
+sizes-kept (collect kind work map) s = (refl, refl)
+sizes-kept (analyse work) s =
+    all-by (λ (o : Analyse.Outcome). (o .answer .control .n ≡ s .control .n) × (o .answer .control .r ≡ s .control .r)) _ _ _ (λ z. (refl, refl)) (λ m. (refl, refl))
+
+-- one call: what it is lent, and that it does what the plain heap does
+abbrev LentOne : ℕ → Call → Type 0
+LentOne n call = Lent n (call ∷ [])
+
+lent-split : (n : ℕ) (call : Call) (l : List Call) → Lent n (call ∷ l) → LentOne n call × Lent n l
+lent-split n (allocate width) l h = (tt, h)
+lent-split n (read i k) l h = (tt, h)
+lent-split n (show i) l h = (tt, h)
+lent-split n (write i k w) l h = (tt, h)
+lent-split n (setRoot j w) l h = (tt, h)
+lent-split n (declareSink i) l h = (tt, h)
+lent-split n (collect kind work map) l h = ((h .0, h .1, tt), h .2)
+lent-split n (analyse work) l h = (tt, h)
+
+step-same : (call : Call) (s : State) → Inv s → LentOne (s .control .n) call → Same call s
+step-same (allocate width) s I h = allocate-same s I width
+step-same (read i k) s I h = read-same s I i k
+step-same (show i) s I h = show-same s I i
+step-same (write i k w) s I h = write-same s I i k w
+step-same (setRoot j w) s I h = root-same s I j w
+step-same (declareSink i) s I h = declare-same s I i
+step-same (collect kind work map) s I h = collect-same s I kind work map (h .0) (h .1)
+step-same (analyse work) s I h = analyse-same s I work
+
+step-scans : (call : Call) (s : State) → Inv s → LentOne (s .control .n) call → ScansFew s call
+step-scans (allocate width) s I h = tt
+step-scans (read i k) s I h = tt
+step-scans (show i) s I h = tt
+step-scans (write i k w) s I h = tt
+step-scans (setRoot j w) s I h = tt
+step-scans (declareSink i) s I h = tt
+step-scans (collect plainly work map) s I h = tt
+step-scans (collect byClusters work map) s I h =
+    subst (λ (o : Collect.Outcome). o .answer .scanned ≤ o .answer .kept) (sym (collect-is s I byClusters work map (h .0) (h .1))) (scans-few s I byClusters work map (h .0) (h .1))
+step-scans (analyse work) s I h = tt
+
+alike : (n r : ℕ) (calls : List Call) (s : State) (P : Plain) → Inv s → s .control .n ≡ n → s .control .r ≡ r → plainOf s ≡ P → Lent n calls
+    → Alike n r calls s P
+unfolding answersOf afterAll
+alike n r [] s P I en er p h = record {
+  answers = refl;
+  slots = ap (λ (k : ℕ). take (slotsLen k) (s .slots)) (sym en) ∙ same-slots s I ∙ ap (λ (Q : Plain). plainSlots (Q .cells)) p;
+  roots = ap (λ (k : ℕ). take k (s .roots)) (sym er) ∙ ap (λ (Q : Plain). Q .roots) p;
+  scans = tt;
+}
+alike n r (call ∷ l) s P I en er p h =
+    let t = lent-split n call l h in
+    let one : LentOne (s .control .n) call = subst (λ (k : ℕ). LentOne k call) (sym en) (t .0) in
+    let S = step-same call s I one in
+    let z = sizes-kept call s in
+    let R = alike n r l (step call s .after) (plainStep call P .after) (step-inv call s I) (z .0 ∙ en) (z .1 ∙ er) (S .after ∙ ap (λ (Q : Plain). plainStep call Q .after) p) (t .1) in
+    record {
+      answers = ap₂ _++_ (S .answers ∙ ap (λ (Q : Plain). plainStep call Q .answers) p) (R .answers);
+      slots = R .slots;
+      roots = R .roots;
+      scans = (step-scans call s I one, R .scans);
+    }
+
+pub demand3 : Demand3
+unfolding newControl
+demand3 n r recs slots roots e calls h =
+    let a = accepted n r recs slots roots e in
+    subst (λ (s : State). Alike n r calls s (plainCreated n r)) (sym (a .1))
+    (alike n r calls _ (plainCreated n r) (zeroed-inv n r recs slots roots (a .0)) refl refl (zeroed-plain n r recs slots roots (a .0)) h)
+
+pub plain-keeps : PlainKeeps
+plain-keeps = plain-reach

@@ -1,0 +1,110 @@
+-- What the calls keep true of a heap, and that it then passes the tests 20, 2 and 21.
+-- Assumes nothing.
+use Prim.Native.Nat.{ℕ, _*_, _≤_}
+use mathlib.Core.Path.{_≡_, refl, sym, ap, _∙_}
+use mathlib.Core.Bool.{Bool, true, false, not, _||_, false≢true, true≢false, Bool·beq}
+use mathlib.Core.List.{List, List·Memᴰ}
+use mathlib.Core.Logic.{_⊎_, inl, inr}
+use native.Mathlib.Decide.{ℕ-discrete}
+use lib.Dec.{eqb}
+use lib.ListN.{length}
+use borrow.Author.Tests.{le-ltb, eq-eqb, ne-eqb}
+use Rattle.layout.specs.Record as R
+use Rattle.layout.specs.ControlRecord.{badControl}
+use Rattle.layout.specs.Field.{field, flag}
+use Rattle.layout.specs.Record.{cluster, clear, damaged}
+use Rattle.layout.specs.Word.{isNil, isImmediate}
+use Rattle.layout.proofs.RecordLaws.{Legal, facts-legal, legal-nonzero, zero-free, free-undamaged, legal-undamaged}
+use Rattle.layout.proofs.ControlLaws.{Sound, facts-control}
+use Rattle.graph.proofs.Paths.{connected-head}
+use Rattle.graph.proofs.State.{Good}
+use Rattle.rules.specs.Buffers.{recOf, short, otherWords, allOf}
+use Rattle.rules.specs.View.{view, exactOut}
+use Rattle.rules.specs.WellFormed.{names, legalAt, emptyAt, wordsAt, headAt, outAt, rootsNamed, wellFormed}
+use Rattle.rules.specs.Steps.{State}
+use Rattle.rules.specs.Demands.{heapOf, wordsOf, rec, rootsOf}
+use Rattle.rules.proofs.BoolLaws.{or-true}
+use Rattle.rules.proofs.ListLaws.{allOf-all, allTo-all}
+
+-- ---- the invariant
+
+-- a word that a used slot may hold, and one that a root may hold
+abbrev pub SlotWord : ℕ → List ℕ → List ℕ → ℕ → Type 0
+SlotWord n recs slots w = (isNil w || isImmediate w || names n recs slots w) ≡ true
+
+abbrev pub RootWord : ℕ → List ℕ → List ℕ → ℕ → Type 0
+RootWord n recs slots w = (isNil w || names n recs slots w) ≡ true
+
+pub record Inv (s : State) : Type 0 where
+  pub sound : Sound (s .control)
+  pub recs-long : s .control .n ≤ length (s .records)
+  pub slots-long : 8 * s .control .n ≤ length (s .slots)
+  pub roots-long : s .control .r ≤ length (s .roots)
+  -- the heap is well formed, but for what `good` says
+  pub legal : (x : ℕ) → (rec s x ≡ 0) ⊎ Legal (s .control .n) (rec s x)
+  pub empty : (x : ℕ) → 1 ≤ x → x ≤ s .control .n → allOf isNil (otherWords (s .control .n) (s .records) (s .slots) x) ≡ true
+  pub named : (x w : ℕ) → List·Memᴰ w (wordsOf s x) → SlotWord (s .control .n) (s .records) (s .slots) w
+  pub rooted : (w : ℕ) → List·Memᴰ w (rootsOf s) → RootWord (s .control .n) (s .records) (s .slots) w
+  -- clusters are connected, sinks have none, out bits are exact, and losses and members are together at most n
+  pub good : Good (heapOf s) (s .control .«write_loss»)
+
+beq-same : (a b : Bool) → a ≡ b → Bool·beq a b ≡ true
+beq-same true true e = refl
+beq-same true false e = absurd (true≢false e)
+beq-same false true e = absurd (false≢true e)
+beq-same false false e = refl
+
+legal-at : (n : ℕ) (recs slots : List ℕ) (x : ℕ) → (recOf n recs x ≡ 0) ⊎ Legal n (recOf n recs x) → legalAt n recs slots x ≡ true
+unfolding legalAt R.free
+legal-at n recs slots x (inl e) = rw e refl
+legal-at n recs slots x (inr L) = rw (facts-legal n (recOf n recs x) L) (or-true (eqb (recOf n recs x) 0))
+
+pub sane : (n r : ℕ) → (r ≡ 0) ⊎ Legal n r → damaged n r ≡ false
+sane n r (inl e) = free-undamaged n r (zero-free n r e)
+sane n r (inr L) = legal-undamaged n r (facts-legal n r L)
+
+pub illegal : (n r : ℕ) → (r ≡ 0) ⊎ Legal n r → not (R.legal n r) ≡ R.free r
+unfolding R.free R.legal clear flag field
+illegal n r (inl e) = rw e refl
+illegal n r (inr L) = ap not (facts-legal n r L) ∙ sym (ne-eqb r 0 (legal-nonzero n r L))
+
+module _ (s : State) (I : Inv s) where
+  head-at : (x : ℕ) → Dec (cluster (rec s x) ≡ 0) → headAt (s .control .n) (s .records) (s .slots) x ≡ true
+  unfolding headAt
+  head-at x (yes e) = rw e refl
+  head-at x (no e) = rw (eq-eqb _ _ same) (or-true (eqb (cluster (rec s x)) 0))
+    where
+      same : cluster (rec s (cluster (rec s x))) ≡ cluster (rec s x)
+      same = unfold view field in (connected-head _ _ (I .good .conn) x e)
+
+  out-at : (x : ℕ) → outAt (s .control .n) (s .records) (s .slots) x ≡ true
+  unfolding outAt exactOut
+  out-at x = beq-same _ _ (I .good .exact x)
+
+  pub inv-formed : wellFormed (s .control .n) (s .control .r) (s .records) (s .slots) (s .roots) ≡ true
+  unfolding wellFormed emptyAt wordsAt rootsNamed
+  inv-formed =
+      rw (
+        allTo-all (s .control .n) (legalAt (s .control .n) (s .records) (s .slots))
+            (λ x p q. legal-at (s .control .n) (s .records) (s .slots) x (I .legal x)),
+        allTo-all (s .control .n) (λ x. allOf isNil (otherWords (s .control .n) (s .records) (s .slots) x)) (I .empty),
+        allTo-all (s .control .n) (λ x. allOf (λ w. isNil w || isImmediate w || names (s .control .n) (s .records) (s .slots) w) (wordsOf s x)) (λ x p q. allOf-all _ _ (I .named x)),
+        allTo-all (s .control .n) (headAt (s .control .n) (s .records) (s .slots)) (λ x p q. head-at x (ℕ-discrete _ _)),
+        allTo-all (s .control .n) (outAt (s .control .n) (s .records) (s .slots)) (λ x p q. out-at x),
+      )
+      (allOf-all _ _ (I .rooted))
+
+  pub inv-control : badControl (s .control) ≡ false
+  inv-control = facts-control (s .control) (I .sound)
+
+  -- no record is damaged
+  pub inv-sane : (x : ℕ) → damaged (s .control .n) (rec s x) ≡ false
+  inv-sane x = sane (s .control .n) (rec s x) (I .legal x)
+
+  -- an object is legal exactly where it is not R.free
+  pub inv-illegal : (x : ℕ) → not (R.legal (s .control .n) (rec s x)) ≡ R.free (rec s x)
+  inv-illegal x = illegal (s .control .n) (rec s x) (I .legal x)
+
+pub enough : (k : ℕ) (l : List ℕ) → k ≤ length l → short k l ≡ false
+unfolding short
+enough k l p = le-ltb (length l) k p

@@ -1,0 +1,101 @@
+-- No call meets 20, 21 or 25 in a heap with the invariant.
+-- Assumes nothing.
+use Prim.Native.Nat.{ℕ, suc}
+use mathlib.Core.Path.{_≡_, refl, sym, _∙_}
+use mathlib.Core.Bool.{Bool, true, false, cond, _&&_, _||_, true≢false}
+use mathlib.Core.List.{List, [], _∷_}
+use mathlib.Core.Logic.{_≢_}
+use lib.Dec.{eqb}
+use borrow.Author.Tests.{eq-eqb}
+use native.Mathlib.Nat.{suc-ne-zero}
+use Rattle.layout.specs.declared.answers.WordRead.{WordRead}
+use Rattle.layout.specs.Refusal.{Test, first}
+use Rattle.rules.specs.Allocate as Allocate
+use Rattle.rules.specs.Read as Read
+use Rattle.rules.specs.Show as Show
+use Rattle.rules.specs.Write as Write
+use Rattle.rules.specs.SetRoot as SetRoot
+use Rattle.rules.specs.DeclareSink as DeclareSink
+use Rattle.rules.specs.Analyse as Analyse
+use Rattle.rules.specs.Collect as Collect
+use Rattle.rules.specs.Calls.{Call, allocate, read, show, write, setRoot, declareSink, collect, analyse}
+use Rattle.rules.specs.Steps.{State}
+use Rattle.rules.specs.Demands.{refusalOf}
+use Rattle.rules.proofs.Invariant.{Inv, inv-control, inv-sane, inv-formed}
+use Rattle.rules.proofs.WriteLaws.{no-25}
+use Rattle.rules.proofs.Refused.{answered}
+
+-- a test of number k holds
+meets : ℕ → List Test → Bool
+meets k [] = false
+meets k (t ∷ l) = (eqb k (t .0) && t .1) || meets k l
+
+unmet-first : (k : ℕ) (T : List Test) → meets (suc k) T ≡ false → first T ≢ suc k
+unfolding meets first
+unmet-first k [] e f = suc-ne-zero k (sym f)
+unmet-first k (t ∷ l) e f = go (t .1) refl f (λ r. unmet-first k l r)
+  where
+    left : (a b : Bool) → (a || b) ≡ false → a ≡ false
+    left true b h = absurd (true≢false h)
+    left false b h = refl
+
+    right : (a b : Bool) → (a || b) ≡ false → b ≡ false
+    right true b h = absurd (true≢false h)
+    right false b h = h
+
+    go : (b : Bool) → t .1 ≡ b → cond b (t .0) (first l) ≡ suc k → (meets (suc k) l ≡ false → first l ≢ suc k) → ⊥
+    go true h g r = true≢false (sym (rw (eq-eqb (suc k) (t .0) (sym g), h) refl) ∙ left (eqb (suc k) (t .0) && t .1) (meets (suc k) l) e)
+    go false h g r = r (right (eqb (suc k) (t .0) && t .1) (meets (suc k) l) e) g
+
+-- none of the three numbers is met
+abbrev Unmet : List Test → Type 0
+Unmet T = (meets 20 T ≡ false) × (meets 21 T ≡ false) × (meets 25 T ≡ false)
+
+unrefused : (T : List Test) (m : ℕ) → m ≡ first T → Unmet T → (m ≢ 20) × (m ≢ 21) × (m ≢ 25)
+unrefused T m e u = (λ z. unmet-first 19 T (u .0) (sym e ∙ z), λ z. unmet-first 20 T (u .1) (sym e ∙ z), λ z. unmet-first 24 T (u .2) (sym e ∙ z))
+
+module _ (s : State) (I : Inv s) where
+  allocate-unmet : (width : ℕ) → Unmet (Allocate.allocateTests (s .control) width (s .records) (s .slots))
+  unfolding meets Allocate.allocateTests
+  allocate-unmet width = (rw (inv-control s I) refl, refl, refl)
+
+  read-unmet : (i k : ℕ) → Unmet (Read.readTests (s .control) i k (s .records) (s .slots))
+  unfolding meets Read.readTests
+  read-unmet i k = (rw (inv-control s I) refl, rw (inv-sane s I i) refl, refl)
+
+  show-unmet : (i : ℕ) → Unmet (Show.showTests (s .control) i (s .records) (s .slots))
+  unfolding meets Show.showTests
+  show-unmet i = (rw (inv-control s I) refl, rw (inv-sane s I i) refl, refl)
+
+  write-unmet : (i k w : ℕ) → Unmet (Write.writeTests (s .control) i k w (s .records) (s .slots))
+  unfolding meets Write.writeTests
+  write-unmet i k w = (rw (inv-control s I) refl, rw (inv-sane s I i) refl, rw (no-25 s I i k w) refl)
+
+  root-unmet : (j w : ℕ) → Unmet (SetRoot.setRootTests (s .control) j w (s .records) (s .roots))
+  unfolding meets SetRoot.setRootTests
+  root-unmet j w = (rw (inv-control s I) refl, refl, refl)
+
+  declare-unmet : (i : ℕ) → Unmet (DeclareSink.declareTests (s .control) i (s .records) (s .slots) (s .roots))
+  unfolding meets DeclareSink.declareTests
+  declare-unmet i = (rw (inv-control s I) refl, rw (inv-formed s I) refl, refl)
+
+  analyse-unmet : (work : List ℕ) → Unmet (Analyse.analyseTests (s .control) (s .records) (s .slots) (s .roots) work)
+  unfolding meets Analyse.analyseTests
+  analyse-unmet work = (rw (inv-control s I) refl, rw (inv-formed s I) refl, refl)
+
+  collect-unmet : (kind : Collect.Kind) (work map : List ℕ)
+      → Unmet (Collect.collectTests kind (s .control) (s .records) (s .slots) (s .roots) work map)
+  unfolding meets Collect.collectTests
+  collect-unmet kind work map = (rw (inv-control s I) refl, rw (inv-formed s I) refl, refl)
+
+  pub unmet : (call : Call) → (refusalOf call s ≢ 20) × (refusalOf call s ≢ 21) × (refusalOf call s ≢ 25)
+  unfolding Allocate.allocate Read.read Show.show Write.write SetRoot.setRoot DeclareSink.declareSink Analyse.analyse Collect.collect Collect.sweep
+  unmet (allocate width) = unrefused _ _ (answered _ _ _ (λ (o : Allocate.Outcome). o .answer .refusal) refl (λ k. refl)) (allocate-unmet width)
+  unmet (read i k) = unrefused _ _ (answered _ _ _ (λ (a : WordRead). a .refusal) refl (λ k. refl)) (read-unmet i k)
+  unmet (show i) = unrefused _ _ (answered _ _ _ (λ (o : Show.Outcome). o .answer .refusal) refl (λ k. refl)) (show-unmet i)
+  unmet (write i k w) = unrefused _ _ (answered _ _ _ (λ (o : Write.Outcome). o .answer .refusal) refl (λ k. refl)) (write-unmet i k w)
+  unmet (setRoot j w) = unrefused _ _ (answered _ _ _ (λ (o : SetRoot.Outcome). o .answer .refusal) refl (λ k. refl)) (root-unmet j w)
+  unmet (declareSink i) = unrefused _ _ (answered _ _ _ (λ (o : DeclareSink.Outcome). o .answer .refusal) refl (λ k. refl)) (declare-unmet i)
+  unmet (collect kind work map) =
+      unrefused _ _ (answered _ _ _ (λ (o : Collect.Outcome). o .answer .refusal) refl (λ k. refl)) (collect-unmet kind work map)
+  unmet (analyse work) = unrefused _ _ (answered _ _ _ (λ (o : Analyse.Outcome). o .answer .refusal) refl (λ k. refl)) (analyse-unmet work)

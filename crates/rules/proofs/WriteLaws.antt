@@ -1,0 +1,294 @@
+-- Write, of the buffers and of the plain heap.
+-- Assumes nothing.
+use Prim.Native.Nat.{ℕ, zero, suc, _+_, _-_, _*_, _≤_, _<_}
+use mathlib.Core.Path.{_≡_, refl, sym, ap, _∙_}
+use mathlib.Core.Bool.{Bool, true, false, not, cond, _&&_, _||_, false≢true}
+use mathlib.Core.List.{List, [], _∷_, _++_, map, List·Memᴰ}
+use mathlib.Core.Logic.{_≢_, _⊎_, inl, inr}
+use native.Mathlib.Decide.{ℕ-discrete}
+use native.Mathlib.Nat.{suc-ne-zero}
+use native.Mathlib.Omega.{arith}
+use lib.Dec.{ltb}
+use lib.ListN.{length, set, take, drop, length-set}
+use lib.Seq.{take-set-lt, drop-set-lt}
+use borrow.Author.Tests.{not-false, leb-false, le-ltb, eqb-false}
+use Rattle.layout.specs.Record as R
+use Rattle.layout.specs.ControlRecord.{withWriteLoss}
+use Rattle.layout.specs.Field.{field, flag}
+use Rattle.layout.specs.Limits.{slotsLen}
+use Rattle.layout.specs.Record.{width}
+use Rattle.layout.specs.Refusal.{first}
+use Rattle.layout.specs.Word.{isNil, isImmediate, isPointer, legalWord}
+use Rattle.layout.proofs.ControlLaws.{writes-sound}
+use Rattle.graph.specs.Clusters.{keep, others}
+use Rattle.graph.specs.Heap.{Heap}
+use Rattle.graph.specs.Numbers.{upd}
+use Rattle.graph.specs.Writes.{dissolves, stored, store, storeBy, lossBy, lossOf}
+use Rattle.graph.proofs.NumberLaws.{upd-same, upd-other, mem-of-set}
+use Rattle.graph.proofs.Paths.{keep-zero}
+use Rattle.graph.proofs.State.{Good}
+use Rattle.graph.proofs.WritesLaws.{dissolving, staying, still-connected, points-clustered, write-fits}
+use Rattle.rules.specs.Buffers.{usedWords, otherWords, eight, allOf}
+use Rattle.rules.specs.View.{view, target, laid}
+use Rattle.rules.specs.Calls.{write, did}
+use Rattle.rules.specs.Write.{lossAfter}
+use Rattle.rules.specs.Write as Write
+use Rattle.rules.specs.Plain.{Plain, Played, Cell, free, object, cellAt, isSink, plainWords, objectTests, slotTests, namesFree, withCell, answer, plainStep}
+use Rattle.rules.specs.Steps.{State, step}
+use Rattle.rules.specs.Demands.{heapOf, wordsOf, rec, rootsOf}
+use Rattle.rules.proofs.ListLaws.{map-set, eight-set, eight-set-other, set-numbers}
+use Rattle.rules.proofs.Invariant.{Inv, SlotWord, inv-control, inv-sane, inv-illegal, enough}
+use Rattle.rules.proofs.Abstraction.{plainOf, cellOf, cellsOf, cells-size, at-free, at-words, at-sink}
+use Rattle.rules.proofs.Simulation.{Same, same-by, all-by, passed, pointer-facts, is-named, used-length, widths}
+use Rattle.rules.proofs.ViewLaws.{target-low}
+use Rattle.rules.proofs.LaidLaws.{heap′, recs′, view-laid, laid-cell, laid-inv, state′}
+
+-- the slots and the plain heap's cells after a store, for any heap that is laid into the records with it
+module _ (s : State) (I : Inv s) (i k w : ℕ) (k-fits : k < width (rec s (suc i))) (there : rec s (suc i) ≢ 0)
+    (word : SlotWord (s .control .n) (s .records) (s .slots) w) where
+  abbrev n : ℕ
+  n = s .control .n
+
+  abbrev H : Heap
+  H = heapOf s
+
+  abbrev slots′ : List ℕ
+  slots′ = set (s .slots) (8 * i + k) w
+
+  k8 : k < 8
+  k8 = let a = widths s I (suc i) in omega arith
+
+  used-after : usedWords n (s .records) slots′ (suc i) ≡ set (wordsOf s (suc i)) k w
+  unfolding usedWords
+  used-after =
+      ap (take (width (rec s (suc i)))) (eight-set (s .slots) i k w k8)
+      ∙ take-set-lt (width (rec s (suc i))) (eight (s .slots) (suc i)) k w k-fits
+
+  used-other : (x : ℕ) → x ≢ suc i → usedWords n (s .records) slots′ x ≡ wordsOf s x
+  unfolding usedWords
+  used-other x e = ap (take (width (rec s x))) (eight-set-other (s .slots) i k w x k8 e)
+
+  same-kids : (x : ℕ) → map (target n) (usedWords n (s .records) slots′ x) ≡ stored H (suc i) k (target n w) x
+  unfolding stored view
+  same-kids x = go (ℕ-discrete x (suc i))
+    where
+      go : Dec (x ≡ suc i) → map (target n) (usedWords n (s .records) slots′ x)
+          ≡ upd (λ y. map (target n) (wordsOf s y)) (suc i) (set (map (target n) (wordsOf s (suc i))) k (target n w)) x
+      go (yes e) =
+          rw e (ap (map (target n)) used-after ∙ map-set (target n) (wordsOf s (suc i)) k w
+          ∙ sym (upd-same (λ y. map (target n) (wordsOf s y)) (suc i) _))
+      go (no e) = ap (map (target n)) (used-other x e) ∙ sym (upd-other (λ y. map (target n) (wordsOf s y)) (suc i) x _ e)
+
+  other-after : (x : ℕ) → otherWords n (s .records) slots′ x ≡ otherWords n (s .records) (s .slots) x
+  unfolding otherWords
+  other-after x = go (ℕ-discrete x (suc i))
+    where
+      go : Dec (x ≡ suc i) → drop (width (rec s x)) (eight slots′ x) ≡ drop (width (rec s x)) (eight (s .slots) x)
+      go (yes e) =
+          rw e (ap (drop (width (rec s (suc i)))) (eight-set (s .slots) i k w k8)
+          ∙ drop-set-lt (width (rec s (suc i))) (eight (s .slots) (suc i)) k w k-fits)
+      go (no e) = ap (drop (width (rec s x))) (eight-set-other (s .slots) i k w x k8 e)
+
+  named-after : (x v : ℕ) → List·Memᴰ v (usedWords n (s .records) slots′ x) → SlotWord n (s .records) (s .slots) v
+  named-after x v m = go (ℕ-discrete x (suc i))
+    where
+      at : (v ≡ w) ⊎ List·Memᴰ v (wordsOf s (suc i)) → SlotWord n (s .records) (s .slots) v
+      at (inl e) = rw e word
+      at (inr p) = I .named (suc i) v p
+
+      go : Dec (x ≡ suc i) → SlotWord n (s .records) (s .slots) v
+      go (yes e) = at (mem-of-set (wordsOf s (suc i)) k w v (rw (e, used-after) at m))
+      go (no e) = I .named x v (rw (used-other x e) at m)
+
+  module _ (out′ : ℕ → Bool) (cl′ : ℕ → ℕ) (loss′ : ℕ)
+      (G : Good (heap′ s I (stored H (suc i) k (target n w)) (H .sink) (upd (H .written) (suc i) true) out′ cl′ loss′) loss′)
+      (blank-cl : (x : ℕ) → rec s x ≡ 0 → cl′ x ≡ 0) (fits : loss′ ≤ n) where
+    blank : (x : ℕ) → rec s x ≡ 0 → (upd (H .written) (suc i) true x ≡ false) × (H .sink x ≡ false) × (cl′ x ≡ 0)
+    unfolding view flag field
+    blank x e = (upd-other (H .written) (suc i) x true (λ j. there (ap (rec s) (sym j) ∙ e)) ∙ rw e refl, rw e refl, blank-cl x e)
+
+    store-inv : Inv (state′ s I (stored H (suc i) k (target n w)) (H .sink) (upd (H .written) (suc i) true) out′ cl′ loss′ G blank slots′ same-kids (s .control .last) (s .control .limit) (s .control .«out_loss»))
+    unfolding withWriteLoss
+    store-inv =
+        laid-inv s I (stored H (suc i) k (target n w)) (H .sink) (upd (H .written) (suc i) true) out′ cl′ loss′ G blank slots′ same-kids
+        (s .control .last) (s .control .limit) (s .control .«out_loss»)
+        (writes-sound (s .control) (I .sound) loss′ fits)
+        (let a = length-set (s .slots) (8 * i + k) w in let b = I .slots-long in omega arith)
+        (λ x p q. ap (allOf isNil) (other-after x) ∙ I .empty x p q)
+        named-after
+
+    store-view : view n (recs′ s I (stored H (suc i) k (target n w)) (H .sink) (upd (H .written) (suc i) true) out′ cl′ loss′) slots′
+        ≡ heap′ s I (stored H (suc i) k (target n w)) (H .sink) (upd (H .written) (suc i) true) out′ cl′ loss′
+    store-view = view-laid s I (stored H (suc i) k (target n w)) (H .sink) (upd (H .written) (suc i) true) out′ cl′ loss′ G blank slots′ same-kids
+
+    store-cells : cellsOf n (recs′ s I (stored H (suc i) k (target n w)) (H .sink) (upd (H .written) (suc i) true) out′ cl′ loss′) slots′
+        ≡ set (cellsOf n (s .records) (s .slots)) i
+        (object (set (wordsOf s (suc i)) k w) (flag 2 (rec s (suc i))))
+    unfolding cellsOf
+    store-cells = set-numbers (cellOf n (s .records) (s .slots)) (cellOf n _ slots′) 1 n i _ at other
+      where
+        cell : (x : ℕ) → cellOf n (recs′ s I (stored H (suc i) k (target n w)) (H .sink) (upd (H .written) (suc i) true) out′ cl′ loss′) slots′ x
+            ≡ cond (R.free (rec s x)) free (object (usedWords n (s .records) slots′ x) (H .sink x))
+        cell x = laid-cell s I (stored H (suc i) k (target n w)) (H .sink) (upd (H .written) (suc i) true) out′ cl′ loss′ G blank slots′ same-kids x
+
+        not-free : R.free (rec s (suc i)) ≡ false
+        not-free = unfold R.free in (borrow.Author.Tests.ne-eqb (rec s (suc i)) 0 there)
+
+        at : cellOf n (recs′ s I (stored H (suc i) k (target n w)) (H .sink) (upd (H .written) (suc i) true) out′ cl′ loss′) slots′ (1 + i)
+            ≡ object (set (wordsOf s (suc i)) k w) (flag 2 (rec s (suc i)))
+        at =
+            let e : 1 + i ≡ suc i = omega arith in
+            rw e (cell (suc i) ∙ rw (not-free, used-after) (unfold view flag field in refl))
+
+        other : (x : ℕ) → 1 ≤ x → x < 1 + n → x ≢ 1 + i
+            → cellOf n (recs′ s I (stored H (suc i) k (target n w)) (H .sink) (upd (H .written) (suc i) true) out′ cl′ loss′) slots′ x
+            ≡ cellOf n (s .records) (s .slots) x
+        other x p q d =
+            let e : x ≢ suc i = omega (arith, d) in
+            cell x ∙ (rw (used-other x e) (unfold cellOf view flag field in refl))
+
+module _ (s : State) (I : Inv s) where
+  -- no write meets 25
+  fits-25 : (i k t : ℕ) → t ≤ s .control .n → (b : Bool) → dissolves (heapOf s) i k t ≡ b
+      → s .control .«write_loss» + lossBy b (heapOf s) i ≤ s .control .n
+  unfolding lossBy view
+  fits-25 i k t l true e = write-fits (heapOf s) (s .control .«write_loss») i k t (I .good) e
+  fits-25 i k t l false e = let a = I .sound .writes in omega arith
+
+  pub no-25 : (i k w : ℕ) → ltb (s .control .n) (lossAfter (s .control) i k w (s .records) (s .slots)) ≡ false
+  unfolding lossAfter lossOf
+  no-25 i k w = le-ltb (s .control .n) _ (fits-25 i k (target (s .control .n) w) (target-low (s .control .n) w) _ refl)
+
+  pub write-tests : (i k w : ℕ) → first (Write.writeTests (s .control) i k w (s .records) (s .slots))
+      ≡ first (slotTests (plainOf s) i k ++ ((6, not (legalWord (length (plainOf s .cells)) w)) ∷ (23, namesFree (plainOf s) w) ∷ []))
+  unfolding Write.writeTests first slotTests objectTests plainWords namesFree slotsLen
+  write-tests i k w =
+      rw (
+        inv-control s I,
+        enough (s .control .n) (s .records) (I .recs-long),
+        enough (8 * s .control .n) (s .slots) (I .slots-long),
+        inv-sane s I i,
+        inv-illegal s I w,
+        no-25 i k w,
+        cells-size (s .control .n) (s .records) (s .slots),
+        at-free (s .control .n) (s .records) (s .slots) i,
+        at-free (s .control .n) (s .records) (s .slots) w,
+        at-words (s .control .n) (s .records) (s .slots) i,
+        used-length s I i,
+      )
+      refl
+
+  -- what the tests leave
+  record Passed (i k w : ℕ) : Type 0 where
+    range : (1 ≤ i) × (i ≤ s .control .n)
+    there : rec s i ≢ 0
+    narrow : k < width (rec s i)
+    word : SlotWord (s .control .n) (s .records) (s .slots) w
+
+  facts : (i k w : ℕ) → first (Write.writeTests (s .control) i k w (s .records) (s .slots)) ≡ 0 → Passed i k w
+  unfolding Write.writeTests R.free legalWord
+  facts i k w z =
+      let t1 = passed 19 _ _ z in
+      let t2 = passed 1 _ _ (t1 .1) in
+      let t3 = passed 3 _ _ (t2 .1) in
+      let t4 = passed 20 _ _ (t3 .1) in
+      let t5 = passed 21 _ _ (t4 .1) in
+      let t6 = passed 4 _ _ (t5 .1) in
+      let t7 = passed 5 _ _ (t6 .1) in
+      let t8 = passed 22 _ _ (t7 .1) in
+      record {
+        range = pointer-facts (s .control .n) i (not-false _ (t3 .0));
+        there = eqb-false _ _ (t5 .0);
+        narrow = leb-false _ _ (t6 .0);
+        word = word (isNil w) (isPointer (s .control .n) w) (isImmediate w) refl refl refl (not-false _ (t7 .0)) (t8 .0);
+      }
+    where
+      word : (a b c : Bool) → isNil w ≡ a → isPointer (s .control .n) w ≡ b → isImmediate w ≡ c → (a || b || c) ≡ true
+          → (b && not (R.legal (s .control .n) (rec s w))) ≡ false → SlotWord (s .control .n) (s .records) (s .slots) w
+      word true b c ea eb ec e f = rw ea refl
+      word false true true ea eb ec e f = rw (ea, ec) refl
+      word false true false ea eb ec e f = rw (ea, ec) (is-named s I w eb (sym (inv-illegal s I w) ∙ f))
+      word false false true ea eb ec e f = rw (ea, ec) refl
+      word false false false ea eb ec e f = absurd (false≢true e)
+
+  abbrev stateBy : ℕ → ℕ → ℕ → Bool → State
+  stateBy i k w d =
+      record {
+        control = withWriteLoss (s .control .«write_loss» + lossBy d (heapOf s) i) (s .control);
+        records = laid (storeBy d (heapOf s) i k (target (s .control .n) w)) (s .records);
+        slots = set (s .slots) (8 * (i - 1) + k) w;
+        roots = s .roots;
+      }
+
+  -- the state after an accepted write, where the cluster is dissolved and where not
+  done : (i k w : ℕ) → Passed i k w → (d : Bool) → dissolves (heapOf s) i k (target (s .control .n) w) ≡ d
+      → Inv (stateBy i k w d)
+      × (cellsOf (s .control .n) (stateBy i k w d .records) (stateBy i k w d .slots)
+      ≡ set (cellsOf (s .control .n) (s .records) (s .slots)) (i - 1) (object (set (wordsOf s i) k w) (flag 2 (rec s i))))
+      × (view (s .control .n) (stateBy i k w d .records) (stateBy i k w d .slots)
+      ≡ storeBy d (heapOf s) i k (target (s .control .n) w))
+  unfolding storeBy withWriteLoss view flag field
+  done zero k w F d e = absurd (omega (arith, F .range))
+  done (suc i) k w F true e =
+      let z : suc i - 1 ≡ i = omega arith in
+      let H = heapOf s in
+      let t = target (s .control .n) w in
+      let l = target-low (s .control .n) w in
+      let G = dissolving H (s .control .«write_loss») (suc i) k t (I .good) l (points-clustered H (suc i) k t e) in
+      let b : (x : ℕ) → rec s x ≡ 0 → keep (others (H .cluster (suc i))) (H .cluster) x ≡ 0
+      = λ x q. keep-zero (others (H .cluster (suc i))) (H .cluster) x (rw q refl) in
+      let f = fits-25 (suc i) k t l true e in
+      rw z (
+        store-inv s I i k w (F .narrow) (F .there) (F .word) _ _ _ G b f,
+        store-cells s I i k w (F .narrow) (F .there) (F .word) _ _ _ G b f,
+        store-view s I i k w (F .narrow) (F .there) (F .word) _ _ _ G b f,
+      )
+  done (suc i) k w F false e =
+      let z : suc i - 1 ≡ i = omega arith in
+      let H = heapOf s in
+      let t = target (s .control .n) w in
+      let l = target-low (s .control .n) w in
+      let G = staying H (s .control .«write_loss») (suc i) k t (I .good) l (still-connected H (s .control .«write_loss») (suc i) k t (I .good) l e) in
+      let b : (x : ℕ) → rec s x ≡ 0 → H .cluster x ≡ 0 = λ x q. rw q refl in
+      let f = fits-25 (suc i) k t l false e in
+      rw z (
+        store-inv s I i k w (F .narrow) (F .there) (F .word) _ _ _ G b f,
+        store-cells s I i k w (F .narrow) (F .there) (F .word) _ _ _ G b f,
+        store-view s I i k w (F .narrow) (F .there) (F .word) _ _ _ G b f,
+      )
+
+  abbrev stateOf : Write.Outcome → State
+  stateOf o = record { control = o .answer .control; records = o .records; slots = o .slots; roots = s .roots }
+
+  pub write-inv : (i k w : ℕ) → Inv (step (write i k w) s .after)
+  unfolding step Write.write answer lossAfter lossOf store
+  write-inv i k w = all-by (λ (o : Write.Outcome). Inv (stateOf o)) _ _ _ (λ z. done i k w (facts i k w z) _ refl .0) (λ m. I)
+
+  pub write-same : (i k w : ℕ) → Same (write i k w) s
+  unfolding step Write.write answer plainStep lossAfter lossOf store
+  write-same i k w = record {
+    answers = same-by _ _ _ _ _ _ (λ (o : Write.Outcome). did (o .answer .refusal) ∷ []) (λ (p : Played Plain). p .answers) (write-tests i k w) (λ z. refl) (λ m. refl);
+    after = same-by _ _ _ _ _ _ (λ (o : Write.Outcome). plainOf (stateOf o)) (λ (p : Played Plain). p .after) (write-tests i k w)
+        (λ z. accepted (facts i k w z)) (λ m. refl);
+  }
+    where
+      accepted : Passed i k w → plainOf (stateBy i k w (dissolves (heapOf s) i k (target (s .control .n) w)))
+          ≡ withCell (plainOf s) i (object (set (plainWords (plainOf s) i) k w) (isSink (cellAt (plainOf s .cells) i)))
+      accepted F = unfold withCell plainWords withWriteLoss in
+          (rw (at-words (s .control .n) (s .records) (s .slots) i, at-sink (s .control .n) (s .records) (s .slots) i)
+          (cells-path (done i k w F _ refl .1)))
+        where
+          cells-path : {a b : List Cell} → a ≡ b
+              → _≡_ {A = Plain} (record { last = s .control .last; roots = rootsOf s; cells = a })
+              (record { last = s .control .last; roots = rootsOf s; cells = b })
+          cells-path p = ap (λ (l : List Cell). record { last = s .control .last; roots = rootsOf s; cells = l }) p
+
+  -- the buffers hold the heap that the rule gives
+  pub write-ruled : (i k w : ℕ) → Write.write (s .control) i k w (s .records) (s .slots) .answer .refusal ≡ 0
+      → heapOf (step (write i k w) s .after) ≡ store (heapOf s) i k (target (s .control .n) w)
+  unfolding step Write.write answer withWriteLoss store
+  write-ruled i k w =
+      all-by
+      (λ (o : Write.Outcome). o .answer .refusal ≡ 0 → view (o .answer .control .n) (o .records) (o .slots)
+      ≡ storeBy (dissolves (heapOf s) i k (target (s .control .n) w)) (heapOf s) i k (target (s .control .n) w)) _ _ _
+      (λ z e. done i k w (facts i k w z) _ refl .2) (λ m e. absurd (suc-ne-zero m e))

@@ -1,0 +1,342 @@
+-- The demands on the definitions: what holds of every input (1), of every heap that the calls made (2), and of every list of calls (3).
+use Prim.Native.Nat.{ℕ, _+_, _*_, _≤_}
+use mathlib.Core.Path.{_≡_}
+use mathlib.Core.Bool.{Bool, true, false, not, _&&_, _||_, cond}
+use mathlib.Core.List.{List, [], _∷_}
+use mathlib.Core.Logic.{_≢_, _↔_}
+use lib.Dec.{eqb, ltb}
+use lib.ListN.{length, getD, take, drop, replicate}
+use Rattle.layout.specs.Limits.{slotsLen, workLen, mapLen}
+use Rattle.layout.specs.Record.{inUse, isWritten, isSink, isOut, cluster}
+use Rattle.layout.specs.Bits.{holds, numbersIn}
+use Rattle.layout.specs.ControlRecord.{newControl}
+use Rattle.layout.specs.Refusal.{Test}
+use Rattle.layout.specs.declared.answers.Control.{Control}
+use Rattle.layout.specs.declared.answers.WordRead.{WordRead}
+use Rattle.layout.specs.declared.answers.Collected.{Collected}
+use Rattle.graph.specs.Numbers.{Obj, count}
+use Rattle.graph.specs.Heap.{Heap, pointers, targets, starts, Reach}
+use Rattle.graph.specs.Clusters.{size, outsOf}
+use Rattle.graph.specs.Trace.{postponed, Walk, traced, unclustered}
+use Rattle.graph.specs.Analysis.{items, begin, finish, walked}
+use Rattle.graph.specs.Analysis as Graph
+use Rattle.graph.specs.DepthFirst.{Done}
+use Rattle.graph.specs.Writes.{store, declare}
+use Rattle.rules.specs.Buffers.{recOf, usedWords}
+use Rattle.rules.specs.View.{target, view}
+use Rattle.rules.specs.WellFormed.{wellFormed}
+use Rattle.rules.specs.Create as Create
+use Rattle.rules.specs.Allocate as Allocate
+use Rattle.rules.specs.Read as Read
+use Rattle.rules.specs.Show as Show
+use Rattle.rules.specs.Write as Write
+use Rattle.rules.specs.SetRoot as SetRoot
+use Rattle.rules.specs.DeclareSink as DeclareSink
+use Rattle.rules.specs.Analyse.{rule, least, outPerTen, limitAfter}
+use Rattle.rules.specs.Analyse as Analyse
+use Rattle.rules.specs.Collect.{Kind, plainly, byClusters}
+use Rattle.rules.specs.Collect as Collect
+use Rattle.rules.specs.Calls.{Call, allocate, read, show, write, setRoot, declareSink, collect, analyse}
+use Rattle.rules.specs.Plain.{Plain, has, plainSize, plainWords, plainStarts, keptNumbers, plainCreated, plainStep, plainSlots}
+use Rattle.rules.specs.Steps.{State, created, step, answersOf, afterAll}
+
+-- ==== demand 1: every input, and no hypothesis
+
+-- the test of number k holds, and none before it in the list does
+pub data Refuses (k : ℕ) : List Test → Type 0 where
+  here : {t : Test} {l : List Test} → t .0 ≡ k → t .1 ≡ true → Refuses k (t ∷ l)
+  later : {t : Test} {l : List Test} → t .1 ≡ false → Refuses k l → Refuses k (t ∷ l)
+
+-- a call's outcome has the refusal k, for k above 0, exactly where its tests refuse with k; and refused, it is what is given for that
+pub record Decided {A : Type 0} (tests : List Test) (outcome : A) (refusal : A → ℕ) (refused : ℕ → A) : Type 0 where
+  pub numbers : (k : ℕ) → 1 ≤ k → (refusal outcome ≡ k) ↔ Refuses k tests
+  pub unchanged : refusal outcome ≢ 0 → outcome ≡ refused (refusal outcome)
+
+-- no word of the buffer after its first k changes
+abbrev pub Within : ℕ → List ℕ → List ℕ → Type 0
+Within k before after = (length after ≡ length before) × (drop k after ≡ drop k before)
+
+-- its first k words are 0
+abbrev pub Cleared : ℕ → List ℕ → Type 0
+Cleared k l = take k l ≡ replicate k 0
+
+-- the walk of a collection has come to its end
+abbrev pub Ended : Heap → Walk → Type 0
+Ended H w = (w .todo ≡ []) × ((x : ℕ) → Obj (H .n) x → w .flags postponed x ≡ false)
+
+-- call by call: refused, it answers zeros with the control record and gives back every buffer as it was; else no word past the heap's changes, and work is 0
+pub record Demand1 : Type 0 where
+  pub created : (n r : ℕ) (recs slots roots : List ℕ)
+      → let o = Create.create n r recs slots roots in
+      Decided (Create.createTests n r recs slots roots) o (λ o. o .answer .refusal)
+      (λ k. record { answer = record { refusal = k; control = newControl 0 0 }; records = recs; slots = slots; roots = roots })
+      × Within n recs (o .records) × Within (slotsLen n) slots (o .slots) × Within r roots (o .roots)
+  pub allocated : (c : Control) (width : ℕ) (recs slots : List ℕ)
+      → let o = Allocate.allocate c width recs slots in
+      Decided (Allocate.allocateTests c width recs slots) o (λ o. o .answer .refusal)
+      (λ k. record { answer = record { refusal = k; object = 0; control = c }; records = recs; slots = slots })
+      × Within (c .n) recs (o .records) × Within (slotsLen (c .n)) slots (o .slots)
+  pub wordRead : (c : Control) (i k : ℕ) (recs slots : List ℕ)
+      → Decided (Read.readTests c i k recs slots) (Read.read c i k recs slots) (λ (a : WordRead). a .refusal) (λ m. record { refusal = m; word = 0; control = c })
+  pub shown : (c : Control) (i : ℕ) (recs slots : List ℕ)
+      → Decided (Show.showTests c i recs slots) (Show.show c i recs slots) (λ o. o .answer .refusal)
+      (λ k. record { answer = record { refusal = k; start = 0; length = 0; control = c }; words = [] })
+  pub written : (c : Control) (i k w : ℕ) (recs slots : List ℕ)
+      → let o = Write.write c i k w recs slots in
+      Decided (Write.writeTests c i k w recs slots) o (λ o. o .answer .refusal)
+      (λ m. record { answer = record { refusal = m; control = c }; records = recs; slots = slots })
+      × Within (c .n) recs (o .records) × Within (slotsLen (c .n)) slots (o .slots)
+  pub rootSet : (c : Control) (j w : ℕ) (recs roots : List ℕ)
+      → let o = SetRoot.setRoot c j w recs roots in
+      Decided (SetRoot.setRootTests c j w recs roots) o (λ o. o .answer .refusal) (λ k. record { answer = record { refusal = k; control = c }; roots = roots })
+      × Within (c .r) roots (o .roots)
+  pub declared : (c : Control) (i : ℕ) (recs slots roots : List ℕ)
+      → let o = DeclareSink.declareSink c i recs slots roots in
+      Decided (DeclareSink.declareTests c i recs slots roots) o (λ o. o .answer .refusal)
+      (λ k. record { answer = record { refusal = k; control = c }; records = recs })
+      × Within (c .n) recs (o .records)
+  pub analysed : (c : Control) (recs slots roots work : List ℕ)
+      → let o = Analyse.analyse c recs slots roots work in
+      Decided (Analyse.analyseTests c recs slots roots work) o (λ o. o .answer .refusal)
+      (λ k. record { answer = record { refusal = k; clusters = 0; members = 0; control = c }; records = recs; work = work })
+      × Within (c .n) recs (o .records) × Within (workLen (c .n)) work (o .work) × (o .answer .refusal ≡ 0 → Cleared (workLen (c .n)) (o .work))
+  -- of either kind
+  pub collected : (kind : Kind) (c : Control) (recs slots roots work map : List ℕ)
+      → let o = Collect.collect kind c recs slots roots work map in
+      Decided (Collect.collectTests kind c recs slots roots work map) o (λ o. o .answer .refusal)
+      (λ k. record {
+        answer = record { refusal = k; freed = 0; kept = 0; scanned = 0; control = c };
+        records = recs;
+        slots = slots;
+        work = work;
+        map = map;
+      })
+      × Within (c .n) recs (o .records) × Within (slotsLen (c .n)) slots (o .slots) × Within (workLen (c .n)) work (o .work)
+      × Within (mapLen (c .n)) map (o .map) × (o .answer .refusal ≡ 0 → Cleared (workLen (c .n)) (o .work))
+  -- in every well-formed heap the walks of both collections and of the analysis, which make a number of steps, are then at their end
+  pub ends : (n r : ℕ) (recs slots roots : List ℕ) → wellFormed n r recs slots roots ≡ true
+      → let H = view n recs slots in
+      let from = starts H (take r roots) in
+      Ended H (traced H from) × Ended H (traced (unclustered H) from) × ((limit : ℕ) → 1 ≤ limit → finish H limit (begin H from) .todo ≡ [])
+
+-- ==== demand 2: every heap that the calls made
+
+-- a state that an accepted create made and calls led to, accepted or refused, with any arguments and any buffers
+pub data Made : State → Type 0 where
+  new : {s : State} (n r : ℕ) (recs slots roots : List ℕ) → Create.create n r recs slots roots .answer .refusal ≡ 0
+      → s ≡ created n r recs slots roots → Made s
+  called : {s t : State} (call : Call) → Made s → t ≡ step call s .after → Made t
+
+-- the record of object x
+abbrev pub rec : State → ℕ → ℕ
+rec s x = recOf (s .control .n) (s .records) x
+
+-- and after a call
+abbrev pub recAfter : Call → State → ℕ → ℕ
+recAfter call s x = rec (step call s .after) x
+
+-- the heap that the buffers hold: pointers, sinks, written bits, clusters, out bits
+abbrev pub heapOf : State → Heap
+heapOf s = view (s .control .n) (s .records) (s .slots)
+
+-- the words that object x uses
+abbrev pub wordsOf : State → ℕ → List ℕ
+wordsOf s x = usedWords (s .control .n) (s .records) (s .slots) x
+
+-- the roots, and where walks start: the roots and the sinks
+abbrev pub rootsOf : State → List ℕ
+rootsOf s = take (s .control .r) (s .roots)
+
+abbrev pub startsOf : State → List ℕ
+startsOf s = starts (heapOf s) (rootsOf s)
+
+-- x is reached by pointers from a root or a sink
+abbrev pub Led : State → ℕ → Type 0
+Led s x = Reach (targets (heapOf s)) (pointers (startsOf s)) x
+
+-- ---- collections
+
+abbrev pub collected : State → Kind → List ℕ → List ℕ → Collect.Outcome
+collected s kind work map = Collect.collect kind (s .control) (s .records) (s .slots) (s .roots) work map
+
+-- the objects that a collection scans: all that a plain one keeps; by clusters no more, and as many as the walk over the clusters scans
+abbrev pub Scans : State → Kind → Collected → Type 0
+Scans s plainly a = a .scanned ≡ a .kept
+Scans s byClusters a = (a .scanned ≤ a .kept) × (a .scanned ≡ traced (heapOf s) (startsOf s) .scanned)
+
+pub record Collects (s : State) (kind : Kind) (work map : List ℕ) : Type 0 where
+  pub accepted : collected s kind work map .answer .refusal ≡ 0
+  -- an object in use is freed exactly if it is not so reached
+  pub frees : (x : ℕ) → Obj (s .control .n) x → inUse (rec s x) ≡ true → (recAfter (collect kind work map) s x ≡ 0) ↔ (Led s x → ⊥)
+  -- the freed map holds the freed and no other number, and the count of freed is that of its ones
+  pub maps : (x : ℕ) → (holds x (take (mapLen (s .control .n)) (collected s kind work map .map)) ≡ true)
+      ↔ (Obj (s .control .n) x × (inUse (rec s x) ≡ true) × (recAfter (collect kind work map) s x ≡ 0))
+  pub freed : collected s kind work map .answer .freed ≡ length (numbersIn 0 (take (mapLen (s .control .n)) (collected s kind work map .map)))
+  -- kept are the objects in use after it
+  pub kept : collected s kind work map .answer .kept ≡ count (s .control .n) (λ x. inUse (recAfter (collect kind work map) s x))
+  pub scanned : Scans s kind (collected s kind work map .answer)
+  -- a cluster is left as it was if its head is still in use, and else has no member
+  pub stays : (x : ℕ) → Obj (s .control .n) x → recAfter (collect kind work map) s (cluster (rec s x)) ≢ 0
+      → cluster (recAfter (collect kind work map) s x) ≡ cluster (rec s x)
+  pub goes : (x : ℕ) → Obj (s .control .n) x → recAfter (collect kind work map) s (cluster (rec s x)) ≡ 0
+      → cluster (recAfter (collect kind work map) s x) ≡ 0
+
+-- both kinds leave the same records, slots and map
+pub record SameEnd (s : State) (work map : List ℕ) : Type 0 where
+  pub records : collected s plainly work map .records ≡ collected s byClusters work map .records
+  pub slots : collected s plainly work map .slots ≡ collected s byClusters work map .slots
+  pub maps : collected s plainly work map .map ≡ collected s byClusters work map .map
+
+-- ---- clusters
+
+abbrev pub analysed : State → List ℕ → Analyse.Outcome
+analysed s work = Analyse.analyse (s .control) (s .records) (s .slots) (s .roots) work
+
+-- the size limit that an analysis goes by
+abbrev pub limitIn : State → List ℕ → ℕ
+limitIn s work = limitAfter (s .control) (s .records) (s .slots) (s .roots) work
+
+-- after an accepted analysis, write or declaration the buffers hold exactly the heap of its rule
+pub record Ruled (s : State) : Type 0 where
+  pub analysed : (work : List ℕ) → analysed s work .answer .refusal ≡ 0
+      → heapOf (step (analyse work) s .after)
+      ≡ Graph.analyse rule (heapOf s) (limitIn s work) (rootsOf s) .heap
+  pub written : (i k w : ℕ) → Write.write (s .control) i k w (s .records) (s .slots) .answer .refusal ≡ 0
+      → heapOf (step (write i k w) s .after) ≡ store (heapOf s) i k (target (s .control .n) w)
+  pub declared : (i : ℕ) → DeclareSink.declareSink (s .control) i (s .records) (s .slots) (s .roots) .answer .refusal ≡ 0
+      → heapOf (step (declareSink i) s .after) ≡ declare (heapOf s) i
+
+-- the clusters of an analysis when its walk is over and none is deleted yet
+abbrev pub walkedIn : State → List ℕ → ℕ → ℕ
+walkedIn s work = walked (heapOf s) (limitIn s work) (rootsOf s)
+
+-- the members of cluster c then, and the pointers that leave it
+abbrev pub membersIn : State → List ℕ → ℕ → ℕ
+membersIn s work c = size (s .control .n) (walkedIn s work) c
+
+abbrev pub outsIn : State → List ℕ → ℕ → ℕ
+outsIn s work c = outsOf (s .control .n) (heapOf s .kids) (heapOf s .sink) (walkedIn s work) c
+
+-- what an accepted analysis does to the clusters
+pub record Analyses (s : State) (work : List ℕ) : Type 0 where
+  -- the walk is the recursive one, depth first and in slot order, and no other end of that walk is possible
+  pub depthFirst : (seen : ℕ → Bool)
+      × Done (heapOf s) (limitIn s work) (items 0 (startsOf s)) (λ x. false) (heapOf s .cluster) seen (walkedIn s work)
+  pub oneEnd : (seen : ℕ → Bool) (cl : ℕ → ℕ)
+      → Done (heapOf s) (limitIn s work) (items 0 (startsOf s)) (λ x. false) (heapOf s .cluster) seen cl
+      → cl ≡ walkedIn s work
+  -- a reached object is put into a new cluster, unless it was in one, is written or is a sink
+  pub formed : (x : ℕ) → Led s x → cluster (rec s x) ≡ 0 → isWritten (rec s x) ≡ false → isSink (rec s x) ≡ false
+      → (walkedIn s work x ≢ 0) × (cluster (rec s (walkedIn s work x)) ≡ 0)
+  pub sizes : (c : ℕ) → c ≢ 0 → cluster (rec s c) ≡ 0 → membersIn s work c ≤ limitIn s work
+  -- a new cluster is deleted exactly if 10p > 25s or s < 4
+  pub deleted : (x : ℕ) → walkedIn s work x ≢ 0 → cluster (rec s (walkedIn s work x)) ≡ 0
+      → let c = walkedIn s work x in
+      cluster (recAfter (analyse work) s x)
+      ≡ cond (ltb (outPerTen * membersIn s work c) (10 * outsIn s work c) || ltb (membersIn s work c) least) 0 c
+  -- an older cluster keeps its members and their out bits, and gets no other member
+  pub older : (x : ℕ) → cluster (rec s x) ≢ 0
+      → (cluster (recAfter (analyse work) s x) ≡ cluster (rec s x)) × (isOut (recAfter (analyse work) s x) ≡ isOut (rec s x))
+  pub closed : (x : ℕ) → cluster (rec s x) ≡ 0 → cluster (recAfter (analyse work) s x) ≢ 0
+      → cluster (rec s (cluster (recAfter (analyse work) s x))) ≡ 0
+  -- answered are the objects that head a new cluster after it, and those that are in one
+  pub clusters : analysed s work .answer .clusters
+      ≡ count (s .control .n) (λ h. eqb (cluster (rec s h)) 0 && eqb (cluster (recAfter (analyse work) s h)) h)
+  pub members : analysed s work .answer .members
+      ≡ count (s .control .n) (λ x. eqb (cluster (rec s x)) 0 && not (eqb (cluster (recAfter (analyse work) s x)) 0))
+
+-- the word in slot k of object i points into the cluster of i
+abbrev pub PointsIn : State → ℕ → ℕ → Type 0
+PointsIn s i k = (cluster (rec s i) ≢ 0) × (cluster (rec s (getD (wordsOf s i) k 0)) ≡ cluster (rec s i))
+
+-- what an accepted write does to the clusters and to the write loss: if the old word pointed into the cluster, all members lose it; else nothing
+pub record Writes (s : State) (i k w : ℕ) : Type 0 where
+  pub dissolved : PointsIn s i k → (x : ℕ)
+      → cluster (recAfter (write i k w) s x) ≡ cond (eqb (cluster (rec s x)) (cluster (rec s i))) 0 (cluster (rec s x))
+  pub lost : PointsIn s i k
+      → step (write i k w) s .after .control .«write_loss»
+      ≡ s .control .«write_loss» + count (s .control .n) (λ x. eqb (cluster (rec s x)) (cluster (rec s i)))
+  pub kept : (PointsIn s i k → ⊥) → (x : ℕ) → cluster (recAfter (write i k w) s x) ≡ cluster (rec s x)
+  pub unlost : (PointsIn s i k → ⊥) → step (write i k w) s .after .control .«write_loss» ≡ s .control .«write_loss»
+
+-- what an accepted declaration does: the object becomes a sink, and the members of its cluster lose it
+pub record Declares (s : State) (i : ℕ) : Type 0 where
+  pub sinks : (x : ℕ) → isSink (recAfter (declareSink i) s x) ≡ cond (eqb x i) true (isSink (rec s x))
+  pub dissolved : (x : ℕ)
+      → cluster (recAfter (declareSink i) s x) ≡ cond (eqb (cluster (rec s x)) (cluster (rec s i))) 0 (cluster (rec s x))
+
+-- ---- refusals
+
+-- the refusal of a call, 0 if it is accepted
+abbrev pub refusalOf : Call → State → ℕ
+refusalOf (allocate width) s = Allocate.allocate (s .control) width (s .records) (s .slots) .answer .refusal
+refusalOf (read i k) s = Read.read (s .control) i k (s .records) (s .slots) .refusal
+refusalOf (show i) s = Show.show (s .control) i (s .records) (s .slots) .answer .refusal
+refusalOf (write i k w) s = Write.write (s .control) i k w (s .records) (s .slots) .answer .refusal
+refusalOf (setRoot j w) s = SetRoot.setRoot (s .control) j w (s .records) (s .roots) .answer .refusal
+refusalOf (declareSink i) s = DeclareSink.declareSink (s .control) i (s .records) (s .slots) (s .roots) .answer .refusal
+refusalOf (collect kind work map) s = collected s kind work map .answer .refusal
+refusalOf (analyse work) s = analysed s work .answer .refusal
+
+pub record Demand2 : Type 0 where
+  pub collects : (s : State) → Made s → (kind : Kind) (work map : List ℕ) → workLen (s .control .n) ≤ length work
+      → mapLen (s .control .n) ≤ length map → Collects s kind work map
+  pub sameEnd : (s : State) → Made s → (work map : List ℕ) → workLen (s .control .n) ≤ length work → mapLen (s .control .n) ≤ length map
+      → SameEnd s work map
+  pub ruled : (s : State) → Made s → Ruled s
+  pub analyses : (s : State) → Made s → (work : List ℕ) → refusalOf (analyse work) s ≡ 0 → Analyses s work
+  pub writes : (s : State) → Made s → (i k w : ℕ) → refusalOf (write i k w) s ≡ 0 → Writes s i k w
+  pub declares : (s : State) → Made s → (i : ℕ) → refusalOf (declareSink i) s ≡ 0 → Declares s i
+  -- an analysis that is lent enough work is accepted
+  pub accepts : (s : State) → Made s → (work : List ℕ) → workLen (s .control .n) ≤ length work → refusalOf (analyse work) s ≡ 0
+  -- the three buffers, handed on from call to call, are never too short
+  pub long : (s : State) → Made s
+      → (s .control .n ≤ length (s .records)) × (slotsLen (s .control .n) ≤ length (s .slots)) × (s .control .r ≤ length (s .roots))
+  -- no call meets 20, 21 or 25
+  pub unmet : (s : State) → Made s → (call : Call) → (refusalOf call s ≢ 20) × (refusalOf call s ≢ 21) × (refusalOf call s ≢ 25)
+
+-- ==== demand 3: every list of calls, of the buffers and of the plain heap
+
+-- every collection is lent enough work and map for n objects; an analysis may be lent anything
+abbrev pub Lent : ℕ → List Call → Type 0
+Lent n [] = Unit {0}
+Lent n (allocate width ∷ l) = Lent n l
+Lent n (read i k ∷ l) = Lent n l
+Lent n (show i ∷ l) = Lent n l
+Lent n (write i k w ∷ l) = Lent n l
+Lent n (setRoot j w ∷ l) = Lent n l
+Lent n (declareSink i ∷ l) = Lent n l
+Lent n (collect kind work map ∷ l) = (workLen n ≤ length work) × (mapLen n ≤ length map) × Lent n l
+Lent n (analyse work ∷ l) = Lent n l
+
+-- a collection by clusters scans no more than it keeps
+abbrev pub ScansFew : State → Call → Type 0
+ScansFew s (allocate width) = Unit {0}
+ScansFew s (read i k) = Unit {0}
+ScansFew s (show i) = Unit {0}
+ScansFew s (write i k w) = Unit {0}
+ScansFew s (setRoot j w) = Unit {0}
+ScansFew s (declareSink i) = Unit {0}
+ScansFew s (collect plainly work map) = Unit {0}
+ScansFew s (collect byClusters work map) = collected s byClusters work map .answer .scanned ≤ collected s byClusters work map .answer .kept
+ScansFew s (analyse work) = Unit {0}
+
+abbrev pub EachScansFew : List Call → State → Type 0
+EachScansFew [] s = Unit {0}
+EachScansFew (call ∷ l) s = ScansFew s call × EachScansFew l (step call s .after)
+
+-- the heap of the buffers and the plain heap, after the same calls: the same answers, slots and roots
+pub record Alike (n r : ℕ) (calls : List Call) (s : State) (P : Plain) : Type 0 where
+  pub answers : answersOf step calls s ≡ answersOf plainStep calls P
+  pub slots : take (slotsLen n) (afterAll step calls s .slots) ≡ plainSlots (afterAll plainStep calls P .cells)
+  pub roots : take r (afterAll step calls s .roots) ≡ afterAll plainStep calls P .roots
+  pub scans : EachScansFew calls s
+
+abbrev pub Demand3 : Type 0
+Demand3 =
+    (n r : ℕ) (recs slots roots : List ℕ) → Create.create n r recs slots roots .answer .refusal ≡ 0
+    → (calls : List Call) → Lent n calls → Alike n r calls (created n r recs slots roots) (plainCreated n r)
+
+-- and what the plain heap keeps in a collection is what pointers reach from its roots and sinks
+abbrev pub PlainKeeps : Type 0
+PlainKeeps = (P : Plain) (x : ℕ) → Obj (plainSize P) x → (has x (keptNumbers P) ≡ true) ↔ Reach (plainWords P) (plainStarts P) x
