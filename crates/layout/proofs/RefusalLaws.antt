@@ -27,6 +27,22 @@ module _ (k : ℕ) (l : List Test) where
   unfolding first
   first-fails b e = rw e refl
 
+-- 0 is answered: the first test fails, and the others answer 0
+pub first-passed : (k : ℕ) (b : Bool) (l : List Test) → first ((suc k, b) ∷ l) ≡ 0 → (b ≡ false) × (first l ≡ 0)
+unfolding first
+first-passed k true l e = absurd (omega arith)
+first-passed k false l e = (refl, e)
+
+-- one of the first tests holds: no other counts
+pub first-front : (a l : List Test) → first a ≢ 0 → first (a ++ l) ≡ first a
+unfolding first
+first-front [] l h = absurd (h refl)
+first-front (t ∷ a) l h = go (t .1) h (first-front a l)
+  where
+    go : (b : Bool) → cond b (t .0) (first a) ≢ 0 → (first a ≢ 0 → first (a ++ l) ≡ first a) → cond b (t .0) (first (a ++ l)) ≡ cond b (t .0) (first a)
+    go true h r = refl
+    go false h r = r h
+
 -- no test holds: 0
 pub first-none : (l : List Test) → None l → first l ≡ 0
 unfolding first
@@ -95,6 +111,15 @@ module _ {A : Type 0} (accepted : A) (refused : ℕ → A) where
   unfolding by
   by-number zero h = absurd (h refl)
   by-number (suc k) h = refl
+
+  -- by the number that the tests answer
+  pub outcome-zero : (l : List Test) → first l ≡ 0 → outcome l accepted refused ≡ accepted
+  unfolding outcome
+  outcome-zero l e = by-zero (first l) e
+
+  pub outcome-number : (l : List Test) (k : ℕ) → first l ≡ k → k ≢ 0 → outcome l accepted refused ≡ refused k
+  unfolding outcome
+  outcome-number l k e d = ap (λ (m : ℕ). by m accepted refused) e ∙ by-number k d
 
   -- no test holds: accepted
   pub outcome-accepted : (l : List Test) → None l → outcome l accepted refused ≡ accepted

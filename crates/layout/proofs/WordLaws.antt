@@ -66,7 +66,7 @@ module _ (n w : ℕ) (h : n ≤ objectMax) where
 -- ---- back: what an answered sort says
 
 -- what each sort says of the word
-pub Says : ℕ → ℕ → Word → Type 0
+unfoldable pub Says : ℕ → ℕ → Word → Type 0
 Says n w Nil = (isNil w ≡ true)
 Says n w (Object i) = (i ≡ w) × (isPointer n w ≡ true)
 Says n w Immediate = (isImmediate w ≡ true)

@@ -123,18 +123,6 @@ module _ (s : State) (I : Inv s) (work : List ℕ) where
   abbrev stateOf : Analyse.Outcome → State
   stateOf o = record { control = o .answer .control; records = o .records; slots = s .slots; roots = s .roots }
 
-  pub analyse-inv : Inv (step (analyse work) s .after)
-  unfolding step Analyse.analyse Analyse.limitAfter analysed withAnalysis
-  analyse-inv = all-by (λ (o : Analyse.Outcome). Inv (stateOf o)) _ _ _ (λ z. after-inv) (λ m. I)
-
-  pub analyse-same : Same (analyse work) s
-  unfolding step Analyse.analyse Analyse.limitAfter analysed plainStep withAnalysis
-  analyse-same = record {
-    answers = refl;
-    after = all-by (λ (o : Analyse.Outcome). plainOf (stateOf o) ≡ plainOf s) _ _ _
-        (λ z. ap (λ (l : List Cell). record { last = s .control .last; roots = rootsOf s; cells = l }) after-cells) (λ m. refl);
-  }
-
   after-view : view (s .control .n) (after .records) (s .slots) ≡ Graph.analyse rule H limit roots .heap
   unfolding Graph.analyse view
   after-view = view-laid s I (H .kids) (H .sink) (λ x. false) out′ cl′ 0 G blank (s .slots) same-kids
@@ -147,6 +135,18 @@ module _ (s : State) (I : Inv s) (work : List ℕ) where
   analyse-ruled =
       all-by (λ (o : Analyse.Outcome). o .answer .refusal ≡ 0 → view (o .answer .control .n) (o .records) (s .slots) ≡ Graph.analyse rule H limit roots .heap) _ _ _
       (λ z e. after-view) (λ m e. absurd (suc-ne-zero m e))
+
+  pub analyse-inv : Inv (step (analyse work) s .after)
+  unfolding step Analyse.analyse Analyse.limitAfter analysed withAnalysis
+  analyse-inv = all-by (λ (o : Analyse.Outcome). Inv (stateOf o)) _ _ _ (λ z. after-inv) (λ m. I)
+
+  pub analyse-same : Same (analyse work) s
+  unfolding step Analyse.analyse Analyse.limitAfter analysed plainStep withAnalysis
+  analyse-same = record {
+    answers = refl;
+    after = all-by (λ (o : Analyse.Outcome). plainOf (stateOf o) ≡ plainOf s) _ _ _
+        (λ z. ap (λ (l : List Cell). record { last = s .control .last; roots = rootsOf s; cells = l }) after-cells) (λ m. refl);
+  }
 
   pub limit-low : 1 ≤ Analyse.limitAfter (s .control) (s .records) (s .slots) (s .roots) work
   unfolding Analyse.limitAfter

@@ -32,6 +32,41 @@ use Rattle.rules.proofs.ListLaws.{length-each, drop-past, take-zeros}
 use Rattle.rules.proofs.BoolLaws.{or-split}
 use Rattle.rules.proofs.Simulation.{all-by, passed, pointer-facts}
 
+-- ---- work after an accepted analysis or collection
+
+clears : (k : ℕ) (l : List ℕ) → short k l ≡ false → Cleared k (zeros k l)
+unfolding short zeros
+clears k l e = take-zeros 0 k l (ltb-false (length l) k e)
+
+pub analyse-clears : (c : Control) (recs slots roots work : List ℕ)
+    → let o = Analyse.analyse c recs slots roots work in o .answer .refusal ≡ 0 → Cleared (workLen (c .n)) (o .work)
+unfolding Analyse.analyse
+analyse-clears c recs slots roots work =
+    all-by (λ (o : Analyse.Outcome). o .answer .refusal ≡ 0 → Cleared (workLen (c .n)) (o .work)) _ _ _
+    (λ z e. clears (workLen (c .n)) work (fits z)) (λ m e. absurd (suc-ne-zero m e))
+  where
+    fits : first (Analyse.analyseTests c recs slots roots work) ≡ 0 → short (workLen (c .n)) work ≡ false
+    fits z = unfold Analyse.analyseTests in
+        (let t1 = passed 19 _ _ z in
+        let t2 = passed 1 (short (c .n) recs || short (slotsLen (c .n)) slots || short (c .r) roots || short (workLen (c .n)) work) _ (t1 .1) in
+        or-split (short (c .n) recs || short (slotsLen (c .n)) slots || short (c .r) roots) (short (workLen (c .n)) work) (t2 .0) .1)
+
+pub collect-clears : (kind : Kind) (c : Control) (recs slots roots work map : List ℕ)
+    → let o = Collect.collect kind c recs slots roots work map in o .answer .refusal ≡ 0 → Cleared (workLen (c .n)) (o .work)
+unfolding Collect.collect Collect.sweep
+collect-clears kind c recs slots roots work map =
+    all-by (λ (o : Collect.Outcome). o .answer .refusal ≡ 0 → Cleared (workLen (c .n)) (o .work)) _ _ _
+    (λ z e. clears (workLen (c .n)) work (fits z)) (λ m e. absurd (suc-ne-zero m e))
+  where
+    fits : first (Collect.collectTests kind c recs slots roots work map) ≡ 0 → short (workLen (c .n)) work ≡ false
+    fits z = unfold Collect.collectTests in
+        (let t1 = passed 19 _ _ z in
+        let t2 = passed 1 (short (c .n) recs || short (slotsLen (c .n)) slots || short (c .r) roots || short (workLen (c .n)) work || short (mapLen (c .n)) map) _ (t1 .1) in
+        let t3 = or-split (short (c .n) recs || short (slotsLen (c .n)) slots || short (c .r) roots || short (workLen (c .n)) work) (short (mapLen (c .n)) map) (t2 .0) in
+        or-split (short (c .n) recs || short (slotsLen (c .n)) slots || short (c .r) roots) (short (workLen (c .n)) work) (t3 .0) .1)
+
+-- ---- what may change
+
 same : (k : ℕ) (l : List ℕ) → Within k l l
 same k l = (refl, refl)
 
@@ -144,36 +179,3 @@ collect-within kind c recs slots roots work map =
     × Within (mapLen (c .n)) map (o .map)) _ _ _
     (λ z. (by-record (c .n) _ recs, by-slot (c .n) _ slots, zeroed (workLen (c .n)) work, each 0 (mapLen (c .n)) _ map))
     (λ m. (same (c .n) recs, same (slotsLen (c .n)) slots, same (workLen (c .n)) work, same (mapLen (c .n)) map))
-
--- ---- work after an accepted analysis or collection
-
-clears : (k : ℕ) (l : List ℕ) → short k l ≡ false → Cleared k (zeros k l)
-unfolding short zeros
-clears k l e = take-zeros 0 k l (ltb-false (length l) k e)
-
-pub analyse-clears : (c : Control) (recs slots roots work : List ℕ)
-    → let o = Analyse.analyse c recs slots roots work in o .answer .refusal ≡ 0 → Cleared (workLen (c .n)) (o .work)
-unfolding Analyse.analyse
-analyse-clears c recs slots roots work =
-    all-by (λ (o : Analyse.Outcome). o .answer .refusal ≡ 0 → Cleared (workLen (c .n)) (o .work)) _ _ _
-    (λ z e. clears (workLen (c .n)) work (fits z)) (λ m e. absurd (suc-ne-zero m e))
-  where
-    fits : first (Analyse.analyseTests c recs slots roots work) ≡ 0 → short (workLen (c .n)) work ≡ false
-    fits z = unfold Analyse.analyseTests in
-        (let t1 = passed 19 _ _ z in
-        let t2 = passed 1 (short (c .n) recs || short (slotsLen (c .n)) slots || short (c .r) roots || short (workLen (c .n)) work) _ (t1 .1) in
-        or-split (short (c .n) recs || short (slotsLen (c .n)) slots || short (c .r) roots) (short (workLen (c .n)) work) (t2 .0) .1)
-
-pub collect-clears : (kind : Kind) (c : Control) (recs slots roots work map : List ℕ)
-    → let o = Collect.collect kind c recs slots roots work map in o .answer .refusal ≡ 0 → Cleared (workLen (c .n)) (o .work)
-unfolding Collect.collect Collect.sweep
-collect-clears kind c recs slots roots work map =
-    all-by (λ (o : Collect.Outcome). o .answer .refusal ≡ 0 → Cleared (workLen (c .n)) (o .work)) _ _ _
-    (λ z e. clears (workLen (c .n)) work (fits z)) (λ m e. absurd (suc-ne-zero m e))
-  where
-    fits : first (Collect.collectTests kind c recs slots roots work map) ≡ 0 → short (workLen (c .n)) work ≡ false
-    fits z = unfold Collect.collectTests in
-        (let t1 = passed 19 _ _ z in
-        let t2 = passed 1 (short (c .n) recs || short (slotsLen (c .n)) slots || short (c .r) roots || short (workLen (c .n)) work || short (mapLen (c .n)) map) _ (t1 .1) in
-        let t3 = or-split (short (c .n) recs || short (slotsLen (c .n)) slots || short (c .r) roots || short (workLen (c .n)) work) (short (mapLen (c .n)) map) (t2 .0) in
-        or-split (short (c .n) recs || short (slotsLen (c .n)) slots || short (c .r) roots) (short (workLen (c .n)) work) (t3 .0) .1)

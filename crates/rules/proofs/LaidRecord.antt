@@ -14,15 +14,6 @@ use Rattle.layout.proofs.RecordLaws.{Legal, clear-same, cluster-with-cluster, f
 use Rattle.rules.specs.View.{laidRecord}
 
 module _ (c : ℕ) (o s w : Bool) (r : ℕ) where
-  -- the bits of no field that is laid
-  pub laid-field : (q u : ℕ) → apart 16 12 q u ≡ true → apart 3 1 q u ≡ true → apart 2 1 q u ≡ true → apart 1 1 q u ≡ true
-      → field q u (laidRecord c o s w r) ≡ field q u r
-  unfolding laidRecord
-  laid-field q u a b d e =
-      field-put-other 16 12 c (withOut o (withSink s (withWritten w r))) q u a ∙ field-put-flag 3 o (withSink s (withWritten w r)) q u b
-      ∙ field-put-flag 2 s (withWritten w r) q u d
-      ∙ field-put-flag 1 w r q u e
-
   pub laid-out : isOut (laidRecord c o s w r) ≡ o
   unfolding laidRecord
   laid-out = flag-with-cluster c (withOut o (withSink s (withWritten w r))) 3 refl ∙ flag-put-same 3 o (withSink s (withWritten w r))
@@ -39,6 +30,15 @@ module _ (c : ℕ) (o s w : Bool) (r : ℕ) where
       flag-with-cluster c (withOut o (withSink s (withWritten w r))) 1 refl ∙ flag-put-other 3 o (withSink s (withWritten w r)) 1 (eqb-false 3 1 refl)
       ∙ flag-put-other 2 s (withWritten w r) 1 (eqb-false 2 1 refl)
       ∙ flag-put-same 1 w r
+
+  -- the bits of no field that is laid
+  pub laid-field : (q u : ℕ) → apart 16 12 q u ≡ true → apart 3 1 q u ≡ true → apart 2 1 q u ≡ true → apart 1 1 q u ≡ true
+      → field q u (laidRecord c o s w r) ≡ field q u r
+  unfolding laidRecord
+  laid-field q u a b d e =
+      field-put-other 16 12 c (withOut o (withSink s (withWritten w r))) q u a ∙ field-put-flag 3 o (withSink s (withWritten w r)) q u b
+      ∙ field-put-flag 2 s (withWritten w r) q u d
+      ∙ field-put-flag 1 w r q u e
 
   pub laid-width : width (laidRecord c o s w r) ≡ width r
   laid-width = laid-field 8 4 refl refl refl refl

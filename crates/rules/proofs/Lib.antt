@@ -2,7 +2,12 @@
 pub mod BoolLaws
 pub mod ListLaws
 pub mod PassLaws
+pub mod BufferLaws
+pub mod SearchLaws
 pub mod LaidRecord
+pub mod StoreLaws
+pub mod WellFormedLaws
+pub mod SaneLaws
 pub mod ViewLaws
 pub mod Invariant
 pub mod Abstraction

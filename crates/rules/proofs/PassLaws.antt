@@ -6,7 +6,7 @@ use mathlib.Core.Logic.{_≢_}
 use mathlib.Core.List.{List, [], _∷_, _++_, append-assoc}
 use native.Mathlib.Decide.{ℕ-discrete, decLt}
 use native.Mathlib.Omega.{arith}
-use lib.ListN.{length, getD, take, drop, set, length-set, length-append, length-take, length-drop, take-append-drop}
+use lib.ListN.{length, getD, take, drop, set, length-set, length-append, length-take, length-drop, take-append-drop, drop-of-length-le}
 use lib.Seq.{drop-cons, take-suc-set, drop-set-lt, length-take-le, getD-set-same, getD-set-other, set-getD, ext-getD}
 use Rattle.rules.specs.Buffers.{eachFrom, zeros}
 use Rattle.rules.proofs.ListLaws.{length-each, get-each}
@@ -24,6 +24,18 @@ pass-begin base k f l = let e : base + 0 ≡ base = omega arith in ap (λ (b : �
 pub pass-end : {A : Type 0} (base i : ℕ) (f : ℕ → A → A) (l : List A) → passFrom base i 0 f l ≡ l
 unfolding passFrom eachFrom
 pass-end base i f l = take-append-drop i l
+
+-- past the end of the list too
+pub pass-past : {A : Type 0} (base i k : ℕ) (f : ℕ → A → A) (l : List A) → length l ≤ i → passFrom base i k f l ≡ l
+unfolding passFrom eachFrom
+pass-past {A = A} base i k f l p = ap (λ (m : List A). take i l ++ m) (ap (eachFrom (base + i) k f) none ∙ nil k ∙ sym none) ∙ take-append-drop i l
+  where
+    none : drop i l ≡ []
+    none = drop-of-length-le l {i = i} p
+
+    nil : (k : ℕ) → eachFrom (base + i) k f [] ≡ []
+    nil zero = refl
+    nil (suc k) = refl
 
 -- rewriting the word at i leaves the rest of the pass
 pub pass-turn : {A : Type 0} (base i k : ℕ) (f : ℕ → A → A) (l : List A) (d : A) → i < length l

@@ -1,0 +1,51 @@
+// Create: a heap of n free objects and r nil roots.
+ghost use mathlib.Core.Path.{_≡_};
+ghost use Rattle.layout.specs.ControlRecord.{newControl};
+ghost use Rattle.rules.specs.Create as Create;
+use crate::buffers::zero;
+use layout::answers::Control;
+use layout::answers::Done;
+use layout::limits::slots_len;
+use layout::refusals::BAD_SIZES;
+use layout::refusals::TOO_SHORT;
+use layout::refusals::bad_sizes;
+
+// The control record of a heap just created.
+pub(crate) fn new_control(n: u32, r: u32) -> Control
+    ensures { λ c. ⌜ c ≡ newControl n r ⌝ }
+{
+    Control {
+        n: n,
+        r: r,
+        last: 0,
+        limit: 0,
+        write_loss: 0,
+        out_loss: 0,
+    }
+}
+
+// n records, 8 n slots and r roots become 0; after a refusal nothing changes and the control record is all zeros.
+pub fn create(n: u32, r: u32, records: &mut [u32], slots: &mut [u32], roots: &mut [u32]) -> Done
+    ensures { λ a. ⌜ Create.gives a (now (records .exit)) (now (slots .exit)) (now (roots .exit))
+        ≡ Create.create n r (now (records .entry)) (now (slots .entry)) (now (roots .entry)) ⌝ }
+{
+    if bad_sizes(n, r) {
+        return Done {
+            refusal: BAD_SIZES,
+            control: new_control(0, 0),
+        };
+    }
+    if records.len() < n as usize || slots.len() < slots_len(n) || roots.len() < r as usize {
+        return Done {
+            refusal: TOO_SHORT,
+            control: new_control(0, 0),
+        };
+    }
+    zero(records, n as usize);
+    zero(slots, slots_len(n));
+    zero(roots, r as usize);
+    Done {
+        refusal: 0,
+        control: new_control(n, r),
+    }
+}

@@ -1,0 +1,242 @@
+-- A store into a slot and its object's record, for any records: what is read after it, and the records that the rules of a write give.
+-- Assumes nothing.
+use Prim.Native.Nat.{ℕ, zero, suc, _+_, _-_, _*_, _≤_, _<_}
+use mathlib.Core.Path.{_≡_, refl, sym, ap, ap₂, _∙_, fun-ext}
+use mathlib.Core.Bool.{Bool, true, false, not, cond, _&&_}
+use mathlib.Core.Logic.{_≢_}
+use mathlib.Core.List.{List, [], _∷_, map}
+use native.Mathlib.Decide.{ℕ-discrete, decLt, decLe}
+use native.Mathlib.Omega.{arith}
+use lib.Dec.{eqb, ltb}
+use lib.ListN.{length, getD, take, set, length-set, length-take, List·getD-eq-default}
+use lib.Seq.{take-set-lt, getD-set-same, getD-set-other, ext-getD}
+use borrow.Author.Tests.{le-leb, lt-leb, eq-eqb, ne-eqb, eqb-false}
+use Rattle.layout.specs.Field.{field}
+use Rattle.layout.specs.Record.{width, cluster, isOut, isSink, isWritten, withOut, withSink, withCluster, withWritten, loose}
+use Rattle.layout.proofs.FieldLaws.{put-same, field-put-flag, flag-put-other, flag-stays}
+use Rattle.graph.specs.Numbers.{upd}
+use Rattle.graph.specs.Heap.{Heap}
+use Rattle.graph.specs.Clusters.{keep, others, outCount, outBit}
+use Rattle.graph.specs.Writes.{dissolves, stored, storeBy}
+use Rattle.graph.proofs.NumberLaws.{upd-same, upd-other}
+use Rattle.rules.specs.Buffers.{recOf, eight, usedWords, eachFrom, eachRecord}
+use Rattle.rules.specs.View.{target, view, exactOut, laidRecord, laid}
+use Rattle.rules.proofs.ListLaws.{length-each, get-each, recOf-above, eight-set}
+use Rattle.rules.proofs.PassLaws.{pass-one, get-past}
+use Rattle.rules.proofs.BufferLaws.{recOf-get, used-get}
+use Rattle.rules.proofs.LaidRecord.{laid-same, laid-loose}
+
+-- ---- the record of an object
+
+pub recOf-past : (n : ℕ) (recs : List ℕ) (x : ℕ) → length recs < x → recOf n recs x ≡ 0
+unfolding recOf
+recOf-past n recs zero p = refl
+recOf-past n recs (suc i) p = List·getD-eq-default (take n recs) 0 (let a = length-take n recs in omega arith)
+
+pub recOf-zero : (n : ℕ) (recs : List ℕ) → recOf n recs 0 ≡ 0
+unfolding recOf
+recOf-zero n recs = refl
+
+-- the object whose record stands at place m
+pub recOf-place : (n : ℕ) (recs : List ℕ) (m : ℕ) → m < n → recOf n recs (1 + m) ≡ getD recs m 0
+recOf-place n recs m p = let z : 1 + m - 1 ≡ m = omega arith in recOf-get n recs (1 + m) (omega arith) (omega arith) ∙ ap (λ (j : ℕ). getD recs j 0) z
+
+module _ (n : ℕ) (recs : List ℕ) (i v : ℕ) (p : 1 ≤ i) (q : i ≤ n) (l : n ≤ length recs) where
+  pub recOf-set-same : recOf n (set recs (i - 1) v) i ≡ v
+  recOf-set-same = recOf-get n (set recs (i - 1) v) i p q ∙ getD-set-same recs (i - 1) v 0 (omega arith)
+
+  pub recOf-set-other : (x : ℕ) → x ≢ i → recOf n (set recs (i - 1) v) x ≡ recOf n recs x
+  unfolding recOf
+  recOf-set-other zero e = refl
+  recOf-set-other (suc j) e =
+      ap (λ (r : List ℕ). getD r j 0) (take-set-lt n recs (i - 1) v (omega arith)) ∙ getD-set-other (take n recs) (i - 1) j v 0 (λ z. e (omega arith))
+
+  -- what the stored record has as the old one had, every object has
+  pub recOf-set-alike : {A : Type 0} (f : ℕ → A) → f v ≡ f (recOf n recs i) → (x : ℕ) → f (recOf n (set recs (i - 1) v) x) ≡ f (recOf n recs x)
+  recOf-set-alike f e x = go (ℕ-discrete x i)
+    where
+      go : Dec (x ≡ i) → f (recOf n (set recs (i - 1) v) x) ≡ f (recOf n recs x)
+      go (yes z) = rw z (ap f recOf-set-same ∙ e)
+      go (no z) = ap f (recOf-set-other x z)
+
+-- ---- one record
+
+module _ (r : ℕ) where
+  sink-kept : withSink (isSink r) (withWritten true r) ≡ withWritten true r
+  sink-kept = flag-stays 2 (isSink r) (withWritten true r) (flag-put-other 1 true r 2 (eqb-false 1 2 refl))
+
+  -- written, with a new out bit
+  pub laid-written-out : (o : Bool) → laidRecord (cluster r) o (isSink r) true r ≡ withOut o (withWritten true r)
+  unfolding laidRecord
+  laid-written-out o =
+      let s = withOut o (withWritten true r) in
+      let e : cluster s ≡ cluster r = field-put-flag 3 o (withWritten true r) 16 12 refl ∙ field-put-flag 1 true r 16 12 refl in
+      ap (λ (x : ℕ). withCluster (cluster r) (withOut o x)) sink-kept ∙ ap (λ (k : ℕ). withCluster k s) (sym e) ∙ put-same 16 12 s
+
+  -- written, and loose
+  pub laid-written-loose : laidRecord 0 false (isSink r) true r ≡ loose (withWritten true r)
+  unfolding laidRecord loose
+  laid-written-loose = ap (λ (x : ℕ). withCluster 0 (withOut false x)) sink-kept
+
+-- a record after cluster c is dissolved
+pub laid-dissolved : (r c : ℕ) → laidRecord (keep (others c) cluster r) (others c (cluster r) && isOut r) (isSink r) (isWritten r) r ≡ cond (eqb (cluster r) c) (loose r) r
+unfolding keep others
+laid-dissolved r c = go (eqb (cluster r) c)
+  where
+    go : (b : Bool) → laidRecord (cond (not b) (cluster r) 0) (not b && isOut r) (isSink r) (isWritten r) r ≡ cond b (loose r) r
+    go true = laid-loose r
+    go false = laid-same r
+
+-- ---- a write that leaves the clusters as they are
+
+module _ (n : ℕ) (recs slots : List ℕ) (i k t : ℕ) (p : 1 ≤ i) (q : i ≤ n) (l : n ≤ length recs) where
+  abbrev H : Heap
+  H = view n recs slots
+
+  -- one record changes: written set, out exact
+  pub store-staying : laid (storeBy false H i k t) recs
+      ≡ set recs (i - 1) (withOut (outBit (stored H i k t) (H .sink) (H .cluster) i) (withWritten true (recOf n recs i)))
+  unfolding laid eachRecord storeBy view
+  store-staying =
+      pass-one 1 n f recs (i - 1) 0 (omega arith) l (λ m a d. other m a (λ z. d (omega arith)))
+      ∙ ap (set recs (i - 1)) here
+    where
+      o : Bool
+      o = outBit (stored H i k t) (H .sink) (H .cluster) i
+
+      f : ℕ → ℕ → ℕ
+      f x r = laidRecord (cluster (recOf n recs x)) (upd (H .out) i o x) (isSink (recOf n recs x)) (upd (H .written) i true x) r
+
+      other : (m : ℕ) → m < n → 1 + m ≢ i → f (1 + m) (getD recs m 0) ≡ getD recs m 0
+      other m a d =
+          rw (upd-other (H .out) i (1 + m) o d, upd-other (H .written) i (1 + m) true d, ← recOf-place n recs m a) (laid-same (recOf n recs (1 + m)))
+
+      here : f (1 + (i - 1)) (getD recs (i - 1) 0) ≡ withOut o (withWritten true (recOf n recs i))
+      here =
+          let z : 1 + (i - 1) ≡ i = omega arith in
+          rw (z, ← recOf-get n recs i p q, upd-same (H .out) i o, upd-same (H .written) i true) (laid-written-out (recOf n recs i) o)
+
+  -- ---- a write that dissolves a cluster
+
+  abbrev c : ℕ
+  c = cluster (recOf n recs i)
+
+  -- written is set, then every member of the object's cluster becomes loose
+  pub store-dissolving : laid (storeBy true H i k t) recs
+      ≡ eachRecord n (λ x r. cond (eqb (cluster r) (cluster (recOf n recs i))) (loose r) r) (set recs (i - 1) (withWritten true (recOf n recs i)))
+  unfolding laid eachRecord storeBy view keep others
+  store-dissolving =
+      ext-getD 0 (eachFrom 1 n f recs) (eachFrom 1 n g new) (length-each 1 n f recs ∙ sym (length-each 1 n g new ∙ length-set recs (i - 1) v))
+      (λ m a. at m (let b = length-each 1 n f recs in omega arith) (ℕ-discrete m (i - 1)) (decLt m n))
+    where
+      v : ℕ
+      v = withWritten true (recOf n recs i)
+
+      new : List ℕ
+      new = set recs (i - 1) v
+
+      f : ℕ → ℕ → ℕ
+      f x r = laidRecord (keep (others c) (H .cluster) x) (others c (cluster (recOf n recs x)) && isOut (recOf n recs x)) (isSink (recOf n recs x)) (upd (H .written) i true x) r
+
+      g : ℕ → ℕ → ℕ
+      g x r = cond (eqb (cluster r) c) (loose r) r
+
+      here : f i (recOf n recs i) ≡ g i v
+      here =
+          let e : cluster v ≡ c = field-put-flag 1 true (recOf n recs i) 16 12 refl in
+          rw (eq-eqb c c refl, upd-same (H .written) i true, e, eq-eqb c c refl) (laid-written-loose (recOf n recs i))
+
+      other : (m : ℕ) → m < n → 1 + m ≢ i → f (1 + m) (getD recs m 0) ≡ g (1 + m) (getD recs m 0)
+      other m b d = rw (upd-other (H .written) i (1 + m) true d, ← recOf-place n recs m b) (laid-dissolved (recOf n recs (1 + m)) c)
+
+      at : (m : ℕ) → m < length recs → Dec (m ≡ i - 1) → Dec (m < n) → getD (eachFrom 1 n f recs) m 0 ≡ getD (eachFrom 1 n g new) m 0
+      at m a (yes e) b =
+          let z : 1 + m ≡ i = omega arith in
+          let r : getD recs m 0 ≡ recOf n recs i = rw e (sym (recOf-get n recs i p q)) in
+          let y : getD new m 0 ≡ v = rw e (getD-set-same recs (i - 1) v 0 (omega arith)) in
+          get-each 1 n f recs m 0 (omega arith) a ∙ ap₂ f z r ∙ here
+          ∙ sym (get-each 1 n g new m 0 (omega arith) (let x = length-set recs (i - 1) v in omega arith) ∙ ap (g (1 + m)) y)
+      at m a (no e) (yes b) =
+          get-each 1 n f recs m 0 b a ∙ other m b (λ z. e (omega arith))
+          ∙ sym (get-each 1 n g new m 0 b (let x = length-set recs (i - 1) v in omega arith) ∙ ap (g (1 + m)) (getD-set-other recs (i - 1) m v 0 e))
+      at m a (no e) (no b) =
+          get-past 1 n f recs m 0 (omega (arith, b)) ∙ sym (get-past 1 n g new m 0 (omega (arith, b)) ∙ getD-set-other recs (i - 1) m v 0 e)
+
+-- ---- the out bit after a store
+
+pub map-set : (f : ℕ → ℕ) (l : List ℕ) (k w : ℕ) → map f (set l k w) ≡ set (map f l) k (f w)
+map-set f [] k w = refl
+map-set f (x ∷ l) zero w = refl
+map-set f (x ∷ l) (suc k) w = ap (λ r. f x ∷ r) (map-set f l k w)
+
+get-map : (n : ℕ) (l : List ℕ) (k : ℕ) → getD (map (target n) l) k 0 ≡ target n (getD l k 0)
+unfolding target
+get-map n [] k = rw (le-leb 0 n (omega arith)) refl
+get-map n (x ∷ l) zero = refl
+get-map n (x ∷ l) (suc k) = get-map n l k
+
+-- a word's target is in cluster c: the record of the word's number tells, also where it is no pointer
+target-in : (n : ℕ) (recs : List ℕ) (w c : ℕ) → c ≢ 0 → eqb (cluster (recOf n recs w)) c ≡ not (eqb (target n w) 0) && eqb (cluster (recOf n recs (target n w))) c
+unfolding target field
+target-in n recs w c h = go (decLe w n) (ℕ-discrete w 0)
+  where
+    go : Dec (w ≤ n) → Dec (w ≡ 0) → eqb (cluster (recOf n recs w)) c ≡ not (eqb (target n w) 0) && eqb (cluster (recOf n recs (target n w))) c
+    go (yes a) (yes z) = rw (le-leb w n a, z, recOf-zero n recs) (ne-eqb 0 c (λ e. h (sym e)))
+    go (yes a) (no z) = rw (le-leb w n a, ne-eqb w 0 z) refl
+    go (no a) z = rw (lt-leb w n (omega (arith, a)), recOf-above n recs w (omega (arith, a))) (ne-eqb 0 c (λ e. h (sym e)))
+
+module _ (n : ℕ) (recs slots : List ℕ) (i k : ℕ) (p : 1 ≤ i) (u : k < width (recOf n recs i)) (b : width (recOf n recs i) ≤ 8) where
+  -- one word stored and written set: the out bit is that of the rule
+  pub exact-stored : (w : ℕ) → i ≤ n → n ≤ length recs → exactOut (view n (set recs (i - 1) (withWritten true (recOf n recs i))) (set slots (8 * (i - 1) + k) w)) i
+      ≡ outBit (stored (view n recs slots) i k (target n w)) (view n recs slots .sink) (view n recs slots .cluster) i
+  unfolding exactOut view outBit stored usedWords
+  exact-stored w q l =
+      ap (λ s. made s (cl new) (kids new changed i)) (fun-ext (recOf-set-alike n recs i v p q l isSink (flag-put-other 1 true r 2 (eqb-false 1 2 refl))))
+      ∙ ap (λ d. made (sink recs) d (kids new changed i)) (fun-ext (recOf-set-alike n recs i v p q l cluster (field-put-flag 1 true r 16 12 refl)))
+      ∙ ap (made (sink recs) (cl recs)) (words ∙ sym (upd-same (kids recs slots) i (set (kids recs slots i) k (target n w))))
+    where
+      r : ℕ
+      r = recOf n recs i
+
+      v : ℕ
+      v = withWritten true r
+
+      new : List ℕ
+      new = set recs (i - 1) v
+
+      changed : List ℕ
+      changed = set slots (8 * (i - 1) + k) w
+
+      sink : List ℕ → ℕ → Bool
+      sink rs x = isSink (recOf n rs x)
+
+      cl : List ℕ → ℕ → ℕ
+      cl rs x = cluster (recOf n rs x)
+
+      kids : List ℕ → List ℕ → ℕ → List ℕ
+      kids rs ss x = map (target n) (take (width (recOf n rs x)) (eight ss x))
+
+      made : (ℕ → Bool) → (ℕ → ℕ) → List ℕ → Bool
+      made s d ks = not (eqb (d i) 0) && ltb 0 (outCount s d (d i) ks)
+
+      words : kids new changed i ≡ set (kids recs slots i) k (target n w)
+      words =
+          let z : suc (i - 1) ≡ i = omega arith in
+          let e : width (recOf n new i) ≡ width r = recOf-set-alike n recs i v p q l width (field-put-flag 1 true r 8 4 refl) i in
+          let t : eight changed i ≡ set (eight slots i) k w = rw z at (eight-set slots (i - 1) k w (omega arith)) in
+          ap₂ (λ (x : ℕ) (y : List ℕ). map (target n) (take x y)) e t
+          ∙ ap (map (target n)) (take-set-lt (width r) (eight slots i) k w u)
+          ∙ map-set (target n) (take (width r) (eight slots i)) k w
+
+  -- the old word's target decides whether the cluster is dissolved
+  pub dissolves-loose : (t : ℕ) → cluster (recOf n recs i) ≡ 0 → false ≡ dissolves (view n recs slots) i k t
+  unfolding dissolves view
+  dissolves-loose t e = rw e refl
+
+  pub dissolves-member : (t : ℕ) → cluster (recOf n recs i) ≢ 0
+      → eqb (cluster (recOf n recs (getD slots (8 * (i - 1) + k) 0))) (cluster (recOf n recs i)) ≡ dissolves (view n recs slots) i k t
+  unfolding dissolves view
+  dissolves-member t h =
+      let o : getD (map (target n) (usedWords n recs slots i)) k 0 ≡ target n (getD slots (8 * (i - 1) + k) 0)
+      = get-map n (usedWords n recs slots i) k ∙ ap (target n) (used-get n recs slots i p b k u) in
+      rw (o, ne-eqb (cluster (recOf n recs i)) 0 h) (target-in n recs (getD slots (8 * (i - 1) + k) 0) (cluster (recOf n recs i)) h)
