@@ -129,7 +129,4 @@ uint32_t pakzid_write_in_place(pakzid_control *control, uint32_t object, uint32_
                                uint32_t *records, size_t records_length,
                                uint32_t *slots, size_t slots_length);
 
-/* 0 if the calls take this control record, else 20. */
-uint32_t pakzid_control_ok(pakzid_control control);
-
 #endif

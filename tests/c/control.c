@@ -1,7 +1,8 @@
-/* Sizes of the structs, and control records as they cross to the proved test. */
+/* Sizes of the structs, and control records as they cross: each is refused or taken, and comes back as it was. */
 #include "../../include/pakzid.h"
 
 #include <stdio.h>
+#include <string.h>
 
 static int failed;
 
@@ -43,8 +44,14 @@ int main(void)
         {"write loss above n", {10, 1, 0, 0, 11, 0}, 20},
         {"out loss above n", {10, 1, 0, 0, 0, 11}, 20},
     };
-    for (size_t i = 0; i < sizeof rows / sizeof rows[0]; i++)
-        expect(rows[i].what, pakzid_control_ok(rows[i].control), rows[i].refusal);
+    /* no object is in use, so that 22 follows where the control record is taken */
+    static uint32_t records[4095], slots[8 * 4095];
+    for (size_t i = 0; i < sizeof rows / sizeof rows[0]; i++) {
+        pakzid_word read = pakzid_read(rows[i].control, 1, 0, records, 4095, slots, 8 * 4095);
+        expect(rows[i].what, read.refusal, rows[i].refusal ? rows[i].refusal : 22);
+        expect("word", read.word, 0);
+        expect("control record back", memcmp(&read.control, &rows[i].control, sizeof read.control), 0);
+    }
 
     if (!failed)
         printf("control: ok\n");

@@ -24,7 +24,7 @@ recordOk n r = free r || legal n r
 unfoldable pub headOk : ℕ → List ℕ → ℕ → Bool
 headOk n recs r = eqb (cluster r) 0 || eqb (cluster (recOf n recs (cluster r))) (cluster r)
 
--- w is the number of an object in use
+-- w names one of the objects in use
 unfoldable pub used : ℕ → List ℕ → ℕ → Bool
 used n recs w = isPointer n w && inUse (recOf n recs w)
 
@@ -44,6 +44,6 @@ objectOk n recs slots x =
 unfoldable pub objectsOk : ℕ → List ℕ → List ℕ → Bool
 objectsOk n recs slots = allTo n (objectOk n recs slots)
 
--- each of the r roots is nil or the number of an object in use
+-- each of the r roots is nil or names such an object
 unfoldable pub rootsOk : ℕ → ℕ → List ℕ → List ℕ → Bool
 rootsOk n r recs roots = allOf (λ w. isNil w || used n recs w) (take r roots)

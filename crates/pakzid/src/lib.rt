@@ -1,17 +1,104 @@
-// The calls as C sees them: structs by value, slices as pointer and length.
+// The calls as C sees them: numbers and structs by value, a slice as a pointer and a length. Nothing but exports stands here.
 ghost use mathlib.Core.Path.{_≡_};
-ghost use mathlib.Core.List.{[], _∷_};
-ghost use Rattle.layout.specs.ControlRecord.{badControl};
-ghost use Rattle.layout.specs.Refusal.{first};
-ghost use Rattle.layout.specs.RefusalNumbers as No;
+ghost use Rattle.rules.specs.Create as Create;
+ghost use Rattle.rules.specs.Allocate as Allocate;
+ghost use Rattle.rules.specs.Read as Read;
+ghost use Rattle.rules.specs.Show as Show;
+ghost use Rattle.rules.specs.Write as Write;
+ghost use Rattle.rules.specs.SetRoot as SetRoot;
+ghost use Rattle.rules.specs.DeclareSink as DeclareSink;
+use layout::answers::Allocated;
 use layout::answers::Control;
-use layout::refusals::BAD_CONTROL;
-use layout::refusals::bad_control;
+use layout::answers::Done;
+use layout::answers::Part;
+use layout::answers::WordRead;
 
-// 0 where the control record is one that the calls take, else its refusal.
 #[no_mangle]
-pub extern "C" fn pakzid_control_ok(c: Control) -> u32
-    ensures { λ k. ⌜ k ≡ first ((No.badControl, badControl c) ∷ []) ⌝ }
+pub extern "C" fn pakzid_create(
+    n: u32,
+    r: u32,
+    records: &mut [u32],
+    slots: &mut [u32],
+    roots: &mut [u32],
+) -> Done
+    ensures { λ a. ⌜ Create.gives a (now (records .exit)) (now (slots .exit)) (now (roots .exit))
+        ≡ Create.create n r (now (records .entry)) (now (slots .entry)) (now (roots .entry)) ⌝ }
 {
-    if bad_control(c) { BAD_CONTROL } else { 0 }
+    heap::create::create(n, r, records, slots, roots)
+}
+
+#[no_mangle]
+pub extern "C" fn pakzid_allocate(
+    c: Control,
+    width: u32,
+    records: &mut [u32],
+    slots: &mut [u32],
+) -> Allocated
+    ensures { λ a. ⌜ Allocate.gives a (now (records .exit)) (now (slots .exit))
+        ≡ Allocate.allocate c width (now (records .entry)) (now (slots .entry)) ⌝ }
+{
+    heap::allocate::allocate(c, width, records, slots)
+}
+
+#[no_mangle]
+pub extern "C" fn pakzid_read(
+    c: Control,
+    object: u32,
+    slot: u32,
+    records: &[u32],
+    slots: &[u32],
+) -> WordRead
+    ensures { λ a. ⌜ a ≡ Read.read c object slot (now (records .entry)) (now (slots .entry)) ⌝ }
+{
+    heap::read::read(c, object, slot, records, slots)
+}
+
+// Where the part that `heap::show::show` gives stands in the lent slots.
+#[no_mangle]
+pub extern "C" fn pakzid_show(c: Control, object: u32, records: &[u32], slots: &[u32]) -> Part
+    ensures { λ a. ⌜ a ≡ Show.show c object (now (records .entry)) (now (slots .entry)) .answer ⌝ }
+{
+    heap::show::show_part(c, object, records, slots)
+}
+
+#[no_mangle]
+pub extern "C" fn pakzid_write(
+    c: Control,
+    object: u32,
+    slot: u32,
+    word: u32,
+    records: &mut [u32],
+    slots: &mut [u32],
+) -> Done
+    ensures { λ a. ⌜ Write.gives a (now (records .exit)) (now (slots .exit))
+        ≡ Write.write c object slot word (now (records .entry)) (now (slots .entry)) ⌝ }
+{
+    heap::write::write(c, object, slot, word, records, slots)
+}
+
+#[no_mangle]
+pub extern "C" fn pakzid_set_root(
+    c: Control,
+    index: u32,
+    word: u32,
+    records: &[u32],
+    roots: &mut [u32],
+) -> Done
+    ensures { λ a. ⌜ SetRoot.gives a (now (roots .exit)) ≡ SetRoot.setRoot c index word (now (records .entry)) (now (roots .entry)) ⌝ }
+{
+    heap::set_root::set_root(c, index, word, records, roots)
+}
+
+#[no_mangle]
+pub extern "C" fn pakzid_declare_sink(
+    c: Control,
+    object: u32,
+    records: &mut [u32],
+    slots: &[u32],
+    roots: &[u32],
+) -> Done
+    ensures { λ a. ⌜ DeclareSink.gives a (now (records .exit))
+        ≡ DeclareSink.declareSink c object (now (records .entry)) (now (slots .entry)) (now (roots .entry)) ⌝ }
+{
+    heap::declare_sink::declare_sink(c, object, records, slots, roots)
 }
