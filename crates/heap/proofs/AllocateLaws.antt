@@ -25,7 +25,7 @@ use Rattle.heap.specs.Cleared.{cleared}
 use Rattle.heap.specs.declared.allocate.Choice.{Choice}
 use Rattle.heap.specs.declared.allocate.Choice.the-variants.{Object, Refusal}
 use Rattle.heap.proofs.ClearedLaws.{cleared-object}
-use Rattle.heap.proofs.NamedLaws.{or-split}
+use Rattle.rules.proofs.BoolLaws.{or-split}
 use Rattle.rules.proofs.SearchLaws.{firstOf-found, candidates-of, firstOf-here, firstOf-next, firstOf-none, firstOf-rest, firstOf-front}
 
 -- ---- one search

@@ -18,13 +18,10 @@ use Rattle.layout.proofs.LimitLaws.{within-true}
 use Rattle.layout.proofs.RefusalLaws.{first-passed, first-fails}
 use Rattle.rules.specs.Buffers.{short, recOf}
 use Rattle.rules.specs.Show.{showTests}
+use Rattle.rules.proofs.BoolLaws.{or-split}
 use Rattle.rules.proofs.BufferLaws.{recOf-get}
 
--- two tests that fail, and where the slots of an object start
-pub or-split : (a b : Bool) → (a || b) ≡ false → (a ≡ false) × (b ≡ false)
-or-split true b e = absurd (true≢false e)
-or-split false b e = (refl, e)
-
+-- where the slots of an object start
 pub start-is : (k : ℕ) → slotsLen k ≡ 8 * k
 unfolding slotsLen
 start-is k = refl

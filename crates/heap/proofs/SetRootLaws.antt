@@ -22,7 +22,7 @@ use Rattle.rules.specs.Buffers.{short, recOf}
 use Rattle.rules.specs.SetRoot as SetRoot
 use Rattle.rules.specs.SetRoot.{setRootTests}
 use Rattle.rules.proofs.BufferLaws.{recOf-get}
-use Rattle.heap.proofs.NamedLaws.{or-split}
+use Rattle.rules.proofs.BoolLaws.{or-split}
 
 right : (b : Bool) → b || true ≡ true
 right true = refl

@@ -10,6 +10,7 @@ use native.Mathlib.Omega.{arith}
 use lib.Dec.{leb, ltb, eqb}
 use lib.ListN.{length, set, take, drop, replicate}
 use borrow.Author.Tests.{ltb-false, eqb-false, eqb-true, eq-eqb, ne-eqb}
+use Rattle.layout.proofs.RefusalLaws.{first-passed}
 use Rattle.layout.specs.Record as R
 use Rattle.layout.specs.ControlRecord.{withLast}
 use Rattle.layout.specs.Field.{field, flag}
@@ -35,10 +36,11 @@ use Rattle.rules.specs.Plain.{Plain, Played, Cell, object, plainGiven, a
 use Rattle.rules.specs.Steps.{State, step}
 use Rattle.rules.specs.Demands.{heapOf, rec, rootsOf, wordsOf}
 use Rattle.rules.proofs.ListLaws.{recOf-above, map-id, length-each, recOf-each, eight-each, length-eight, set-numbers}
+use Rattle.rules.proofs.SearchLaws.{firstOf-found, candidates-of}
 use Rattle.rules.proofs.BoolLaws.{or-last}
 use Rattle.rules.proofs.Invariant.{Inv, SlotWord, inv-control, enough}
 use Rattle.rules.proofs.Abstraction.{plainOf, cellOf, cellsOf, cells-size, at-free}
-use Rattle.rules.proofs.Simulation.{Same, same-by, all-by, passed, in-range}
+use Rattle.rules.proofs.Simulation.{Same, same-by, all-by, in-range}
 use Rattle.rules.proofs.PointerLaws.{named-used}
 use Rattle.rules.proofs.CreateLaws.{mem-replicate, nil-map}
 
@@ -48,32 +50,6 @@ firstOf-same : (t u : ℕ → Bool) (l : List ℕ) → ((x : ℕ) → t x ≡ u 
 unfolding firstOf
 firstOf-same t u [] h = refl
 firstOf-same t u (x ∷ l) h = ap₂ (λ (b : Bool) (r : ℕ). cond b x r) (h x) (firstOf-same t u l h)
-
-firstOf-found : (t : ℕ → Bool) (l : List ℕ) → firstOf t l ≢ 0 → List·Memᴰ (firstOf t l) l × (t (firstOf t l) ≡ true)
-unfolding firstOf
-firstOf-found t [] h = absurd (h refl)
-firstOf-found t (x ∷ l) h = go (t x) refl (λ q. firstOf-found t l q)
-  where
-    go : (b : Bool) → t x ≡ b → (firstOf t l ≢ 0 → List·Memᴰ (firstOf t l) l × (t (firstOf t l) ≡ true))
-        → List·Memᴰ (cond (t x) x (firstOf t l)) (x ∷ l) × (t (cond (t x) x (firstOf t l)) ≡ true)
-    go true e r = rw e (List·Memᴰ·head refl, e)
-    go false e r =
-        let q : firstOf t l ≢ 0 = λ z. h (rw e z) in
-        rw e (List·Memᴰ·tail (r q .0), r q .1)
-
-numbers-of : (a k x : ℕ) → List·Memᴰ x (numbers a k) → (a ≤ x) × (x < a + k)
-unfolding numbers
-numbers-of a zero x m = absurd (List·Memᴰ·not-nil m)
-numbers-of a (suc k) x (List·Memᴰ·head e) = (omega arith, omega arith)
-numbers-of a (suc k) x (List·Memᴰ·tail m) = let t = numbers-of (suc a) k x m in (omega (arith, t .0), omega (arith, t .1))
-
-candidates-of : (last n x : ℕ) → last ≤ n → List·Memᴰ x (candidates last n) → (1 ≤ x) × (x ≤ n)
-unfolding candidates
-candidates-of last n x p m = go (List·Memᴰ·append-cases (numbers (suc last) (n - last)) m)
-  where
-    go : List·Memᴰ x (numbers (suc last) (n - last)) ⊎ List·Memᴰ x (numbers 1 last) → (1 ≤ x) × (x ≤ n)
-    go (inl m) = let t = numbers-of (suc last) (n - last) x m in (omega (arith, t .0), omega (arith, t .1))
-    go (inr m) = let t = numbers-of 1 last x m in (omega (arith, t .0), omega (arith, t .1))
 
 take-nil : (k : ℕ) (l : List ℕ) → k ≤ length l → take k (map {B = ℕ} (λ (w : ℕ). 0) l) ≡ replicate k 0
 take-nil zero l p = refl
@@ -263,10 +239,10 @@ module _ (s : State) (I : Inv s) (v : ℕ) where
   facts : first (Allocate.allocateTests (s .control) v (s .records) (s .slots)) ≡ 0 → Passed
   unfolding Allocate.allocateTests
   facts z =
-      let t1 = passed 19 _ _ z in
-      let t2 = passed 1 _ _ (t1 .1) in
-      let t3 = passed 2 _ _ (t2 .1) in
-      let t4 = passed 23 _ _ (t3 .1) in
+      let t1 = first-passed 19 _ _ z in
+      let t2 = first-passed 1 _ _ (t1 .1) in
+      let t3 = first-passed 2 _ _ (t2 .1) in
+      let t4 = first-passed 23 _ _ (t3 .1) in
       let f = firstOf-found (λ x. R.free (rec s x)) (candidates (s .control .last) (s .control .n)) (unfold given in (eqb-false _ _ (t4 .0))) in
       let b = candidates-of (s .control .last) (s .control .n) _ (I .sound .last) (f .0) in
       unfold given R.free in (record { low = b .0; high = b .1; blank = eqb-true _ _ (f .1); narrow = ltb-false _ _ (t3 .0) })

@@ -10,6 +10,7 @@ use native.Mathlib.Nat.{suc-ne-zero}
 use native.Mathlib.Omega.{arith}
 use lib.ListN.{length, getD, take, drop, replicate}
 use borrow.Author.Tests.{ltb-false}
+use Rattle.layout.proofs.RefusalLaws.{first-passed}
 use Rattle.layout.specs.Record as R
 use Rattle.layout.specs.ControlRecord.{newControl}
 use Rattle.layout.specs.Field.{field, flag}
@@ -31,7 +32,6 @@ use Rattle.rules.proofs.ListLaws.{take-zeros, recOf-above, length-each,
 use Rattle.rules.proofs.BoolLaws.{or-split}
 use Rattle.rules.proofs.Invariant.{Inv}
 use Rattle.rules.proofs.Abstraction.{plainOf, cellOf, cellsOf}
-use Rattle.rules.proofs.Simulation.{passed}
 
 -- ---- zeroed words
 
@@ -69,8 +69,8 @@ module _ (n r : ℕ) (recs slots roots : List ℕ) where
   fits : first (createTests n r recs slots roots) ≡ 0 → Fits
   unfolding createTests short slotsLen
   fits z =
-      let t1 = passed 0 _ _ z in
-      let t2 = passed 1 _ _ (t1 .1) in
+      let t1 = first-passed 0 _ _ z in
+      let t2 = first-passed 1 _ _ (t1 .1) in
       let d = or-split _ _ (t2 .0) in
       let e = or-split _ _ (d .0) in
       record {

@@ -10,6 +10,7 @@ use native.Mathlib.Omega.{arith}
 use lib.Dec.{eqb}
 use lib.ListN.{set}
 use borrow.Author.Tests.{not-false, eqb-false, ne-eqb}
+use Rattle.layout.proofs.RefusalLaws.{first-passed}
 use Rattle.layout.specs.Record as R
 use Rattle.layout.specs.Field.{field, flag}
 use Rattle.layout.specs.Limits.{slotsLen}
@@ -31,7 +32,7 @@ use Rattle.rules.specs.Demands.{heapOf, rec, refusalOf, Declares, wordsO
 use Rattle.rules.proofs.ListLaws.{set-numbers}
 use Rattle.rules.proofs.Invariant.{Inv, inv-control, inv-formed, enough}
 use Rattle.rules.proofs.Abstraction.{plainOf, cellOf, cellsOf, cells-size, at-free, at-words}
-use Rattle.rules.proofs.Simulation.{Same, same-by, all-by, passed, pointer-facts}
+use Rattle.rules.proofs.Simulation.{Same, same-by, all-by, pointer-facts}
 use Rattle.rules.proofs.LaidLaws.{laid-cell, laid-inv, view-laid}
 
 module _ (s : State) (I : Inv s) where
@@ -52,11 +53,11 @@ module _ (s : State) (I : Inv s) where
   facts : (i : ℕ) → first (Declare.declareTests (s .control) i (s .records) (s .slots) (s .roots)) ≡ 0 → (1 ≤ i) × (i ≤ s .control .n) × (rec s i ≢ 0)
   unfolding Declare.declareTests R.free
   facts i z =
-      let t1 = passed 19 _ _ z in
-      let t2 = passed 1 _ _ (t1 .1) in
-      let t3 = passed 3 _ _ (t2 .1) in
-      let t4 = passed 20 _ _ (t3 .1) in
-      let t5 = passed 21 _ _ (t4 .1) in
+      let t1 = first-passed 19 _ _ z in
+      let t2 = first-passed 1 _ _ (t1 .1) in
+      let t3 = first-passed 3 _ _ (t2 .1) in
+      let t4 = first-passed 20 _ _ (t3 .1) in
+      let t5 = first-passed 21 _ _ (t4 .1) in
       let r = pointer-facts (s .control .n) i (not-false _ (t3 .0)) in
       (r .0, r .1, eqb-false _ _ (t5 .0))
 

@@ -9,6 +9,7 @@ use native.Mathlib.Nat.{suc-ne-zero}
 use lib.ListN.{length, set, length-set}
 use lib.Seq.{drop-set-lt}
 use borrow.Author.Tests.{not-false, leb-false, ltb-false}
+use Rattle.layout.proofs.RefusalLaws.{first-passed}
 use Rattle.layout.specs.Limits.{widthMax, slotsLen, workLen, mapLen}
 use Rattle.layout.specs.Refusal.{first}
 use Rattle.layout.specs.Record.{width, isSink}
@@ -30,7 +31,7 @@ use Rattle.rules.specs.Collect as Collect
 use Rattle.rules.specs.Demands.{Within, Cleared}
 use Rattle.rules.proofs.ListLaws.{length-each, drop-past, take-zeros}
 use Rattle.rules.proofs.BoolLaws.{or-split}
-use Rattle.rules.proofs.Simulation.{all-by, passed, pointer-facts}
+use Rattle.rules.proofs.Simulation.{all-by, pointer-facts}
 
 -- ---- work after an accepted analysis or collection
 
@@ -47,8 +48,8 @@ analyse-clears c recs slots roots work =
   where
     fits : first (Analyse.analyseTests c recs slots roots work) ≡ 0 → short (workLen (c .n)) work ≡ false
     fits z = unfold Analyse.analyseTests in
-        (let t1 = passed 19 _ _ z in
-        let t2 = passed 1 (short (c .n) recs || short (slotsLen (c .n)) slots || short (c .r) roots || short (workLen (c .n)) work) _ (t1 .1) in
+        (let t1 = first-passed 19 _ _ z in
+        let t2 = first-passed 1 (short (c .n) recs || short (slotsLen (c .n)) slots || short (c .r) roots || short (workLen (c .n)) work) _ (t1 .1) in
         or-split (short (c .n) recs || short (slotsLen (c .n)) slots || short (c .r) roots) (short (workLen (c .n)) work) (t2 .0) .1)
 
 pub collect-clears : (kind : Kind) (c : Control) (recs slots roots work map : List ℕ)
@@ -60,8 +61,8 @@ collect-clears kind c recs slots roots work map =
   where
     fits : first (Collect.collectTests kind c recs slots roots work map) ≡ 0 → short (workLen (c .n)) work ≡ false
     fits z = unfold Collect.collectTests in
-        (let t1 = passed 19 _ _ z in
-        let t2 = passed 1 (short (c .n) recs || short (slotsLen (c .n)) slots || short (c .r) roots || short (workLen (c .n)) work || short (mapLen (c .n)) map) _ (t1 .1) in
+        (let t1 = first-passed 19 _ _ z in
+        let t2 = first-passed 1 (short (c .n) recs || short (slotsLen (c .n)) slots || short (c .r) roots || short (workLen (c .n)) work || short (mapLen (c .n)) map) _ (t1 .1) in
         let t3 = or-split (short (c .n) recs || short (slotsLen (c .n)) slots || short (c .r) roots || short (workLen (c .n)) work) (short (mapLen (c .n)) map) (t2 .0) in
         or-split (short (c .n) recs || short (slotsLen (c .n)) slots || short (c .r) roots) (short (workLen (c .n)) work) (t3 .0) .1)
 
@@ -112,12 +113,12 @@ slot-fits : (c : Control) (i k w : ℕ) (recs slots : List ℕ) → first (Write
     → widthMax * (i - 1) + k < slotsLen (c .n)
 unfolding Write.writeTests slotsLen
 slot-fits c i k w recs slots z =
-    let t1 = passed 19 _ _ z in
-    let t2 = passed 1 _ _ (t1 .1) in
-    let t3 = passed 3 _ _ (t2 .1) in
-    let t4 = passed 20 _ _ (t3 .1) in
-    let t5 = passed 21 _ _ (t4 .1) in
-    let t6 = passed 4 _ _ (t5 .1) in
+    let t1 = first-passed 19 _ _ z in
+    let t2 = first-passed 1 _ _ (t1 .1) in
+    let t3 = first-passed 3 _ _ (t2 .1) in
+    let t4 = first-passed 20 _ _ (t3 .1) in
+    let t5 = first-passed 21 _ _ (t4 .1) in
+    let t6 = first-passed 4 _ _ (t5 .1) in
     let r = pointer-facts (c .n) i (not-false _ (t3 .0)) in
     let a = legal-facts (c .n) (recOf (c .n) recs i) (undamaged (c .n) (recOf (c .n) recs i) (t4 .0) (t5 .0)) .narrow in
     let b = leb-false (width (recOf (c .n) recs i)) k (t6 .0) in
@@ -149,7 +150,7 @@ root-within c j w recs roots =
   where
     fits : first (SetRoot.setRootTests c j w recs roots) ≡ 0 → j < c .r
     fits z = unfold SetRoot.setRootTests in
-        (let t1 = passed 19 _ _ z in let t2 = passed 1 _ _ (t1 .1) in let t3 = passed 6 _ _ (t2 .1) in leb-false (c .r) j (t3 .0))
+        (let t1 = first-passed 19 _ _ z in let t2 = first-passed 1 _ _ (t1 .1) in let t3 = first-passed 6 _ _ (t2 .1) in leb-false (c .r) j (t3 .0))
 
 pub declare-within : (c : Control) (i : ℕ) (recs slots roots : List ℕ) → Within (c .n) recs (DeclareSink.declareSink c i recs slots roots .records)
 unfolding DeclareSink.declareSink

@@ -34,8 +34,6 @@ pub mod SweepLaws
 pub mod MapLaws
 pub mod CollectLaws
 pub mod Unmet
--- ---- the records after a call, as code makes them
-pub mod Stores
 -- ---- the demands
 pub mod Calls
 pub mod Demand1

@@ -9,6 +9,7 @@ use lib.Dec.{leb}
 use lib.ListN.{length, length-set}
 use lib.Seq.{length-take-le, take-set-lt}
 use borrow.Author.Tests.{not-false, leb-false}
+use Rattle.layout.proofs.RefusalLaws.{first-passed}
 use Rattle.layout.specs.Record as R
 use Rattle.layout.specs.Refusal.{first}
 use Rattle.layout.specs.Word.{isNil, isPointer}
@@ -20,7 +21,7 @@ use Rattle.rules.specs.Steps.{State, step}
 use Rattle.rules.specs.Demands.{rec, rootsOf}
 use Rattle.rules.proofs.Invariant.{Inv, RootWord, inv-control, inv-illegal, enough}
 use Rattle.rules.proofs.Abstraction.{plainOf, cells-size, at-free}
-use Rattle.rules.proofs.Simulation.{Same, same-by, all-by, passed, is-named}
+use Rattle.rules.proofs.Simulation.{Same, same-by, all-by, is-named}
 
 module _ (s : State) (I : Inv s) (j w : ℕ) where
   pub root-tests : first (SetRoot.setRootTests (s .control) j w (s .records) (s .roots))
@@ -43,11 +44,11 @@ module _ (s : State) (I : Inv s) (j w : ℕ) where
       → (j < s .control .r) × RootWord (s .control .n) (s .records) (s .slots) w
   unfolding SetRoot.setRootTests
   facts z =
-      let t1 = passed 19 _ _ z in
-      let t2 = passed 1 _ _ (t1 .1) in
-      let t3 = passed 6 _ _ (t2 .1) in
-      let t4 = passed 5 _ _ (t3 .1) in
-      let t5 = passed 22 _ _ (t4 .1) in
+      let t1 = first-passed 19 _ _ z in
+      let t2 = first-passed 1 _ _ (t1 .1) in
+      let t3 = first-passed 6 _ _ (t2 .1) in
+      let t4 = first-passed 5 _ _ (t3 .1) in
+      let t5 = first-passed 22 _ _ (t4 .1) in
       (leb-false (s .control .r) j (t3 .0), word (isNil w) (isPointer (s .control .n) w) refl refl (not-false _ (t4 .0)) (t5 .0))
     where
       word : (a b : Bool) → isNil w ≡ a → isPointer (s .control .n) w ≡ b → (a || b) ≡ true → (b && not (R.legal (s .control .n) (rec s w))) ≡ false

@@ -33,12 +33,6 @@ pub record Same (call : Call) (s : State) : Type 0 where
   pub answers : step call s .answers ≡ plainStep call (plainOf s) .answers
   pub after : plainOf (step call s .after) ≡ plainStep call (plainOf s) .after
 
--- a list of tests none of which holds
-pub passed : (k : ℕ) (b : Bool) (l : List Test) → first ((suc k, b) ∷ l) ≡ 0 → (b ≡ false) × (first l ≡ 0)
-unfolding first
-passed k true l e = absurd (suc-ne-zero k e)
-passed k false l e = (refl, e)
-
 -- two outcomes by tests that come to the same: equal if they are so where none holds, and where one does
 pub same-by : {A B C : Type 0} (T T′ : List Test) (a : A) (r : ℕ → A) (b : B) (q : ℕ → B) (f : A → C) (g : B → C)
     → first T ≡ first T′ → (first T ≡ 0 → f a ≡ g b) → ((m : ℕ) → f (r m) ≡ g (q m)) → f (outcome T a r) ≡ g (outcome T′ b q)

@@ -21,7 +21,7 @@ use Rattle.graph.specs.Writes.{dissolves, stored, storeBy}
 use Rattle.graph.proofs.NumberLaws.{upd-same, upd-other}
 use Rattle.rules.specs.Buffers.{recOf, eight, usedWords, eachFrom, eachRecord}
 use Rattle.rules.specs.View.{target, view, exactOut, laidRecord, laid}
-use Rattle.rules.proofs.ListLaws.{length-each, get-each, recOf-above, eight-set}
+use Rattle.rules.proofs.ListLaws.{length-each, get-each, recOf-above, eight-set, map-set}
 use Rattle.rules.proofs.PassLaws.{pass-one, get-past}
 use Rattle.rules.proofs.BufferLaws.{recOf-get, used-get}
 use Rattle.rules.proofs.LaidRecord.{laid-same, laid-loose}
@@ -163,11 +163,6 @@ module _ (n : ℕ) (recs slots : List ℕ) (i k t : ℕ) (p : 1 ≤ i) (q : i �
           get-past 1 n f recs m 0 (omega (arith, b)) ∙ sym (get-past 1 n g new m 0 (omega (arith, b)) ∙ getD-set-other recs (i - 1) m v 0 e)
 
 -- ---- the out bit after a store
-
-pub map-set : (f : ℕ → ℕ) (l : List ℕ) (k w : ℕ) → map f (set l k w) ≡ set (map f l) k (f w)
-map-set f [] k w = refl
-map-set f (x ∷ l) zero w = refl
-map-set f (x ∷ l) (suc k) w = ap (λ r. f x ∷ r) (map-set f l k w)
 
 get-map : (n : ℕ) (l : List ℕ) (k : ℕ) → getD (map (target n) l) k 0 ≡ target n (getD l k 0)
 unfolding target

@@ -12,6 +12,7 @@ use lib.Dec.{ltb}
 use lib.ListN.{length, set, take, drop, length-set}
 use lib.Seq.{take-set-lt, drop-set-lt}
 use borrow.Author.Tests.{not-false, leb-false, le-ltb, eqb-false}
+use Rattle.layout.proofs.RefusalLaws.{first-passed}
 use Rattle.layout.specs.Record as R
 use Rattle.layout.specs.ControlRecord.{withWriteLoss}
 use Rattle.layout.specs.Field.{field, flag}
@@ -39,7 +40,7 @@ use Rattle.rules.specs.Demands.{heapOf, wordsOf, rec, rootsOf}
 use Rattle.rules.proofs.ListLaws.{map-set, eight-set, eight-set-other, set-numbers}
 use Rattle.rules.proofs.Invariant.{Inv, SlotWord, inv-control, inv-sane, inv-illegal, enough}
 use Rattle.rules.proofs.Abstraction.{plainOf, cellOf, cellsOf, cells-size, at-free, at-words, at-sink}
-use Rattle.rules.proofs.Simulation.{Same, same-by, all-by, passed, pointer-facts, is-named, used-length, widths}
+use Rattle.rules.proofs.Simulation.{Same, same-by, all-by, pointer-facts, is-named, used-length, widths}
 use Rattle.rules.proofs.ViewLaws.{target-low}
 use Rattle.rules.proofs.LaidLaws.{heap′, recs′, view-laid, laid-cell, laid-inv, state′}
 
@@ -188,14 +189,14 @@ module _ (s : State) (I : Inv s) where
   facts : (i k w : ℕ) → first (Write.writeTests (s .control) i k w (s .records) (s .slots)) ≡ 0 → Passed i k w
   unfolding Write.writeTests R.free legalWord
   facts i k w z =
-      let t1 = passed 19 _ _ z in
-      let t2 = passed 1 _ _ (t1 .1) in
-      let t3 = passed 3 _ _ (t2 .1) in
-      let t4 = passed 20 _ _ (t3 .1) in
-      let t5 = passed 21 _ _ (t4 .1) in
-      let t6 = passed 4 _ _ (t5 .1) in
-      let t7 = passed 5 _ _ (t6 .1) in
-      let t8 = passed 22 _ _ (t7 .1) in
+      let t1 = first-passed 19 _ _ z in
+      let t2 = first-passed 1 _ _ (t1 .1) in
+      let t3 = first-passed 3 _ _ (t2 .1) in
+      let t4 = first-passed 20 _ _ (t3 .1) in
+      let t5 = first-passed 21 _ _ (t4 .1) in
+      let t6 = first-passed 4 _ _ (t5 .1) in
+      let t7 = first-passed 5 _ _ (t6 .1) in
+      let t8 = first-passed 22 _ _ (t7 .1) in
       record {
         range = pointer-facts (s .control .n) i (not-false _ (t3 .0));
         there = eqb-false _ _ (t5 .0);
