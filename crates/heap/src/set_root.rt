@@ -1,4 +1,4 @@
-// Set root: a root becomes nil or the number of an object.
+// Set root: a root becomes nil or names an object.
 ghost use mathlib.Core.Path.{_≡_};
 ghost use Rattle.layout.specs.Refusal.{first};
 ghost use Rattle.rules.specs.SetRoot as SetRoot;

@@ -3,6 +3,7 @@ pub mod BoolLaws
 pub mod ListLaws
 pub mod PassLaws
 pub mod BufferLaws
+pub mod PlaceLaws
 pub mod SearchLaws
 pub mod LaidRecord
 pub mod StoreLaws

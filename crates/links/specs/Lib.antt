@@ -1,0 +1,3 @@
+-- The links through the members of each cluster.
+pub mod Links
+pub mod Linking

@@ -1,0 +1,233 @@
+-- The pieces of the sweep, one after the other, are the sweep of the definitions. Assumes nothing.
+use Prim.Native.Nat.{ℕ, zero, suc, _+_, _-_, _*_, _/_, _≤_, _<_}
+use mathlib.Core.Path.{_≡_, refl, sym, ap, ap₂, _∙_}
+use mathlib.Core.Bool.{Bool, true, false, cond}
+use mathlib.Core.List.{List, [], _∷_, _++_, append-nil}
+use native.Mathlib.Omega.{arith}
+use lib.ListN.{length, getD, take, drop, set, length-set, length-append, length-take, take-append-drop}
+use lib.Seq.{length-take-le, take-all}
+use borrow.Author.Tests.{le-leb, lt-leb, lt-ltb, le-ltb}
+use Rattle.layout.specs.Limits.{slotsLen, mapLen}
+use Rattle.layout.specs.Field.{field, flag, putFlag, put, digit}
+use Rattle.layout.specs.Bits.{numbersIn, wordOf, mapMax}
+use Rattle.layout.proofs.BitLaws.{passers, passers-add, numbersIn-words}
+use Rattle.graph.specs.Numbers.{bit, sum, count}
+use Rattle.rules.specs.Buffers.{short, recOf, eachFrom, eachRecord, eachSlot}
+use Rattle.rules.proofs.ListLaws.{length-each, get-each, take-each, each-same, each-id, recOf-above}
+use Rattle.rules.proofs.PassLaws.{passFrom, pass-begin, pass-turn, pass-skip, pass-end}
+use Rattle.rules.proofs.StoreLaws.{recOf-zero}
+use Rattle.sweep.specs.Sweep.{bareWord, bare, freedAt, freedCount, headKept, keptRecord, sweptRecords, sweptSlots, freedMap, fits, Swept, inTurn, clearRecord, zeroEight, clearSlots}
+use Rattle.sweep.proofs.FreedLaws.{eight-pass}
+use Rattle.rules.proofs.ListLaws.{each-each}
+
+-- ---- passes
+
+module _ (base : ℕ) where
+  pass-same : (i k : ℕ) (f g : ℕ → ℕ → ℕ) (l : List ℕ) → ((j w : ℕ) → base + i ≤ j → j < base + i + k → f j w ≡ g j w) → passFrom base i k f l ≡ passFrom base i k g l
+  unfolding passFrom
+  pass-same i k f g l h = ap (λ m. take i l ++ m) (each-same (base + i) k f g (drop i l) h)
+
+  pass-id : (i k : ℕ) (l : List ℕ) → passFrom base i k (λ x w. w) l ≡ l
+  unfolding passFrom
+  pass-id i k l = ap (λ m. take i l ++ m) (each-id (base + i) k (drop i l)) ∙ take-append-drop i l
+
+  pass-length : (i k : ℕ) (f : ℕ → ℕ → ℕ) (l : List ℕ) → length (passFrom base i k f l) ≡ length l
+  unfolding passFrom
+  pass-length i k f l =
+      length-append (take i l) (eachFrom (base + i) k f (drop i l))
+      ∙ ap (λ (m : ℕ). length (take i l) + m) (length-each (base + i) k f (drop i l))
+      ∙ sym (length-append (take i l) (drop i l)) ∙ ap length (take-append-drop i l)
+
+  -- first m words, then k more
+  pass-split : (m k i : ℕ) (f : ℕ → ℕ → ℕ) (l : List ℕ) → i + m ≤ length l → passFrom base i (m + k) f l ≡ passFrom base (i + m) k f (passFrom base i m f l)
+  pass-split zero k i f l p =
+      let z : 0 + k ≡ k = omega arith in
+      let y : i + 0 ≡ i = omega arith in
+      rw (z, y, pass-end base i f l) refl
+  pass-split (suc m) k i f l p =
+      let z : suc m + k ≡ suc (m + k) = omega arith in
+      let y : i + suc m ≡ suc i + m = omega arith in
+      let v = f (base + i) (getD l i 0) in
+      let s = length-set l i v in
+      rw (z, y) (sym (pass-turn base i (m + k) f l 0 (omega arith))
+      ∙ pass-split m k (suc i) f (set l i v) (omega (arith, s))
+      ∙ ap (passFrom base (suc i + m) k f) (pass-turn base i m f l 0 (omega arith)))
+
+-- ---- the numbers that pass a test
+
+module _ (t : ℕ → Bool) where
+  none-from : (k b : ℕ) → ((x : ℕ) → b ≤ x → t x ≡ false) → passers t b k ≡ []
+  unfolding passers
+  none-from zero b h = refl
+  none-from (suc k) b h = rw (h b (omega arith)) (none-from k (suc b) (λ x p. h x (omega arith)))
+
+  -- neither 0 nor a number above n passes
+  within-n : (n m : ℕ) → t 0 ≡ false → ((x : ℕ) → n < x → t x ≡ false) → n < m → passers t 0 m ≡ passers t 1 n
+  unfolding passers
+  within-n n m z h p =
+      let s : m ≡ 1 + (n + (m - suc n)) = omega arith in
+      ap (passers t 0) s ∙ passers-add t 1 (n + (m - suc n)) 0
+      ∙ rw z (passers-add t n (m - suc n) 1 ∙ ap (λ l. passers t 1 n ++ l) (none-from (m - suc n) (1 + n) (λ x q. h x (omega arith))) ∙ append-nil (passers t 1 n))
+
+  pub passers-count : (n : ℕ) → length (passers t 1 n) ≡ count n t
+  unfolding passers count sum
+  passers-count zero = refl
+  passers-count (suc n) =
+      let s : suc n ≡ n + 1 = omega arith in
+      let o : 1 + n ≡ suc n = omega arith in
+      ap (λ (k : ℕ). length (passers t 1 k)) s ∙ ap length (passers-add t n 1 1) ∙ length-append (passers t 1 n) (passers t (1 + n) 1)
+      ∙ ap₂ (λ (a b : ℕ). a + b) (passers-count n) (ap (λ (x : ℕ). length (passers t x 1)) o ∙ go (t (suc n)))
+    where
+      go : (d : Bool) → length (cond d (suc n ∷ []) []) ≡ bit d
+      go true = refl
+      go false = refl
+
+  -- their records cleared, one after the other
+  records-cleared : (k i : ℕ) (recs : List ℕ) → i + k ≤ length recs
+      → inTurn clearRecord (passers t (suc i) k) recs ≡ passFrom 1 i k (λ x r. cond (t x) 0 r) recs
+  unfolding inTurn passers clearRecord
+  records-cleared zero i recs p = sym (pass-end 1 i _ recs)
+  records-cleared (suc k) i recs p =
+      let o : 1 + i ≡ suc i = omega arith in
+      go (t (suc i)) refl o (records-cleared k (suc i) (set recs i 0) (let s = length-set recs i 0 in omega arith)) (records-cleared k (suc i) recs (omega arith))
+    where
+      go : (d : Bool) → t (suc i) ≡ d → 1 + i ≡ suc i
+          → inTurn clearRecord (passers t (suc (suc i)) k) (set recs i 0) ≡ passFrom 1 (suc i) k (λ x r. cond (t x) 0 r) (set recs i 0)
+          → inTurn clearRecord (passers t (suc (suc i)) k) recs ≡ passFrom 1 (suc i) k (λ x r. cond (t x) 0 r) recs
+          → inTurn clearRecord (cond d (suc i ∷ passers t (suc (suc i)) k) (passers t (suc (suc i)) k)) recs ≡ passFrom 1 i (suc k) (λ x r. cond (t x) 0 r) recs
+      go true e o a b =
+          a ∙ ap (λ (v : ℕ). passFrom 1 (suc i) k (λ x r. cond (t x) 0 r) (set recs i v)) (rw (o, e) refl)
+          ∙ pass-turn 1 i k (λ x r. cond (t x) 0 r) recs 0 (omega arith)
+      go false e o a b = b ∙ pass-skip 1 i k (λ x r. cond (t x) 0 r) recs 0 (omega arith) (rw (o, e) refl)
+
+  -- and their slots
+  abbrev clearedAt : ℕ → ℕ → ℕ
+  clearedAt j w = cond (t (j / 8 + 1)) 0 w
+
+  eight-words : (i : ℕ) (d : Bool) (slots : List ℕ) → t (suc i) ≡ d → passFrom 0 (8 * i) 8 clearedAt slots ≡ cond d (zeroEight (8 * i) slots) slots
+  eight-words i true slots e =
+      pass-same 0 (8 * i) 8 clearedAt (λ x w. 0) slots (λ j w a b. ap (λ (d : Bool). cond d 0 w) (ap t (omega arith) ∙ e)) ∙ eight-pass (8 * i) slots
+  eight-words i false slots e =
+      pass-same 0 (8 * i) 8 clearedAt (λ x w. w) slots (λ j w a b. ap (λ (d : Bool). cond d 0 w) (ap t (omega arith) ∙ e)) ∙ pass-id 0 (8 * i) 8 slots
+
+  slots-cleared : (k i : ℕ) (slots : List ℕ) → 8 * (i + k) ≤ length slots → inTurn clearSlots (passers t (suc i) k) slots ≡ passFrom 0 (8 * i) (8 * k) clearedAt slots
+  unfolding inTurn passers clearSlots
+  slots-cleared zero i slots p = sym (pass-end 0 (8 * i) _ slots)
+  slots-cleared (suc k) i slots p =
+      let z : 8 * suc k ≡ 8 + 8 * k = omega arith in
+      let y : 8 * i + 8 ≡ 8 * suc i = omega arith in
+      let n = ap length (eight-pass (8 * i) slots) in
+      let m = pass-length 0 (8 * i) 8 (λ x w. 0) slots in
+      go (t (suc i)) refl (slots-cleared k (suc i) (zeroEight (8 * i) slots) (omega (arith, n, m))) (slots-cleared k (suc i) slots (omega arith))
+      ∙ sym (ap (λ (j : ℕ). passFrom 0 (8 * i) j clearedAt slots) z ∙ pass-split 0 8 (8 * k) (8 * i) clearedAt slots (omega arith)
+      ∙ ap (λ (j : ℕ). passFrom 0 j (8 * k) clearedAt (passFrom 0 (8 * i) 8 clearedAt slots)) y)
+    where
+      go : (d : Bool) → t (suc i) ≡ d
+          → inTurn clearSlots (passers t (suc (suc i)) k) (zeroEight (8 * i) slots) ≡ passFrom 0 (8 * suc i) (8 * k) clearedAt (zeroEight (8 * i) slots)
+          → inTurn clearSlots (passers t (suc (suc i)) k) slots ≡ passFrom 0 (8 * suc i) (8 * k) clearedAt slots
+          → inTurn clearSlots (cond d (suc i ∷ passers t (suc (suc i)) k) (passers t (suc (suc i)) k)) slots
+          ≡ passFrom 0 (8 * suc i) (8 * k) clearedAt (passFrom 0 (8 * i) 8 clearedAt slots)
+      go true e a b = a ∙ ap (passFrom 0 (8 * suc i) (8 * k) clearedAt) (sym (eight-words i true slots e))
+      go false e a b = b ∙ ap (passFrom 0 (8 * suc i) (8 * k) clearedAt) (sym (eight-words i false slots e))
+
+-- ---- the freed objects of the records
+
+more : (n : ℕ) → n < 64 * mapLen n
+unfolding mapLen
+more n = omega arith
+
+part-whole : (n : ℕ) (map part : List ℕ) → n ≤ 4095 → part ≡ take (mapLen n) map → take mapMax part ≡ part
+unfolding mapLen
+part-whole n map part p e = take-all 64 part (let a = length-take (n / 64 + 1) map in let b = ap length e in omega (arith, a, b))
+
+module _ (n : ℕ) (recs : List ℕ) where
+  unused : (x : ℕ) → recOf n recs x ≡ 0 → freedAt n recs x ≡ false
+  unfolding freedAt flag field
+  unused x e = rw e refl
+
+  freed-numbers : (map : List ℕ) → mapLen n ≤ length map → numbersIn 0 (take (mapLen n) (freedMap n recs map)) ≡ passers (freedAt n recs) 1 n
+  unfolding freedMap
+  freed-numbers map p =
+      let k = mapLen n in
+      let f : ℕ → ℕ → ℕ = λ j w. wordOf (freedAt n recs) j in
+      let ws = take k (eachFrom 0 k f map) in
+      let same : ws ≡ eachFrom 0 k f (take k map) = take-each 0 k f map k (omega arith) in
+      let size : length ws ≡ k = length-take-le k (eachFrom 0 k f map) (let a = length-each 0 k f map in omega arith) in
+      let long : length (take k map) ≡ k = length-take-le k map p in
+      let word : (i : ℕ) → i < length ws → getD ws i 0 ≡ wordOf (freedAt n recs) (0 + i) =
+      λ i q. ap (λ (l : List ℕ). getD l i 0) same ∙ get-each 0 k f (take k map) i 0 (omega (arith, size)) (omega (arith, size, long)) in
+      numbersIn-words (freedAt n recs) ws 0 word ∙ ap (λ (m : ℕ). passers (freedAt n recs) 0 (64 * m)) size
+      ∙ within-n (freedAt n recs) n (64 * k) (unused 0 (recOf-zero n recs)) (λ x q. unused x (recOf-above n recs x q)) (more n)
+
+  bare-freed : (d : Bool) (r : ℕ) → bareWord (cond d 0 r) ≡ cond d 0 (bareWord r)
+  unfolding bareWord putFlag put digit
+  bare-freed true r = refl
+  bare-freed false r = refl
+
+  pub swept-records : n ≤ length recs
+      → bare n (inTurn clearRecord (passers (freedAt n recs) 1 n) (eachRecord n (λ x r. headKept n recs r) recs)) ≡ sweptRecords n recs
+  unfolding bare eachRecord sweptRecords keptRecord
+  swept-records p =
+      let t = freedAt n recs in
+      let kept = eachFrom 1 n (λ x r. headKept n recs r) recs in
+      let l = length-each 1 n (λ x r. headKept n recs r) recs in
+      ap (eachFrom 1 n (λ x r. bareWord r)) (records-cleared t n 0 kept (omega (arith, l)) ∙ pass-begin 1 n (λ x r. cond (t x) 0 r) kept)
+      ∙ each-each 1 n (λ x r. cond (t x) 0 r) (λ x r. bareWord r) kept
+      ∙ each-each 1 n (λ x r. headKept n recs r) (λ x r. bareWord (cond (t x) 0 r)) recs
+      ∙ each-same 1 n (λ x r. bareWord (cond (t x) 0 (headKept n recs r))) (λ x r. cond (t x) 0 (bareWord (headKept n recs r))) recs (λ x r a b. bare-freed (t x) (headKept n recs r))
+
+  pub swept-slots : (slots : List ℕ) → slotsLen n ≤ length slots → inTurn clearSlots (passers (freedAt n recs) 1 n) slots ≡ sweptSlots n recs slots
+  unfolding slotsLen sweptSlots eachSlot
+  swept-slots slots p = slots-cleared (freedAt n recs) n 0 slots (omega arith) ∙ pass-begin 0 (8 * n) (clearedAt (freedAt n recs)) slots
+
+-- ---- where the slices are long enough, and where one is not
+
+module _ (n : ℕ) (recs slots map : List ℕ) where
+  pub refused : fits n recs slots map ≡ false → Swept n recs slots map recs slots map 0
+  refused e = record { records = rw e refl; slotWords = rw e refl; mapWords = rw e refl; freed = rw e refl }
+
+  pub too-many : 4095 < n → fits n recs slots map ≡ false
+  unfolding fits
+  too-many p = rw (lt-leb n 4095 p) refl
+
+  module _ (most : n ≤ 4095) where
+    pub few-records : length recs < n → fits n recs slots map ≡ false
+    unfolding fits short
+    few-records p = rw (le-leb n 4095 most, lt-ltb (length recs) n p) refl
+
+    module _ (long : n ≤ length recs) where
+      pub few-slots : length slots < slotsLen n → fits n recs slots map ≡ false
+      unfolding fits short
+      few-slots p = rw (le-leb n 4095 most, le-ltb (length recs) n long, lt-ltb (length slots) (slotsLen n) p) refl
+
+      module _ (wide : slotsLen n ≤ length slots) where
+        pub few-words : length map < mapLen n → fits n recs slots map ≡ false
+        unfolding fits short
+        few-words p =
+            rw (le-leb n 4095 most, le-ltb (length recs) n long, le-ltb (length slots) (slotsLen n) wide, lt-ltb (length map) (mapLen n) p) refl
+
+        module _ (room : mapLen n ≤ length map) where
+          pub all-fit : fits n recs slots map ≡ true
+          unfolding fits short
+          all-fit =
+              rw
+              (le-leb n 4095 most, le-ltb (length recs) n long, le-ltb (length slots) (slotsLen n) wide, le-ltb (length map) (mapLen n) room) refl
+
+          pub swept : (recs₁ recs₂ recs₃ slots₁ map₁ part : List ℕ) (k : ℕ) → map₁ ≡ freedMap n recs map → part ≡ take (mapLen n) map₁
+              → k ≡ length (numbersIn 0 (take mapMax part)) → recs₁ ≡ eachRecord n (λ x r. headKept n recs r) recs
+              → recs₂ ≡ inTurn clearRecord (numbersIn 0 part) recs₁ → slots₁ ≡ inTurn clearSlots (numbersIn 0 part) slots
+              → recs₃ ≡ bare n recs₂ → Swept n recs slots map recs₃ slots₁ map₁ k
+          swept recs₁ recs₂ recs₃ slots₁ map₁ part k em ep ek e₁ e₂ es e₃ =
+              let t = freedAt n recs in
+              let nums : numbersIn 0 part ≡ passers t 1 n = ap (numbersIn 0) (ep ∙ ap (take (mapLen n)) em) ∙ freed-numbers n recs map room in
+              let whole : take mapMax part ≡ part = part-whole n map₁ part most ep in
+              record {
+                records =
+                    rw all-fit (e₃ ∙ ap (bare n) (e₂ ∙ ap₂ (inTurn clearRecord) nums e₁) ∙ swept-records n recs long);
+                slotWords = rw all-fit (es ∙ ap (λ l. inTurn clearSlots l slots) nums ∙ swept-slots n recs slots wide);
+                mapWords = rw all-fit em;
+                freed = rw all-fit (ek ∙ ap (λ l. length (numbersIn 0 l)) whole ∙ ap length nums ∙ counted);
+              }
+            where
+              counted : length (passers (freedAt n recs) 1 n) ≡ freedCount n recs
+              counted = unfold freedCount in passers-count (freedAt n recs) n

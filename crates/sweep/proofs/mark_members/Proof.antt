@@ -1,0 +1,78 @@
+-- `sweep::mark_members` is a pass over the records that leaves what it reads of them. Assumes nothing.
+use Prim.Native.Nat.{_-_}
+use borrow.Author.Tests.{ltb-true, ltb-false}
+use Rattle.layout.specs.Record.{isReached}
+use Rattle.sweep.specs.Sweep.{memberMarked}
+use Rattle.sweep.proofs.PassingLaws.{InPlace, in-place-start, in-place-turn, passing-end, passing-past}
+use Rattle.sweep.proofs.MarkLaws.{members-all, member-same, member-reach}
+use borrow.Author.Needs.{needs}
+use native.Mathlib.Omega.{arith}
+use Rattle.sweep.proofs.mark_members.Statement.{statement}
+use Rattle.sweep.proofs.mark_members.Tie as tie
+
+abbrev Inv-loop : tie.InvT-loop
+Inv-loop n records₀ m i₀ records i = InPlace isReached (memberMarked n) n records₀ records i
+
+abbrev μ-loop : tie.MeasureT-loop
+μ-loop n records₀ m i₀ records i = n - i
+
+loop-holds : tie.Need-loop-holds Inv-loop μ-loop
+loop-holds c = in-place-start _ _ _ _
+
+mul-r : tie.Need-mul-r Inv-loop μ-loop
+mul-r c = search needs
+
+slice-read-r : tie.Need-slice-read-r Inv-loop μ-loop
+slice-read-r c = search needs
+
+member-marked-requires : tie.Need-member-marked-requires Inv-loop μ-loop
+member-marked-requires c κs = search needs
+
+mul-records : tie.Need-mul-records Inv-loop μ-loop
+mul-records c = search needs
+
+slice-write-records : tie.Need-slice-write-records Inv-loop μ-loop
+slice-write-records c = search needs
+
+add-i : tie.Need-add-i Inv-loop μ-loop
+add-i c = search needs
+
+loop-less : tie.Need-loop-less Inv-loop μ-loop
+loop-less c = omega arith
+
+loop-again : tie.Need-loop-again Inv-loop μ-loop
+loop-again c =
+    let l = c .before .before .before .before .before .loop in
+    in-place-turn _ _ _ _ (l .records) (l .i) _ (l .inv) (λ r h. member-same _ r _ _ h) (λ r. member-reach _ r _) (c .before .before .before .before .loop-test .taken) (ltb-true _ _ (c .before .before .before .if1 .taken)) (c .member-marked .ensures)
+
+same-length : tie.Need-same-length Inv-loop μ-loop
+same-length c = c .before .before .loop .inv .pass .long
+
+returns : tie.Need-returns Inv-loop μ-loop
+returns c = let l = c .before .before .loop in members-all _ _ _ (passing-past _ _ _ _ _ _ (l .i) (l .inv .pass) (ltb-false _ _ (c .if1 .left)))
+
+same-length-2 : tie.Need-same-length-2 Inv-loop μ-loop
+same-length-2 c = c .before .loop .inv .pass .long
+
+returns-2 : tie.Need-returns-2 Inv-loop μ-loop
+returns-2 c = let l = c .before .loop in members-all _ _ _ (passing-end _ _ _ _ _ _ (l .i) (l .inv .pass) (c .loop-test .left))
+
+pub mark-members-spec : {M : Type 1} → statement M
+mark-members-spec =
+    tie.close
+    (tie.spec
+    Inv-loop
+    μ-loop
+    loop-holds
+    mul-r
+    slice-read-r
+    member-marked-requires
+    mul-records
+    slice-write-records
+    add-i
+    loop-less
+    loop-again
+    same-length
+    returns
+    same-length-2
+    returns-2)

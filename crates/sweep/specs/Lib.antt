@@ -1,0 +1,2 @@
+-- What marks and sweeps make of the buffers.
+pub mod Sweep

@@ -1,0 +1,121 @@
+// The freed map, and the freeing by it.
+ghost use mathlib.Core.Path.{_≡_};
+ghost use mathlib.Core.Bool.{cond};
+ghost use Prim.Native.Nat.{_≤_};
+ghost use lib.ListN.{length};
+ghost use Rattle.layout.specs.Limits.{objectMax, mapLen};
+ghost use Rattle.layout.specs.Bits.{wordOf, setBits, numbersIn};
+ghost use Rattle.sweep.specs.Sweep as S;
+use super::record_of;
+use layout::bitmap::lowest_bit;
+use layout::bitmap::without_lowest;
+use layout::limits::WIDTH_MAX;
+use layout::limits::map_len;
+use layout::records::in_use;
+use layout::records::is_marked;
+
+// Whether object x is in use and not marked.
+fn is_freed(n: u32, x: u32, records: &[u32]) -> bool
+    ensures { λ b. ⌜ b ≡ S.freedAt n (now (records .entry)) x ⌝ }
+{
+    let r = record_of(n, x, records);
+    in_use(r) && !is_marked(r)
+}
+
+fn one_if(b: bool) -> u64
+    ensures { λ k. ⌜ k ≡ cond b 1 0 ⌝ }
+{
+    if b { 1 } else { 0 }
+}
+
+// Word j of the freed map, from its highest bit down.
+fn freed_word(n: u32, j: u32, records: &[u32]) -> u64
+    requires { ⌜ j ≤ 64 ⌝ }
+    ensures { λ w. ⌜ w ≡ wordOf (S.freedAt n (now (records .entry))) j ⌝ }
+{
+    let mut word: u64 = 0;
+    let mut b: u32 = 64;
+    while 0 < b {
+        b -= 1;
+        word = word * 2 + one_if(is_freed(n, 64 * j + b, records));
+    }
+    word
+}
+
+// Fills the freed map.
+pub fn fill_map(n: u32, records: &[u32], map: &mut [u64])
+    requires { ⌜ n ≤ objectMax ⌝ }
+    requires { ⌜ mapLen n ≤ length (now map) ⌝ }
+    ensures { λ _. ⌜ now (map .exit) ≡ S.freedMap n (now (records .entry)) (now (map .entry)) ⌝ }
+{
+    let k = map_len(n);
+    let mut j: usize = 0;
+    while j < k {
+        map[j] = freed_word(n, j as u32, records);
+        j += 1;
+    }
+}
+
+// The eight words from place `at` on become 0, as far as they are there.
+fn zero_eight(at: usize, slots: &mut [u32])
+    requires { ⌜ at ≤ 0xFFFFFFFFFFFF ⌝ }
+    ensures { λ _. ⌜ now (slots .exit) ≡ S.zeroEight at (now (slots .entry)) ⌝ }
+{
+    let end = at + WIDTH_MAX as usize;
+    let mut i = at;
+    while i < end && i < slots.len() {
+        slots[i] = 0;
+        i += 1;
+    }
+}
+
+// The record of object x becomes 0.
+fn clear_record(x: u32, records: &mut [u32])
+    ensures { λ _. ⌜ now (records .exit) ≡ S.clearRecord x (now (records .entry)) ⌝ }
+{
+    if x == 0 {
+        return;
+    }
+    let i = (x - 1) as usize;
+    if i < records.len() {
+        records[i] = 0;
+    }
+}
+
+// The eight slots of object x become 0.
+fn clear_slots(x: u32, slots: &mut [u32])
+    ensures { λ _. ⌜ now (slots .exit) ≡ S.clearSlots x (now (slots .entry)) ⌝ }
+{
+    if x == 0 {
+        return;
+    }
+    zero_eight(WIDTH_MAX as usize * (x - 1) as usize, slots);
+}
+
+// Frees the objects whose bits are set in a word of the map: object base + b for bit b.
+fn free_word(base: u32, word: u64, records: &mut [u32], slots: &mut [u32])
+    requires { ⌜ base ≤ 4096 ⌝ }
+    ensures { λ _. ⌜ now (records .exit) ≡ S.inTurn S.clearRecord (setBits 64 word base) (now (records .entry)) ⌝ }
+    ensures { λ _. ⌜ now (slots .exit) ≡ S.inTurn S.clearSlots (setBits 64 word base) (now (slots .entry)) ⌝ }
+{
+    let mut rest = word;
+    while rest != 0 {
+        let x = base + lowest_bit(rest);
+        clear_record(x, records);
+        clear_slots(x, slots);
+        rest = without_lowest(rest);
+    }
+}
+
+// Frees every object whose bit is set in the map.
+pub fn free_all(map: &[u64], records: &mut [u32], slots: &mut [u32])
+    requires { ⌜ length (now map) ≤ 64 ⌝ }
+    ensures { λ _. ⌜ now (records .exit) ≡ S.inTurn S.clearRecord (numbersIn 0 (now (map .entry))) (now (records .entry)) ⌝ }
+    ensures { λ _. ⌜ now (slots .exit) ≡ S.inTurn S.clearSlots (numbersIn 0 (now (map .entry))) (now (slots .entry)) ⌝ }
+{
+    let mut j: usize = 0;
+    while j < map.len() {
+        free_word(64 * j as u32, map[j], records, slots);
+        j += 1;
+    }
+}
