@@ -96,7 +96,7 @@ names-used n recs slots w = go (inUse (recOf n recs w)) refl
 
 -- ---- a well-formed heap, object by object
 
--- w is names an object in use
+-- w names an object in use
 pub record Names (n : ℕ) (recs : List ℕ) (w : ℕ) : Type 0 where
   pub low : 1 ≤ w
   pub high : w ≤ n
