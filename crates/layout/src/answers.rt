@@ -26,6 +26,13 @@ pub struct Allocated {
     pub control: Control,
 }
 
+// What allocate answers where the control record is lent and changed.
+#[repr(C)]
+pub struct AllocatedInPlace {
+    pub refusal: u32,
+    pub object: u32,
+}
+
 #[repr(C)]
 pub struct WordRead {
     pub refusal: u32,

@@ -13,6 +13,8 @@ use layout::answers::Done;
 use layout::answers::Part;
 use layout::answers::WordRead;
 
+pub mod in_place;
+
 #[no_mangle]
 pub extern "C" fn pakzid_create(
     n: u32,
