@@ -1,0 +1,282 @@
+-- The whole walk: the state that it begins with, and that it ends where the definition ends.
+-- Assumes nothing.
+use Prim.Native.Nat.{ℕ, _+_, _-_, _*_, _<_, _≤_}
+use mathlib.Core.Path.{_≡_, refl, sym, ap, _∙_, subst}
+use mathlib.Core.Logic.{_≢_}
+use mathlib.Core.Bool.{Bool, true, false, not, cond, true≢false}
+use mathlib.Core.List.{List, [], _∷_, _++_, append-nil, List·Memᴰ, List·Memᴰ·head, List·Memᴰ·tail, List·Memᴰ·not-nil}
+use native.Mathlib.Omega.{arith}
+use borrow.Author.Tests.{ne-eqb}
+use borrow.Rule.Slice.PartMut.{midOf, postOf, putMid, mid-len}
+use lib.ListN.{length, getD, take, drop, length-take, length-drop}
+use lib.Seq.{getD-append-add, getD-drop, getD-take, take-at, drop-at, take-add, length-take-le}
+use Rattle.layout.specs.Limits.{workLen}
+use Rattle.layout.specs.Record.{isSink, width}
+use Rattle.graph.specs.Numbers.{Obj, count, gather}
+use Rattle.graph.specs.Heap.{Heap, pointers, targets, starts}
+use Rattle.graph.specs.Trace.{Flags, marked, postponed, Walk, noFlags, begin, finish, traced}
+use Rattle.graph.proofs.NumberLaws.{sum-most, count-none, gather-from, in-left, in-right}
+use Rattle.graph.proofs.TraceSafe.{StartsIn}
+use Rattle.rules.specs.Buffers.{recOf, zeros}
+use Rattle.rules.specs.View.{view}
+use Rattle.rules.proofs.ListLaws.{length-each, get-each}
+use Rattle.links.specs.Links.{linkWord, links, linkable}
+use Rattle.links.proofs.LinkLaws.{linked}
+use Rattle.heap.specs.Cleared.{cleared}
+use Rattle.collect.specs.Marks.{flagsOf}
+use Rattle.collect.specs.State.{seen, walkAt, ends, Objects, linkAt, Linkable, Linked, Ready, Followed, Finished, Traceable, TracedIn}
+use Rattle.collect.proofs.MarkLaws.{bare-flags, sink-same, view-same}
+use Rattle.collect.proofs.LaterLaws.{mapped-none}
+use Rattle.collect.proofs.PendingLaws.{named-short}
+use Rattle.collect.proofs.MoveLaws.{targets-are}
+use Rattle.collect.proofs.EndLaws.{objects-none, objects-append, pointers-append, roots-next, sinks-next, sink-object, followed-none, followed-as, followed-then, none-pending}
+
+-- ---- one root
+
+pub root-none : (w : ℕ) → w ≡ 0 → pointers (w ∷ []) ≡ []
+unfolding pointers
+root-none w e = rw e refl
+
+pub root-one : (w : ℕ) → w ≢ 0 → pointers (w ∷ []) ≡ w ∷ []
+unfolding pointers
+root-one w e = rw (ne-eqb w 0 e) refl
+
+pub root-named : (n w : ℕ) → w ≢ 0 → Objects n (pointers (w ∷ [])) → Obj n w
+root-named n w e h = h w (subst (λ (l : List ℕ). List·Memᴰ w l) (sym (root-one w e)) (List·Memᴰ·head refl))
+
+pub sink-taken : (b : Bool) (x : ℕ) → b ≡ true → cond b (x ∷ []) [] ≡ x ∷ []
+sink-taken b x e = rw e refl
+
+pub sink-passed : (b : Bool) (x : ℕ) → b ≡ false → cond b (x ∷ []) [] ≡ []
+sink-passed b x e = rw e refl
+
+-- ---- the loops over the starts
+
+module _ (by : Bool) (n : ℕ) (slots recs₀ : List ℕ) where
+  pub roots-begin : (work roots : List ℕ) → Ready by n recs₀ slots work (8 * n) → Followed by n slots recs₀ (pointers (take 0 roots)) recs₀ work
+  unfolding pointers
+  roots-begin work roots r = followed-none by n slots recs₀ work r (pointers (take 0 roots)) refl
+
+  module _ (roots : List ℕ) (r i : ℕ) (less : i < r) (long : r ≤ length roots) (objects : Objects n (pointers (take r roots))) where
+    pub roots-object : Objects n (pointers (getD roots i 0 ∷ []))
+    roots-object x m =
+        objects x
+        (subst (λ (l : List ℕ). List·Memᴰ x l) (sym parts)
+        (in-left x (pointers (take (i + 1) roots)) (pointers (take (r - (i + 1)) (drop (i + 1) roots)))
+        (subst (λ (l : List ℕ). List·Memᴰ x l) (sym (roots-next roots i (omega arith))) (in-right x (pointers (take i roots)) (pointers (getD roots i 0 ∷ [])) m))))
+      where
+        parts : pointers (take r roots) ≡ pointers (take (i + 1) roots) ++ pointers (take (r - (i + 1)) (drop (i + 1) roots))
+        parts =
+            let e : r ≡ i + 1 + (r - (i + 1)) = omega arith in
+            ap (λ (k : ℕ). pointers (take k roots)) e
+            ∙ ap pointers (take-add (i + 1) (r - (i + 1)) roots)
+            ∙ pointers-append (take (i + 1) roots) (take (r - (i + 1)) (drop (i + 1) roots))
+
+    pub roots-on : (recs₁ work₁ recs₂ work₂ : List ℕ) → Followed by n slots recs₀ (pointers (take i roots)) recs₁ work₁
+        → Followed by n slots recs₁ (pointers (getD roots i 0 ∷ [])) recs₂ work₂ → Followed by n slots recs₀ (pointers (take (i + 1) roots)) recs₂ work₂
+    roots-on recs₁ work₁ recs₂ work₂ f g =
+        followed-as by n slots recs₀ _ _ recs₂ work₂ (roots-next roots i (omega arith))
+        (followed-then by n slots recs₀ (pointers (take i roots)) (pointers (getD roots i 0 ∷ [])) recs₁ work₁ recs₂ work₂ roots-object f g)
+
+  pub sinks-begin : (work : List ℕ) (t : ℕ → Bool) → Ready by n recs₀ slots work (8 * n) → Followed by n slots recs₀ (gather 0 t (λ y. y ∷ [])) recs₀ work
+  unfolding gather
+  sinks-begin work t r = followed-none by n slots recs₀ work r (gather 0 t (λ y. y ∷ [])) refl
+
+  pub sinks-on : n ≤ length recs₀ → (x : ℕ) → x < n → (recs₁ work₁ recs₂ work₂ : List ℕ)
+      → Followed by n slots recs₀ (gather x (view n recs₀ slots .sink) (λ y. y ∷ [])) recs₁ work₁
+      → Followed by n slots recs₁ (cond (isSink (recOf n recs₁ (x + 1))) ((x + 1) ∷ []) []) recs₂ work₂
+      → Followed by n slots recs₀ (gather (x + 1) (view n recs₀ slots .sink) (λ y. y ∷ [])) recs₂ work₂
+  unfolding view
+  sinks-on long x less recs₁ work₁ recs₂ work₂ f g =
+      followed-as by n slots recs₀ _ _ recs₂ work₂ (sinks-next (λ y. isSink (recOf n recs₀ y)) x)
+      (followed-then by n slots recs₀ (gather x (λ y. isSink (recOf n recs₀ y)) (λ y. y ∷ [])) (cond (isSink (recOf n recs₀ (x + 1))) ((x + 1) ∷ []) [])
+      recs₁ work₁ recs₂ work₂ (sink-object n (x + 1) (isSink (recOf n recs₀ (x + 1))) (omega arith)) f
+      (subst (λ (b : Bool). Followed by n slots recs₁ (cond b ((x + 1) ∷ []) []) recs₂ work₂) (sink-same n recs₀ recs₁ long (f .kept) (x + 1)) g))
+
+-- a loop that has come to its end
+pub followed-at : (by : Bool) (n : ℕ) (slots recs : List ℕ) (from : ℕ → List ℕ) (i k : ℕ) (recs′ work′ : List ℕ) → i ≤ k → k ≤ i
+    → Followed by n slots recs (from i) recs′ work′ → Followed by n slots recs (from k) recs′ work′
+followed-at by n slots recs from i k recs′ work′ a b f =
+    let e : k ≡ i = omega arith in
+    followed-as by n slots recs (from i) (from k) recs′ work′ (ap from e) f
+
+-- ---- the state at the start
+
+module _ (a b : ℕ) (l : List ℕ) (fits : a ≤ length l) where
+  cleared-under : (i : ℕ) → i < a → getD (cleared a b l) i 0 ≡ getD l i 0
+  unfolding cleared
+  cleared-under i p =
+      sym (getD-take a (cleared a b l) i 0 p)
+      ∙ ap (λ (x : List ℕ). getD x i 0) (take-at (take a l) (zeros (b - a) (drop a l)) a (length-take-le a l fits))
+      ∙ getD-take a l i 0 p
+
+  cleared-zero : (i : ℕ) → a ≤ i → i < b → b ≤ length l → getD (cleared a b l) i 0 ≡ 0
+  unfolding cleared zeros
+  cleared-zero i p q r =
+      let e : i ≡ a + (i - a) = omega arith in
+      ap (λ (k : ℕ). getD (cleared a b l) k 0) e
+      ∙ sym (getD-drop a (cleared a b l) (i - a) 0)
+      ∙ ap (λ (x : List ℕ). getD x (i - a) 0) (drop-at (take a l) (zeros (b - a) (drop a l)) a (length-take-le a l fits))
+      ∙ get-each 0 (b - a) (λ x w. 0) (drop a l) (i - a) 0 (omega arith) (omega (arith, length-drop a l))
+
+-- a list of objects has no other word
+all-pointers : (n : ℕ) (l : List ℕ) → Objects n l → pointers l ≡ l
+unfolding pointers
+all-pointers n [] h = refl
+all-pointers n (w ∷ l) h =
+    let b = h w (List·Memᴰ·head refl) in
+    rw (ne-eqb w 0 (omega arith)) (ap (λ (m : List ℕ). w ∷ m) (all-pointers n l (λ x m. h x (List·Memᴰ·tail m))))
+
+unless-le : (b : Bool) (x : ℕ) → cond b 0 x ≤ x
+unless-le true x = omega arith
+unless-le false x = omega arith
+
+module _ (by : Bool) (n r : ℕ) (recs slots roots work : List ℕ) (t : Traceable n r recs slots roots work) where
+  clear-flags : flagsOf n recs ≡ noFlags
+  clear-flags = bare-flags n recs (t .sized .recs-long) (t .clear)
+
+  targets-short : (x : ℕ) → Obj n x → length (targets (view n recs slots) x) ≤ 8
+  targets-short x b =
+      let k = width (recOf n recs x) in
+      omega (
+        arith,
+        ap length (targets-are n recs slots x k (b .0) (t .sized .widths x b) refl),
+        named-short n (take k (drop (8 * (x - 1)) slots)),
+        length-take k (drop (8 * (x - 1)) slots),
+        t .sized .widths x b,
+      )
+
+  pub trace-ready : (work₁ work₂ : List ℕ) → Linked by n recs work₁ → length work₁ ≡ length work → work₂ ≡ cleared (9 * n) (workLen n) work₁
+      → length work₂ ≡ length work₁ → Ready by n recs slots work₂ (8 * n)
+  unfolding workLen noFlags
+  trace-ready work₁ work₂ l e₁ c e₂ =
+      let z = t .sized in
+      let long : 10 * n + 64 ≤ length work₁ = omega (arith, z .work-long) in
+      record {
+        state =
+            record {
+              sized =
+                  record {
+                    most = z .most;
+                    recs-long = z .recs-long;
+                    slots-long = z .slots-long;
+                    work-long = omega (arith, z .work-long);
+                    widths = z .widths;
+                  };
+              high = omega arith;
+              room =
+                  sum-most n 8 (λ x. cond (flagsOf n recs marked x) 0 (length (targets (view n recs slots) x)))
+                  (λ x b. omega (arith, unless-le (flagsOf n recs marked x) (length (targets (view n recs slots) x)), targets-short x b));
+              inside = λ x m. absurd (List·Memᴰ·not-nil (subst (λ (y : List ℕ). List·Memᴰ x y) (none-pending n work₂) m));
+              mapped =
+                  mapped-none n (flagsOf n recs postponed) work₂ (z .most)
+                  (λ i p q. ap (λ (y : List ℕ). getD y i 0) c ∙ cleared-zero (9 * n) (10 * n + 64) work₁ (omega arith) i p q long)
+                  (λ i. ap (λ (f : Flags). f postponed i) clear-flags);
+            };
+        linked =
+            record {
+              links = λ e x b.
+                  ap (λ (y : List ℕ). getD y (8 * n + (x - 1)) 0) c
+                  ∙ cleared-under (9 * n) (10 * n + 64) work₁ (omega arith) (8 * n + (x - 1)) (omega arith)
+                  ∙ l .links e x b;
+            };
+      }
+
+  -- ---- the end
+
+  abbrev H : Heap
+  H = view n recs slots
+
+  abbrev sinks : List ℕ
+  sinks = gather n (H .sink) (λ y. y ∷ [])
+
+  sinks-in : Objects n sinks
+  sinks-in x m =
+      let f = gather-from n (H .sink) (λ y. y ∷ []) x m in
+      subst (λ (y : ℕ). Obj n y) (sym (mem-one x (f .0) (f .3))) (f .1)
+    where
+      mem-one : (x y : ℕ) → List·Memᴰ x (y ∷ []) → x ≡ y
+      mem-one x y (List·Memᴰ·head e) = e
+      mem-one x y (List·Memᴰ·tail q) = absurd (List·Memᴰ·not-nil q)
+
+  sinks-kept : pointers sinks ≡ sinks
+  sinks-kept = all-pointers n sinks sinks-in
+
+  walk-begin : walkAt n recs (pointers (take r roots) ++ sinks) ≡ begin (seen by n recs slots) (starts H (take r roots))
+  unfolding begin starts noFlags view
+  walk-begin =
+      let c : count n (λ x. flagsOf n recs marked x) ≡ 0 = count-none n (λ x. flagsOf n recs marked x) (λ x b. ap (λ (f : Flags). f marked x) clear-flags) in
+      ap (λ (k : ℕ). record { flags = flagsOf n recs; todo = pointers (take r roots) ++ sinks; scanned = k }) c
+      ∙ ap (λ (f : Flags). record { flags = f; todo = pointers (take r roots) ++ sinks; scanned = 0 }) clear-flags
+      ∙ ap (λ (l : List ℕ). record { flags = noFlags; todo = l; scanned = 0 })
+      (ap (λ (l : List ℕ). pointers (take r roots) ++ l) (sym sinks-kept) ∙ sym (pointers-append (take r roots) sinks))
+
+  pub starts-in : StartsIn (seen by n recs slots) (starts H (take r roots))
+  unfolding starts view
+  starts-in x m =
+      objects-append n (pointers (take r roots)) sinks (t .roots-in) sinks-in x
+      (subst (λ (l : List ℕ). List·Memᴰ x l) (pointers-append (take r roots) sinks ∙ ap (λ (l : List ℕ). pointers (take r roots) ++ l) sinks-kept) m)
+
+  pub trace-done : (recs₁ work₁ recs₂ work₂ recs₃ : List ℕ) → Followed by n slots recs (pointers (take r roots)) recs₁ work₁
+      → Followed by n slots recs₁ (gather n (view n recs₁ slots .sink) (λ y. y ∷ [])) recs₂ work₂ → Finished by n slots recs₂ recs₃
+      → TracedIn by n r recs slots roots recs₃
+  unfolding traced
+  trace-done recs₁ work₁ recs₂ work₂ recs₃ a b e =
+      record {
+        flags-now = ap (λ (w : Walk). w .flags) whole;
+        counted = ap (λ (w : Walk). w .scanned) whole;
+        kept = e .kept ∙ b .kept ∙ a .kept ∙ t .clear;
+      }
+    where
+      same-sinks : gather n (view n recs₁ slots .sink) (λ y. y ∷ []) ≡ sinks
+      same-sinks = ap (λ (G : Heap). gather n (G .sink) (λ y. y ∷ [])) (view-same n recs recs₁ (t .sized .recs-long) (a .kept) slots)
+
+      whole : walkAt n recs₃ [] ≡ traced (seen by n recs slots) (starts H (take r roots))
+      whole =
+          e .same
+          ∙ b .same [] (objects-none n)
+          ∙ ap (ends by n slots recs₁) (append-nil (gather n (view n recs₁ slots .sink) (λ y. y ∷ [])) ∙ same-sinks)
+          ∙ a .same sinks sinks-in
+          ∙ ap (finish (seen by n recs slots)) walk-begin
+
+-- ---- the links
+
+-- where clusters are not walked there are none
+pub unlinked : (by : Bool) (n : ℕ) (recs work : List ℕ) → not by ≡ true → Linked by n recs work
+unlinked true n recs work e = absurd (true≢false (sym e))
+unlinked false n recs work e = record { links = λ q x b. absurd (true≢false (sym q)) }
+
+-- the link words in their part of the work words
+pub linked-part : (by : Bool) (n : ℕ) (recs work : List ℕ) → Linkable n recs work → (ys : List ℕ)
+    → ys ≡ cond (linkable n recs (midOf (8 * n) (9 * n - 8 * n) work)) (links n recs (midOf (8 * n) (9 * n - 8 * n) work)) (midOf (8 * n) (9 * n - 8 * n) work)
+    → Linked by n recs (putMid (8 * n) (9 * n - 8 * n) work ys)
+unfolding links
+linked-part by n recs work l ys e = record { links = λ q x b. at x b }
+  where
+    mid : List ℕ
+    mid = midOf (8 * n) (9 * n - 8 * n) work
+
+    mid-long : length mid ≡ n
+    mid-long = mid-len (8 * n) (9 * n) work (omega (arith, l .work-long)) ∙ omega arith
+
+    ys-are : ys ≡ links n recs mid
+    ys-are = e ∙ sym (linked n recs mid (l .most) (l .recs-long) (omega (arith, mid-long)))
+
+    ys-long : length ys ≡ n
+    ys-long = ap length ys-are ∙ length-each 1 n (λ x w. linkWord n recs x) mid ∙ mid-long
+
+    front-long : length (take (8 * n) work) ≡ 8 * n
+    front-long = length-take-le (8 * n) work (omega (arith, l .work-long))
+
+    post : List ℕ
+    post = postOf (8 * n) (9 * n - 8 * n) work
+
+    at : (x : ℕ) → Obj n x → linkAt n (putMid (8 * n) (9 * n - 8 * n) work ys) x ≡ linkWord n recs x
+    at x b =
+        let s : 1 + (x - 1) ≡ x = omega arith in
+        ap (λ (k : ℕ). getD (take (8 * n) work ++ (ys ++ post)) (k + (x - 1)) 0) (sym front-long)
+        ∙ getD-append-add (take (8 * n) work) (ys ++ post) (x - 1) 0
+        ∙ sym (getD-take n (ys ++ post) (x - 1) 0 (omega arith))
+        ∙ ap (λ (m : List ℕ). getD m (x - 1) 0) (take-at ys post n ys-long ∙ ys-are)
+        ∙ get-each 1 n (λ y w. linkWord n recs y) mid (x - 1) 0 (omega arith) (omega (arith, mid-long))
+        ∙ ap (linkWord n recs) s

@@ -1,0 +1,383 @@
+-- The out members of a cluster through its links, and the visits by their cases.
+-- Assumes nothing.
+use Prim.Native.Nat.{ℕ, zero, suc, _+_, _-_, _*_, _/_, _%_, _<_, _≤_}
+use mathlib.Core.Path.{_≡_, refl, sym, ap, _∙_, subst, fun-ext}
+use mathlib.Core.Logic.{_≢_}
+use mathlib.Core.Bool.{Bool, true, false, cond, _||_, true≢false}
+use mathlib.Core.List.{List, _++_}
+use native.Mathlib.Omega.{arith}
+use borrow.Author.Tests.{eq-eqb, ne-eqb}
+use lib.Dec.{eqb}
+use lib.ListN.{length}
+use Rattle.layout.specs.Limits.{within}
+use Rattle.layout.specs.Record.{isOut, cluster}
+use Rattle.graph.specs.Numbers.{Obj}
+use Rattle.graph.specs.Heap.{Heap}
+use Rattle.graph.specs.Trace.{marked, postponed, reached, Flags, Walk, scan, unpostpone, arrive, scanIf, scanOuts, visitBy, visit, takeBy, take}
+use Rattle.graph.proofs.FlagLaws.{postponed≢marked, setFlag-apart}
+use Rattle.rules.specs.Buffers.{recOf}
+use Rattle.rules.specs.View.{view}
+use Rattle.links.specs.Links.{topMember, clOf, nextMember, linkWord}
+use Rattle.links.proofs.MemberOrder.{top-le, top-in, next-is}
+use Rattle.sweep.specs.Sweep.{bare}
+use Rattle.collect.specs.Marks.{flagsOf, putMark}
+use Rattle.collect.specs.Later.{MapPut}
+use Rattle.collect.specs.State.{heapFor, seen, walkAt, pending, linkAt, Linked, State, Ready, Moved}
+use Rattle.collect.proofs.MarkLaws.{flags-put, cluster-same, view-same}
+use Rattle.collect.proofs.MoveLaws.{moved-arrive, moved-postpone, moved-unpostpone, moved-none, moved-then, moved-as}
+
+-- ---- the links
+
+-- the link words tell the same while nothing but flags changes
+link-words : (n : ℕ) (recs recs′ : List ℕ) → n ≤ length recs → bare n recs′ ≡ bare n recs → (x : ℕ) → linkWord n recs′ x ≡ linkWord n recs x
+unfolding linkWord nextMember
+link-words n recs recs′ long e x =
+    let c : clOf n recs′ ≡ clOf n recs = fun-ext (cluster-same n recs recs′ long e) in
+    ap (λ (cl : ℕ → ℕ). cond (within 1 n (cl x)) (topMember cl (cl x) (x - 1)) 0 + 4096 * topMember cl x n) c
+
+pub ready-moved : (by : Bool) (n : ℕ) (slots recs work : List ℕ) (top : ℕ) (f : Walk → Walk) (recs′ work′ : List ℕ) (top′ : ℕ) → n ≤ length recs
+    → Linked by n recs work → Moved n slots recs work top f recs′ work′ top′ → Ready by n recs′ slots work′ top′
+ready-moved by n slots recs work top f recs′ work′ top′ long l v =
+    record {
+      state = v .state;
+      linked = record { links = λ e x b. v .links x b ∙ l .links e x b ∙ sym (link-words n recs recs′ long (v .kept) x) };
+    }
+
+next-less : (n : ℕ) (recs : List ℕ) (x : ℕ) → 1 ≤ x → nextMember n recs x < x
+unfolding nextMember
+next-less n recs x p = go (within 1 n (clOf n recs x))
+  where
+    go : (b : Bool) → cond b (topMember (clOf n recs) (clOf n recs x) (x - 1)) 0 < x
+    go true = omega (arith, top-le (clOf n recs) (clOf n recs x) (x - 1))
+    go false = omega arith
+
+-- what the two parts of a link word tell
+module _ (n : ℕ) (recs work : List ℕ) (most : n ≤ 4095) (l : Linked true n recs work) (x : ℕ) (b : Obj n x) where
+  pub link-top : linkAt n work x / 4096 % 4096 ≡ topMember (clOf n recs) x n
+  unfolding linkWord
+  link-top = omega (arith, l .links refl x b, next-less n recs x (b .0), top-le (clOf n recs) x n)
+
+  pub link-next : (h : ℕ) → Obj n h → cluster (recOf n recs x) ≡ h → linkAt n work x % 4096 ≡ topMember (clOf n recs) h (x - 1)
+  unfolding linkWord
+  link-next h ih e = omega (arith, l .links refl x b, next-is n recs x h e (ih .0) (ih .1), top-le (clOf n recs) h (x - 1))
+
+-- ---- the out members of a cluster
+
+-- from k down, the scan of the out members begins at the highest member
+pub outs-top : (H : Heap) (h k : ℕ) (w : Walk) → scanOuts H h k w ≡ scanOuts H h (topMember (H .cluster) h k) w
+unfolding scanOuts topMember scanIf
+outs-top H h zero w = refl
+outs-top H h (suc k) w = go (H .out (suc k)) (eqb (H .cluster (suc k)) h) refl refl (λ v. outs-top H h k v)
+  where
+    go : (a b : Bool) → H .out (suc k) ≡ a → eqb (H .cluster (suc k)) h ≡ b
+        → ((v : Walk) → scanOuts H h k v ≡ scanOuts H h (topMember (H .cluster) h k) v)
+        → scanOuts H h (suc k) w ≡ scanOuts H h (cond b (suc k) (topMember (H .cluster) h k)) w
+    go a true ea eb ih = refl
+    go true false ea eb ih = rw (ea, eb) (ih w)
+    go false false ea eb ih = rw ea (ih w)
+
+-- one turn of it, at a member
+outs-turn : (H : Heap) (h x k : ℕ) (w : Walk) → x ≡ suc k → H .cluster x ≡ h
+    → scanOuts H h x w ≡ scanOuts H h k (scanIf H (H .out x) true (w .flags marked x) x w)
+unfolding scanOuts
+outs-turn H h x k w e c = rw e (go (eq-eqb (H .cluster (suc k)) h (rw e at c)))
+  where
+    go : eqb (H .cluster (suc k)) h ≡ true
+        → scanOuts H h k (scanIf H (H .out (suc k)) (eqb (H .cluster (suc k)) h) (w .flags marked (suc k)) (suc k) w)
+        ≡ scanOuts H h k (scanIf H (H .out (suc k)) true (w .flags marked (suc k)) (suc k) w)
+    go y = rw y refl
+
+-- From x on, the scan of the out members of h's cluster ends as it does from the start of the loop.
+pub record Sweeping (n : ℕ) (slots recs₀ work₀ : List ℕ) (top₀ h : ℕ) (recs work : List ℕ) (top x : ℕ) : Type 0 where
+  pub same : (more : List ℕ) → scanOuts (view n recs₀ slots) h x (walkAt n recs (pending n work top ++ more))
+      ≡ scanOuts (view n recs₀ slots) h n (walkAt n recs₀ (pending n work₀ top₀ ++ more))
+  pub ready : Ready true n recs slots work top
+  pub kept : bare n recs ≡ bare n recs₀
+  pub links : (y : ℕ) → Obj n y → linkAt n work y ≡ linkAt n work₀ y
+  pub within : x ≤ n
+  pub member : 1 ≤ x → cluster (recOf n recs₀ x) ≡ h
+  pub recs-length : length recs ≡ length recs₀
+  pub work-length : length work ≡ length work₀
+
+-- the highest member is 0 or a member
+top-member : (cl : ℕ → ℕ) (h k x : ℕ) → x ≡ topMember cl h k → (x ≤ k) × (1 ≤ x → cl x ≡ h)
+top-member cl h k x e = (omega (arith, top-le cl h k), λ l. rw e (top-in cl h k (λ z. absurd (omega arith))))
+
+module _ (n : ℕ) (slots recs₀ work₀ : List ℕ) (top₀ h : ℕ) (r₀ : Ready true n recs₀ slots work₀ top₀) (ih : Obj n h) where
+  abbrev H : Heap
+  H = view n recs₀ slots
+
+  long : n ≤ length recs₀
+  long = r₀ .state .sized .recs-long
+
+  pub sweeping-here : (x : ℕ) → x ≡ linkAt n work₀ h / 4096 % 4096 → Sweeping n slots recs₀ work₀ top₀ h recs₀ work₀ top₀ x
+  unfolding view
+  sweeping-here x e =
+      let q : x ≡ topMember (clOf n recs₀) h n = e ∙ link-top n recs₀ work₀ (r₀ .state .sized .most) (r₀ .linked) h ih in
+      let t = top-member (clOf n recs₀) h n x q in
+      record {
+        same = λ more. rw q (sym (outs-top H h n (walkAt n recs₀ (pending n work₀ top₀ ++ more))));
+        ready = r₀;
+        kept = refl;
+        links = λ y b. refl;
+        within = t .0;
+        member = t .1;
+        recs-length = refl;
+        work-length = refl;
+      }
+
+  module _ (recs work : List ℕ) (top x : ℕ) (g : Sweeping n slots recs₀ work₀ top₀ h recs work top x) (some : 1 ≤ x) where
+    abbrev Step : List ℕ → List ℕ → ℕ → Type 0
+    Step recs′ work′ top′ = Moved n slots recs work top (scanIf (view n recs slots) (isOut (recOf n recs x)) true (flagsOf n recs marked x) x) recs′ work′ top′
+
+    next-here : (recs′ work′ : List ℕ) (top′ x′ : ℕ) → Step recs′ work′ top′ → x′ ≡ linkAt n work′ x % 4096 → x′ ≡ topMember (clOf n recs₀) h (x - 1)
+    next-here recs′ work′ top′ x′ v e =
+        e ∙ ap (λ (y : ℕ). y % 4096) (v .links x (some, g .within) ∙ g .links x (some, g .within))
+        ∙ link-next n recs₀ work₀ (r₀ .state .sized .most) (r₀ .linked) x (some, g .within) h ih (g .member some)
+
+    pub sweeping-less : (recs′ work′ : List ℕ) (top′ x′ : ℕ) → Step recs′ work′ top′ → x′ ≡ linkAt n work′ x % 4096 → x′ < x
+    sweeping-less recs′ work′ top′ x′ v e = omega (arith, next-here recs′ work′ top′ x′ v e, top-le (clOf n recs₀) h (x - 1))
+
+    pub sweeping-on : (recs′ work′ : List ℕ) (top′ x′ : ℕ) → Step recs′ work′ top′ → x′ ≡ linkAt n work′ x % 4096 → length recs′ ≡ length recs → length work′ ≡ length work
+        → Sweeping n slots recs₀ work₀ top₀ h recs′ work′ top′ x′
+    unfolding view
+    sweeping-on recs′ work′ top′ x′ v e lr lw =
+        let q = next-here recs′ work′ top′ x′ v e in
+        let t = top-member (clOf n recs₀) h (x - 1) x′ q in
+        record {
+          same = λ more.
+              ap (scanOuts H h x′) (sym (v .same more))
+              ∙ turned more (x - 1) (omega arith) q (g .member some)
+              ∙ g .same more;
+          ready = ready-moved true n slots recs work top _ recs′ work′ top′ (omega (arith, g .recs-length, long)) (g .ready .linked) v;
+          kept = v .kept ∙ g .kept;
+          links = λ y b. v .links y b ∙ g .links y b;
+          within = omega arith;
+          member = t .1;
+          recs-length = lr ∙ g .recs-length;
+          work-length = lw ∙ g .work-length;
+        }
+      where
+        same-heap : view n recs slots ≡ view n recs₀ slots
+        same-heap = view-same n recs₀ recs long (g .kept) slots
+
+        -- one turn of the definition
+        turned : (more : List ℕ) (k : ℕ) → x ≡ suc k → x′ ≡ topMember (clOf n recs₀) h k → cluster (recOf n recs₀ x) ≡ h
+            → scanOuts H h x′ (scanIf (view n recs slots) (isOut (recOf n recs x)) true (flagsOf n recs marked x) x (walkAt n recs (pending n work top ++ more)))
+            ≡ scanOuts H h x (walkAt n recs (pending n work top ++ more))
+        turned more k ex q c =
+            let w : Walk = walkAt n recs (pending n work top ++ more) in
+            ap (λ (G : Heap). scanOuts H h x′ (scanIf G (G .out x) true (flagsOf n recs marked x) x w)) same-heap
+            ∙ ap (λ (y : ℕ). scanOuts H h y (scanIf H (H .out x) true (flagsOf n recs marked x) x w)) q
+            ∙ sym (outs-top H h k (scanIf H (H .out x) true (flagsOf n recs marked x) x w))
+            ∙ sym (outs-turn H h x k w ex c)
+
+  pub sweeping-done : (recs work : List ℕ) (top x : ℕ) → Sweeping n slots recs₀ work₀ top₀ h recs work top x → x ≡ 0
+      → Moved n slots recs₀ work₀ top₀ (scanOuts (view n recs₀ slots) h n) recs work top
+  unfolding scanOuts
+  sweeping-done recs work top x g e =
+      record { same = λ more. sym (g .same more) ∙ at more; state = g .ready .state; kept = g .kept; links = g .links }
+    where
+      at : (more : List ℕ) → scanOuts (view n recs₀ slots) h x (walkAt n recs (pending n work top ++ more)) ≡ walkAt n recs (pending n work top ++ more)
+      at more = rw e refl
+
+-- ---- the visit by its cases
+
+module _ (n : ℕ) (recs slots work : List ℕ) (top : ℕ) (s : State n recs slots work top) (o : ℕ) (io : Obj n o) where
+  abbrev G : Heap
+  G = view n recs slots
+
+  pub passed-scanIf : flagsOf n recs marked o ≡ true → Moved n slots recs work top (scanIf (view n recs slots) true true (flagsOf n recs marked o) o) recs work top
+  unfolding scanIf
+  passed-scanIf e = moved-none n slots recs work top _ (λ todo. rw e refl) s
+
+  pub taken-scanIf : flagsOf n recs marked o ≡ false → (recs′ work′ : List ℕ) (top′ : ℕ) → Moved n slots recs work top (scan (view n recs slots) o) recs′ work′ top′
+      → Moved n slots recs work top (scanIf (view n recs slots) true true (flagsOf n recs marked o) o) recs′ work′ top′
+  unfolding scanIf
+  taken-scanIf e recs′ work′ top′ v = moved-as n slots recs work top _ _ recs′ work′ top′ (λ todo. rw e refl) v
+
+  pub inner-scanIf : isOut (recOf n recs o) ≡ false
+      → Moved n slots recs work top (scanIf (view n recs slots) (isOut (recOf n recs o)) true (flagsOf n recs marked o) o) recs work top
+  unfolding scanIf
+  inner-scanIf e = moved-none n slots recs work top _ (λ todo. rw e refl) s
+
+  pub outer-scanIf : isOut (recOf n recs o) ≡ true → (recs′ work′ : List ℕ) (top′ : ℕ)
+      → Moved n slots recs work top (scanIf (view n recs slots) true true (flagsOf n recs marked o) o) recs′ work′ top′
+      → Moved n slots recs work top (scanIf (view n recs slots) (isOut (recOf n recs o)) true (flagsOf n recs marked o) o) recs′ work′ top′
+  outer-scanIf e recs′ work′ top′ v = moved-as n slots recs work top _ _ recs′ work′ top′ (λ todo. rw e refl) v
+
+  -- ---- a head
+
+  pub head-passed : flagsOf n recs reached o ≡ true
+      → Moved n slots recs work top (visitBy (view n recs slots) false true (flagsOf n recs marked o) (flagsOf n recs reached o) o) recs work top
+  unfolding visitBy
+  head-passed e = moved-none n slots recs work top _ (λ todo. rw e refl) s
+
+  pub ready-reach : Linked true n recs work → Ready true n (putMark reached o true recs) slots work top
+  ready-reach l = ready-moved true n slots recs work top _ _ work top (s .sized .recs-long) l (moved-arrive n recs slots work top s o io)
+
+  pub head-reached : flagsOf n recs reached o ≡ false → (recs′ work′ : List ℕ) (top′ : ℕ)
+      → Moved n slots (putMark reached o true recs) work top (scanOuts (view n (putMark reached o true recs) slots) o n) recs′ work′ top′
+      → Moved n slots recs work top (visitBy (view n recs slots) false true (flagsOf n recs marked o) (flagsOf n recs reached o) o) recs′ work′ top′
+  unfolding visitBy view
+  head-reached e recs′ work′ top′ v =
+      let a = moved-arrive n recs slots work top s o io in
+      let v′ : Moved n slots (putMark reached o true recs) work top (scanOuts (view n recs slots) o n) recs′ work′ top′
+      = subst (λ (H : Heap). Moved n slots (putMark reached o true recs) work top (scanOuts H o n) recs′ work′ top′)
+      (view-same n recs (putMark reached o true recs) (s .sized .recs-long) (a .kept) slots) v in
+      moved-as n slots recs work top _ _ recs′ work′ top′ (λ todo. rw e refl)
+      (moved-then n slots recs work top (arrive (view n recs slots) o) (scanOuts (view n recs slots) o n) _ _ _ recs′ work′ top′ a v′)
+
+  -- ---- another member
+
+  pub member-marked : flagsOf n recs marked o ≡ true → Moved n slots recs work top
+      (visitBy (view n recs slots) false false (flagsOf n recs marked o) (flagsOf n recs reached (cluster (recOf n recs o))) o) recs work top
+  unfolding visitBy
+  member-marked e = moved-none n slots recs work top _ (λ todo. rw e refl) s
+
+  pub member-reached : flagsOf n recs marked o ≡ false → flagsOf n recs reached (cluster (recOf n recs o)) ≡ true → Moved n slots recs work top
+      (visitBy (view n recs slots) false false (flagsOf n recs marked o) (flagsOf n recs reached (cluster (recOf n recs o))) o) recs work top
+  unfolding visitBy
+  member-reached e r = moved-none n slots recs work top _ (λ todo. rw (e, r) refl) s
+
+  pub member-later : flagsOf n recs marked o ≡ false → flagsOf n recs reached (cluster (recOf n recs o)) ≡ false → (work′ : List ℕ)
+      → MapPut n o true work work′ → length work′ ≡ length work → Moved n slots recs work top
+      (visitBy (view n recs slots) false false (flagsOf n recs marked o) (flagsOf n recs reached (cluster (recOf n recs o))) o)
+      (putMark postponed o true recs) work′ top
+  unfolding visitBy
+  member-later e r work′ p q =
+      moved-as n slots recs work top _ _ _ work′ top (λ todo. rw (e, r) refl) (moved-postpone n recs slots work top s o io work′ p q)
+
+-- ---- a visit where clusters are walked or not
+
+-- only a heap with clusters has one that is not 0
+by-true : (by : Bool) (c : ℕ) → cond by c 0 ≢ 0 → by ≡ true
+by-true true c h = refl
+by-true false c h = absurd (h refl)
+
+module _ (by : Bool) (n : ℕ) (recs slots work : List ℕ) (top : ℕ) (o : ℕ) (c : ℕ) (is : c ≡ cond by (cluster (recOf n recs o)) 0) where
+  -- an object of no cluster
+  free-is : (b m r : Bool) (w : Walk) → visitBy (seen by n recs slots) true b m r o w ≡ scanIf (view n recs slots) true true m o w
+  unfolding visitBy scanIf scan
+  free-is b true r w = refl
+  free-is b false r w = refl
+
+  pub visit-free : c ≡ 0 → (recs′ work′ : List ℕ) (top′ : ℕ)
+      → Moved n slots recs work top (scanIf (view n recs slots) true true (flagsOf n recs marked o) o) recs′ work′ top′
+      → Moved n slots recs work top (visit (seen by n recs slots) o) recs′ work′ top′
+  unfolding visit view
+  visit-free e recs′ work′ top′ v =
+      moved-as n slots recs work top _ _ recs′ work′ top′
+      (λ todo. rw (eq-eqb (cond by (cluster (recOf n recs o)) 0) 0 (sym is ∙ e))
+      (free-is (eqb (cond by (cluster (recOf n recs o)) 0) o) (flagsOf n recs marked o) (flagsOf n recs reached (cond by (cluster (recOf n recs o)) 0)) (walkAt n recs todo))) v
+
+  module _ (some : c ≢ 0) where
+    pub walks-clusters : by ≡ true
+    walks-clusters = by-true by (cluster (recOf n recs o)) (λ e. some (is ∙ e))
+
+    pub visit-head : c ≡ o → (recs′ work′ : List ℕ) (top′ : ℕ)
+        → Moved n slots recs work top (visitBy (view n recs slots) false true (flagsOf n recs marked o) (flagsOf n recs reached o) o) recs′ work′ top′
+        → Moved n slots recs work top (visit (seen by n recs slots) o) recs′ work′ top′
+    unfolding visit view
+    visit-head e recs′ work′ top′ v =
+        let k : cluster (recOf n recs o) ≡ o = sym (ap (λ (b : Bool). cond b (cluster (recOf n recs o)) 0) walks-clusters) ∙ sym is ∙ e in
+        moved-as n slots recs work top _ _ recs′ work′ top′
+        (λ todo. rw (walks-clusters, ne-eqb (cluster (recOf n recs o)) 0 (λ z. some (e ∙ sym k ∙ z)), k, eq-eqb o o refl) refl) v
+
+    pub visit-member : c ≢ o → (recs′ work′ : List ℕ) (top′ : ℕ)
+        → Moved n slots recs work top
+        (visitBy (view n recs slots) false false (flagsOf n recs marked o) (flagsOf n recs reached (cluster (recOf n recs o))) o) recs′ work′ top′
+        → Moved n slots recs work top (visit (seen by n recs slots) o) recs′ work′ top′
+    unfolding visit view
+    visit-member d recs′ work′ top′ v =
+        let k : c ≡ cluster (recOf n recs o) = is ∙ ap (λ (b : Bool). cond b (cluster (recOf n recs o)) 0) walks-clusters in
+        moved-as n slots recs work top _ _ recs′ work′ top′
+        (λ todo. rw (walks-clusters, ne-eqb (cluster (recOf n recs o)) 0 (λ z. some (k ∙ z)), ne-eqb (cluster (recOf n recs o)) o (λ z. d (k ∙ z))) refl) v
+
+-- ---- the lowest postponed object
+
+scan-seen : (by : Bool) (H : Heap) (o : ℕ) (w : Walk) → scan (heapFor by H) o w ≡ scan H o w
+unfolding scan
+scan-seen by H o w = refl
+
+take-is : (H : Heap) (o : ℕ) (w : Walk) → 1 ≤ o
+    → take H o w ≡ takeBy H (w .flags marked o) (w .flags reached (H .cluster o)) o (unpostpone H o w)
+unfolding take
+take-is H zero w h = absurd (omega arith)
+take-is H (suc m) w h = refl
+
+module _
+    (by : Bool)
+    (n : ℕ)
+    (recs slots work : List ℕ)
+    (top : ℕ)
+    (s : State n recs slots work top)
+    (o : ℕ)
+    (io : Obj n o)
+    (work₁ : List ℕ)
+    (p : MapPut n o false work work₁)
+    (e₁ : length work₁ ≡ length work)
+  where
+    abbrev settled : Bool
+    settled = flagsOf n recs marked o || flagsOf n recs reached (cond by (cluster (recOf n recs o)) 0)
+
+    pub take-dropped : settled ≡ true → Moved n slots recs work top (take (seen by n recs slots) o) (putMark postponed o false recs) work₁ top
+    unfolding takeBy unpostpone view
+    take-dropped e =
+        moved-as n slots recs work top (unpostpone (view n recs slots) o) _ _ _ _
+        (λ todo.
+        take-is (seen by n recs slots) o (walkAt n recs todo) (io .0)
+        ∙ at (flagsOf n recs marked o) (flagsOf n recs reached (cond by (cluster (recOf n recs o)) 0)) e todo)
+        (moved-unpostpone n recs slots work top s o io work₁ p e₁)
+      where
+        at : (a b : Bool) → (a || b) ≡ true → (todo : List ℕ)
+            → takeBy (seen by n recs slots) a b o (unpostpone (seen by n recs slots) o (walkAt n recs todo)) ≡ unpostpone (view n recs slots) o (walkAt n recs todo)
+        at true b q todo = refl
+        at false true q todo = refl
+        at false false q todo = absurd (true≢false (sym q))
+
+    pub state-taken : State n (putMark postponed o false recs) slots work₁ top
+    state-taken = moved-unpostpone n recs slots work top s o io work₁ p e₁ .state
+
+    left-false : (a b : Bool) → (a || b) ≡ false → a ≡ false
+    left-false true b q = q
+    left-false false b q = refl
+
+    pub still-unmarked : settled ≡ false → flagsOf n (putMark postponed o false recs) marked o ≡ false
+    still-unmarked e =
+        ap (λ (t : Flags). t marked o) (flags-put n recs postponed o false (s .sized .recs-long) io)
+        ∙ setFlag-apart (flagsOf n recs) postponed o false marked o postponed≢marked
+        ∙ left-false (flagsOf n recs marked o) (flagsOf n recs reached (cond by (cluster (recOf n recs o)) 0)) e
+
+    pub take-scanned : settled ≡ false → (recs′ work′ : List ℕ) (top′ : ℕ)
+        → Moved n slots (putMark postponed o false recs) work₁ top (scan (view n (putMark postponed o false recs) slots) o) recs′ work′ top′
+        → Moved n slots recs work top (take (seen by n recs slots) o) recs′ work′ top′
+    unfolding takeBy unpostpone view
+    take-scanned e recs′ work′ top′ v =
+        let a = moved-unpostpone n recs slots work top s o io work₁ p e₁ in
+        let v′ : Moved n slots (putMark postponed o false recs) work₁ top (scan (view n recs slots) o) recs′ work′ top′
+        = subst (λ (H : Heap). Moved n slots (putMark postponed o false recs) work₁ top (scan H o) recs′ work′ top′)
+        (view-same n recs (putMark postponed o false recs) (s .sized .recs-long) (a .kept) slots) v in
+        moved-as n slots recs work top (λ w. scan (view n recs slots) o (unpostpone (view n recs slots) o w)) _ _ _ _
+        (λ todo.
+        take-is (seen by n recs slots) o (walkAt n recs todo) (io .0)
+        ∙ at (flagsOf n recs marked o) (flagsOf n recs reached (cond by (cluster (recOf n recs o)) 0)) e todo)
+        (moved-then n slots recs work top (unpostpone (view n recs slots) o) (scan (view n recs slots) o) _ _ _ recs′ work′ top′ a v′)
+      where
+        same-scan : (w : Walk) → scan (seen by n recs slots) o w ≡ scan (view n recs slots) o w
+        same-scan w = scan-seen by (view n recs slots) o w
+
+        at : (a b : Bool) → (a || b) ≡ false → (todo : List ℕ)
+            → takeBy (seen by n recs slots) a b o (unpostpone (seen by n recs slots) o (walkAt n recs todo))
+            ≡ scan (view n recs slots) o (unpostpone (view n recs slots) o (walkAt n recs todo))
+        at true b q todo = absurd (true≢false q)
+        at false true q todo = absurd (true≢false q)
+        at false false q todo = same-scan (unpostpone (view n recs slots) o (walkAt n recs todo))
+
+-- ---- a test of two parts
+
+pub or-first : (a b : Bool) → a ≡ true → true ≡ (a || b)
+or-first a b e = rw e refl
+
+pub or-second : (a b c : Bool) → a ≡ false → c ≡ b → c ≡ (a || b)
+or-second a b c e q = rw e q

@@ -1,0 +1,75 @@
+-- `collect_accepted` meets its contract.
+use denote.Ref.{now}
+use Rattle.collect.proofs.AcceptLaws.{trace-able}
+use Rattle.collect.proofs.CollectLaws.{part-long, collected}
+use borrow.Author.Needs.{needs}
+use Rattle.collect.proofs.call.collect_accepted.Statement.{statement}
+use Rattle.collect.proofs.call.collect_accepted.Tie as tie
+
+work-len-requires : tie.Need-work-len-requires
+work-len-requires c κs = search needs
+
+sub-mark-kept : tie.Need-sub-mark-kept
+sub-mark-kept c = search needs
+
+part-mark-kept-start : tie.Need-part-mark-kept-start
+part-mark-kept-start c = search needs
+
+part-mark-kept-end : tie.Need-part-mark-kept-end
+part-mark-kept-end c = search needs
+
+mark-kept-requires : tie.Need-mark-kept-requires
+mark-kept-requires c κs =
+    let s = c .before .before .before .before .before .before .before .before .before in
+    let work-len-call = c .before .before .before .work-len in
+    (trace-able _ _ _ _ _ (now (s .args .map)) (s .pre) _ (part-long _ _ _ (work-len-call .ensures) (s .pre .work-long)), s .pre .formed)
+
+count-marked-requires : tie.Need-count-marked-requires
+count-marked-requires c κs = search needs
+
+sweep-requires : tie.Need-sweep-requires
+sweep-requires c κs = search needs
+
+zero-requires : tie.Need-zero-requires
+zero-requires c κs = search needs
+
+same-length : tie.Need-same-length
+same-length c = search needs
+
+same-length-2 : tie.Need-same-length-2
+same-length-2 c = search needs
+
+same-length-3 : tie.Need-same-length-3
+same-length-3 c = search needs
+
+same-length-4 : tie.Need-same-length-4
+same-length-4 c = search needs
+
+returns : tie.Need-returns
+returns c =
+    let mark-kept-call = c .before .before .before .before .before .before .before .before .before .before .before .before .before .before .before .before .before .before .before .before .mark-kept in
+    let s = c .before .before .before .before .before .before .before .before .before .before .before .before .before .before .before .before .before .before .before .before .before .before .before .before .before .before .before .before .before .before in
+    let count-marked-call = c .before .before .before .before .before .before .before .before .before .before .before .before .before .before .count-marked in
+    let sweep-call = c .before .before .before .before .before .before .before .before .before .before .sweep in
+    let work-len-call = c .before .before .before .before .before .before .before .before .before .before .before .before .before .before .before .before .before .before .before .before .before .before .before .before .work-len in
+    let m = mark-kept-call in
+    collected (s .args .by) (s .args .c) _ _ (now (s .args .roots)) (now (s .args .work)) _ (s .pre) _ _ (m .ensures) (m .kept .1 .1 .1 .0) _ (count-marked-call .ensures)
+    _ _ _ _ (sweep-call .ensures) _ (work-len-call .ensures) (m .last .1 .1 .1 .1 .1 .1 .0) _ (m .kept .1 .1 .1 .1 .1 .1 .0) (c .before .before .zero .ensures)
+
+pub collect-accepted-spec : {M : Type 1} → statement M
+collect-accepted-spec =
+    tie.close
+    (tie.spec
+    work-len-requires
+    sub-mark-kept
+    part-mark-kept-start
+    part-mark-kept-end
+    mark-kept-requires
+    count-marked-requires
+    sweep-requires
+    zero-requires
+    same-length
+    same-length-2
+    same-length-3
+    same-length-4
+    returns)

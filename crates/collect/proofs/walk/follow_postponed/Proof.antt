@@ -1,0 +1,70 @@
+-- `follow_postponed` meets its contract. The loop's invariant, `Retaking`: the walk ends as it does from the start of the loop, and x is the lowest postponed object.
+use mathlib.Core.List.{[]}
+use Rattle.collect.specs.State.{steps}
+use Rattle.collect.proofs.EndLaws.{Retaking, retaking-here, retaking-on, retaking-done}
+use native.Mathlib.Omega.{arith}
+use Rattle.collect.proofs.walk.follow_postponed.Statement.{statement}
+use Rattle.collect.proofs.walk.follow_postponed.Tie as tie
+
+abbrev Inv-loop : tie.InvT-loop
+Inv-loop by n records₀ slots work₀ x₀ records work x = Retaking by n slots records₀ work₀ records work x
+
+abbrev μ-loop : tie.MeasureT-loop
+μ-loop by n records₀ slots work₀ x₀ records work x = steps by n slots records []
+
+lowest-requires : tie.Need-lowest-requires Inv-loop μ-loop
+lowest-requires c κs =
+    let s = c .before .before .before .before in
+    let z = s .pre .state .sized in record { most = z .most; long = z .work-long }
+
+loop-holds : tie.Need-loop-holds Inv-loop μ-loop
+loop-holds c =
+    let s = c .before .before .before .before .before in
+    retaking-here _ _ _ _ _ _ (s .pre) (c .lowest .ensures)
+
+follow-lowest-requires : tie.Need-follow-lowest-requires Inv-loop μ-loop
+follow-lowest-requires c κs =
+    let l = c .before .before .before .loop in
+    let g = l .inv in (g .ready, (g .lowest-now, omega arith))
+
+lowest-requires-2 : tie.Need-lowest-requires-2 Inv-loop μ-loop
+lowest-requires-2 c κs =
+    let follow-lowest-call = c .before .before .before .before .before .follow-lowest in
+    let z = follow-lowest-call .ensures .ready .state .sized in record { most = z .most; long = z .work-long }
+
+loop-less : tie.Need-loop-less Inv-loop μ-loop
+loop-less c =
+    let follow-lowest-call = c .before .before .before .before .before .before .follow-lowest in
+    follow-lowest-call .ensures .less
+
+loop-again : tie.Need-loop-again Inv-loop μ-loop
+loop-again c =
+    let follow-lowest-call = c .before .before .before .before .before .before .follow-lowest in
+    let l = c .before .before .before .before .before .before .before .before .before .before .loop in
+    let k = follow-lowest-call .kept in
+    retaking-on _ _ _ _ _ _ _ _ (l .inv) _ _ _ (follow-lowest-call .ensures) (c .lowest2 .ensures) (k .1 .1 .0) (k .1 .1 .1 .1 .0)
+
+same-length : tie.Need-same-length Inv-loop μ-loop
+same-length c = c .before .loop .inv .recs-length
+
+same-length-2 : tie.Need-same-length-2 Inv-loop μ-loop
+same-length-2 c = c .before .loop .inv .work-length
+
+returns : tie.Need-returns Inv-loop μ-loop
+returns c = retaking-done _ _ _ _ _ _ _ _ (c .before .loop .inv) (c .loop-test .left)
+
+pub follow-postponed-spec : {M : Type 1} → statement M
+follow-postponed-spec =
+    tie.close
+    (tie.spec
+    Inv-loop
+    μ-loop
+    lowest-requires
+    loop-holds
+    follow-lowest-requires
+    lowest-requires-2
+    loop-less
+    loop-again
+    same-length
+    same-length-2
+    returns)

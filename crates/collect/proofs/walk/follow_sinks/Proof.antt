@@ -1,0 +1,77 @@
+-- `follow_sinks` meets its contract. The loop's invariant: the sinks among 1 to x were followed.
+use denote.Ref.{now}
+use Prim.Native.Nat.{_-_, _≤_}
+use mathlib.Core.Path.{_≡_, refl, _∙_}
+use mathlib.Core.List.{[], _∷_}
+use lib.ListN.{length}
+use Rattle.graph.specs.Numbers.{gather}
+use Rattle.rules.specs.View.{view}
+use Rattle.collect.specs.State.{Followed}
+use Rattle.collect.proofs.TraceLaws.{sinks-begin, sinks-on, followed-at}
+use native.Mathlib.Omega.{arith}
+use Rattle.collect.proofs.walk.follow_sinks.Statement.{statement}
+use Rattle.collect.proofs.walk.follow_sinks.Tie as tie
+
+abbrev Inv-loop : tie.InvT-loop
+Inv-loop by n records₀ slots work₀ x₀ records work x =
+    (x ≤ n) × Followed by n slots records₀ (gather x (view n records₀ slots .sink) (λ y. y ∷ [])) records work × (length records ≡ length records₀) × (length work ≡ length work₀)
+
+abbrev μ-loop : tie.MeasureT-loop
+μ-loop by n records₀ slots work₀ x₀ records work x = n - x
+
+loop-holds : tie.Need-loop-holds Inv-loop μ-loop
+loop-holds c =
+    let s = c .before .before .before in
+    (omega arith, sinks-begin _ _ _ _ _ _ (s .pre), refl, refl)
+
+add-x : tie.Need-add-x Inv-loop μ-loop
+add-x c = omega arith
+
+follow-sink-requires : tie.Need-follow-sink-requires Inv-loop μ-loop
+follow-sink-requires c κs =
+    let l = c .before .before .before .loop in
+    (l .inv .1 .ready, (omega arith, omega arith))
+
+loop-less : tie.Need-loop-less Inv-loop μ-loop
+loop-less c = omega arith
+
+loop-again : tie.Need-loop-again Inv-loop μ-loop
+loop-again c =
+    let the-l = c .before .before .before .before .before .before .before .before .loop in
+    let follow-sink-call = c .before .before .before .before .follow-sink in
+    let s = c .before .before .before .before .before .before .before .before .before .before .before .before in
+    let test = c .before .before .before .before .before .before .before .loop-test in
+    let l = the-l in
+    let k = follow-sink-call .kept in (
+      omega arith,
+      sinks-on _ _ _ _ (s .pre .state .sized .recs-long) _ (test .taken) _ _ _ _ (l .inv .1) (follow-sink-call .ensures),
+      k .1 .1 .0 ∙ l .inv .2,
+      k .1 .1 .1 .1 .0 ∙ l .inv .3,
+    )
+
+same-length : tie.Need-same-length Inv-loop μ-loop
+same-length c = c .before .loop .inv .2
+
+same-length-2 : tie.Need-same-length-2 Inv-loop μ-loop
+same-length-2 c = c .before .loop .inv .3
+
+returns : tie.Need-returns Inv-loop μ-loop
+returns c =
+    let s = c .before .before .before .before .before in
+    let l = c .before .loop in
+    followed-at _ _ _ _ (λ k. gather k (view (s .args .n) (now (s .args .records)) (now (s .args .slots)) .sink) (λ y. y ∷ [])) _ _ _ _ (l .inv .0) (omega arith) (l .inv .1)
+
+pub follow-sinks-spec : {M : Type 1} → statement M
+follow-sinks-spec =
+    tie.close
+    (tie.spec
+    Inv-loop
+    μ-loop
+    loop-holds
+    add-x
+    follow-sink-requires
+    loop-less
+    loop-again
+    same-length
+    same-length-2
+    returns)

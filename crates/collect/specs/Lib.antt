@@ -1,0 +1,5 @@
+-- The walk of a collection in the lent words.
+pub mod Marks
+pub mod Later
+pub mod State
+pub mod Call

@@ -1,0 +1,140 @@
+// The pending objects, and the scan of an object. Pending are the work words from `top` up to 8 n, the next one first.
+ghost use mathlib.Core.Path.{_≡_};
+ghost use mathlib.Core.Bool.{true, false};
+ghost use lib.ListN.{take, drop};
+ghost use Rattle.layout.specs.Record.{isOut};
+ghost use Rattle.graph.specs.Numbers.{Obj};
+ghost use Rattle.graph.specs.Trace as T;
+ghost use Rattle.rules.specs.Buffers.{recOf};
+ghost use Rattle.rules.specs.View.{view};
+ghost use Rattle.collect.specs.Marks.{flagsOf};
+ghost use Rattle.collect.specs.State.{named, linkAt, Pushable, Pushed, HasLink, State, Ready, Moved};
+use crate::marks::mark;
+use heap::clusters::record_of;
+use layout::limits::within;
+use layout::records::is_marked;
+use layout::records::is_out;
+use layout::records::width_of;
+use links::next_member;
+use links::top_member;
+
+// Puts the pointers among the k words of `slots` from `from` in front of the pending objects.
+fn push_pointers(
+    n: u32,
+    slots: &[u32],
+    work: &mut [u32],
+    from: usize,
+    k: usize,
+    top: usize,
+) -> usize
+    requires { ⌜ Pushable n (now slots) from k (now work) top ⌝ }
+    ensures { λ r. ⌜ Pushed (named n (take k (drop from (now (slots .entry))))) (now (work .entry)) top (now (work .exit)) r ⌝ }
+{
+    let mut at = top;
+    let mut j = k;
+    while 0 < j {
+        j -= 1;
+        let w = slots[from + j];
+        if within(1, n, w) {
+            at -= 1;
+            work[at] = w;
+        }
+    }
+    at
+}
+
+// Marks object x and puts its pointers in front of the pending objects.
+pub(crate) fn scan(
+    n: u32,
+    records: &mut [u32],
+    slots: &[u32],
+    work: &mut [u32],
+    top: usize,
+    x: u32,
+) -> usize
+    requires { ⌜ State n (now records) (now slots) (now work) top ⌝ }
+    requires { ⌜ Obj n x ⌝ }
+    requires { ⌜ flagsOf n (now records) T.marked x ≡ false ⌝ }
+    ensures { λ r. ⌜ Moved n (now (slots .entry)) (now (records .entry)) (now (work .entry)) top
+        (T.scan (view n (now (records .entry)) (now (slots .entry))) x)
+        (now (records .exit)) (now (work .exit)) r ⌝ }
+{
+    let k = width_of(record_of(n, x, records)) as usize;
+    mark(records, x);
+    push_pointers(n, slots, work, 8 * (x as usize - 1), k, top)
+}
+
+// Scans object x unless it is marked.
+pub(crate) fn scan_unmarked(
+    n: u32,
+    records: &mut [u32],
+    slots: &[u32],
+    work: &mut [u32],
+    top: usize,
+    x: u32,
+) -> usize
+    requires { ⌜ State n (now records) (now slots) (now work) top ⌝ }
+    requires { ⌜ Obj n x ⌝ }
+    ensures { λ r. ⌜ Moved n (now (slots .entry)) (now (records .entry)) (now (work .entry)) top
+        (T.scanIf (view n (now (records .entry)) (now (slots .entry))) true true (flagsOf n (now (records .entry)) T.marked x) x)
+        (now (records .exit)) (now (work .exit)) r ⌝ }
+{
+    if is_marked(record_of(n, x, records)) {
+        return top;
+    }
+    scan(n, records, slots, work, top, x)
+}
+
+// Scans the member x of a reached cluster, if it has the out bit and is not marked.
+fn scan_member(
+    n: u32,
+    records: &mut [u32],
+    slots: &[u32],
+    work: &mut [u32],
+    top: usize,
+    x: u32,
+) -> usize
+    requires { ⌜ State n (now records) (now slots) (now work) top ⌝ }
+    requires { ⌜ Obj n x ⌝ }
+    ensures { λ r. ⌜ Moved n (now (slots .entry)) (now (records .entry)) (now (work .entry)) top
+        (T.scanIf (view n (now (records .entry)) (now (slots .entry))) (isOut (recOf n (now (records .entry)) x)) true
+        (flagsOf n (now (records .entry)) T.marked x) x)
+        (now (records .exit)) (now (work .exit)) r ⌝ }
+{
+    if is_out(record_of(n, x, records)) {
+        return scan_unmarked(n, records, slots, work, top, x);
+    }
+    top
+}
+
+// The link word of object x.
+fn link_of(n: u32, work: &[u32], x: u32) -> u32
+    requires { ⌜ HasLink n x (now work) ⌝ }
+    ensures { λ r. ⌜ r ≡ linkAt n (now (work .entry)) x ⌝ }
+{
+    work[8 * (n as usize) + (x as usize - 1)]
+}
+
+// Scans the out members of h's cluster that are not marked, from the highest down, so that their pointers stand by number in the end.
+pub(crate) fn scan_outs(
+    n: u32,
+    records: &mut [u32],
+    slots: &[u32],
+    work: &mut [u32],
+    top: usize,
+    h: u32,
+) -> usize
+    requires { ⌜ Ready true n (now records) (now slots) (now work) top ⌝ }
+    requires { ⌜ Obj n h ⌝ }
+    ensures { λ r. ⌜ Moved n (now (slots .entry)) (now (records .entry)) (now (work .entry)) top
+        (T.scanOuts (view n (now (records .entry)) (now (slots .entry))) h n)
+        (now (records .exit)) (now (work .exit)) r ⌝ }
+{
+    let mut at = top;
+    let mut x = top_member(link_of(n, work, h));
+    while x != 0 {
+        at = scan_member(n, records, slots, work, at, x);
+        x = next_member(link_of(n, work, x));
+    }
+    at
+}

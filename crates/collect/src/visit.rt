@@ -1,0 +1,136 @@
+// The visit of an object by its case, and a postponed object taken up again. `by` tells whether clusters are walked.
+ghost use mathlib.Core.Path.{_≡_};
+ghost use mathlib.Core.Bool.{true, false, cond, _||_};
+ghost use Prim.Native.Nat.{_*_, _≤_};
+ghost use lib.ListN.{length};
+ghost use Rattle.layout.specs.Record.{cluster};
+ghost use Rattle.graph.specs.Numbers.{Obj};
+ghost use Rattle.graph.specs.Trace as T;
+ghost use Rattle.rules.specs.Buffers.{recOf};
+ghost use Rattle.rules.specs.View.{view};
+ghost use Rattle.collect.specs.Marks.{flagsOf};
+ghost use Rattle.collect.specs.Later.{MapRoom};
+ghost use Rattle.collect.specs.State.{seen, State, Ready, Moved, MemberVisited};
+use crate::later::map_put;
+use crate::marks::postpone;
+use crate::marks::reach;
+use crate::scan::scan;
+use crate::scan::scan_outs;
+use crate::scan::scan_unmarked;
+use heap::clusters::record_of;
+use layout::records::cluster_of;
+use layout::records::is_marked;
+use layout::records::is_reached;
+
+// The cluster of object x, 0 where clusters are not walked.
+fn cluster_seen(by: bool, n: u32, x: u32, records: &[u32]) -> u32
+    ensures { λ c. ⌜ c ≡ cond by (cluster (recOf n (now (records .entry)) x)) 0 ⌝ }
+{
+    if by {
+        cluster_of(record_of(n, x, records))
+    } else {
+        0
+    }
+}
+
+// Visits h, the head of its cluster.
+fn visit_head(
+    n: u32,
+    records: &mut [u32],
+    slots: &[u32],
+    work: &mut [u32],
+    top: usize,
+    h: u32,
+) -> usize
+    requires { ⌜ Ready true n (now records) (now slots) (now work) top ⌝ }
+    requires { ⌜ Obj n h ⌝ }
+    ensures { λ r. ⌜ Moved n (now (slots .entry)) (now (records .entry)) (now (work .entry)) top
+        (T.visitBy (view n (now (records .entry)) (now (slots .entry))) false true
+        (flagsOf n (now (records .entry)) T.marked h) (flagsOf n (now (records .entry)) T.reached h) h)
+        (now (records .exit)) (now (work .exit)) r ⌝ }
+{
+    if is_reached(record_of(n, h, records)) {
+        return top;
+    }
+    reach(records, h);
+    scan_outs(n, records, slots, work, top, h)
+}
+
+// Visits x, a member of a cluster that is not its head.
+fn visit_member(n: u32, records: &mut [u32], work: &mut [u32], x: u32)
+    requires { ⌜ (n ≤ length (now records)) × Obj n x × MapRoom n (now work) ⌝ }
+    ensures { λ _. ⌜ MemberVisited n x (now (records .entry)) (now (work .entry)) (now (records .exit)) (now (work .exit)) ⌝ }
+{
+    let r = record_of(n, x, records);
+    if is_marked(r) {
+        return;
+    }
+    if is_reached(record_of(n, cluster_of(r), records)) {
+        return;
+    }
+    postpone(records, x, true);
+    map_put(n, work, x, true);
+}
+
+// Visits object x.
+pub(crate) fn visit(
+    by: bool,
+    n: u32,
+    records: &mut [u32],
+    slots: &[u32],
+    work: &mut [u32],
+    top: usize,
+    x: u32,
+) -> usize
+    requires { ⌜ Ready by n (now records) (now slots) (now work) top ⌝ }
+    requires { ⌜ Obj n x ⌝ }
+    ensures { λ r. ⌜ Moved n (now (slots .entry)) (now (records .entry)) (now (work .entry)) top
+        (T.visit (seen by n (now (records .entry)) (now (slots .entry))) x)
+        (now (records .exit)) (now (work .exit)) r ⌝ }
+{
+    let c = cluster_seen(by, n, x, records);
+    if c == 0 {
+        return scan_unmarked(n, records, slots, work, top, x);
+    }
+    if c == x {
+        return visit_head(n, records, slots, work, top, x);
+    }
+    visit_member(n, records, work, x);
+    top
+}
+
+// Whether the postponed object x is marked by now, or its cluster reached.
+fn is_settled(by: bool, n: u32, x: u32, records: &[u32]) -> bool
+    ensures { λ t. ⌜ t ≡ (flagsOf n (now (records .entry)) T.marked x
+        || flagsOf n (now (records .entry)) T.reached (cond by (cluster (recOf n (now (records .entry)) x)) 0)) ⌝ }
+{
+    if is_marked(record_of(n, x, records)) {
+        return true;
+    }
+    is_reached(record_of(n, cluster_seen(by, n, x, records), records))
+}
+
+// Takes up the postponed object x, where nothing is pending: it is dropped or scanned.
+pub(crate) fn take_up(
+    by: bool,
+    n: u32,
+    records: &mut [u32],
+    slots: &[u32],
+    work: &mut [u32],
+    x: u32,
+) -> usize
+    requires { ⌜ State n (now records) (now slots) (now work) (8 * n) ⌝ }
+    requires { ⌜ Obj n x ⌝ }
+    ensures { λ r. ⌜ Moved n (now (slots .entry)) (now (records .entry)) (now (work .entry)) (8 * n)
+        (T.take (seen by n (now (records .entry)) (now (slots .entry))) x)
+        (now (records .exit)) (now (work .exit)) r ⌝ }
+{
+    let settled = is_settled(by, n, x, records);
+    postpone(records, x, false);
+    map_put(n, work, x, false);
+    let end = 8 * (n as usize);
+    if settled {
+        return end;
+    }
+    scan(n, records, slots, work, end, x)
+}

@@ -1,0 +1,159 @@
+// The walk of a collection: the starts one after the other, each with all that it leads to, then the postponed objects.
+ghost use mathlib.Core.Path.{_≡_};
+ghost use mathlib.Core.Bool.{cond};
+ghost use mathlib.Core.List.{[], _∷_};
+ghost use Prim.Native.Nat.{_*_, _≤_};
+ghost use lib.ListN.{length, take};
+ghost use Rattle.layout.specs.Record.{isSink};
+ghost use Rattle.graph.specs.Numbers.{Obj, gather};
+ghost use Rattle.graph.specs.Heap.{pointers};
+ghost use Rattle.rules.specs.Buffers.{recOf};
+ghost use Rattle.rules.specs.View.{view};
+ghost use Rattle.collect.specs.State.{pending, Objects, Linkable, Linked, Ready, Followed, Drained, Retaken, Finished, lowestLater, Traceable, TracedIn};
+use crate::later::lowest;
+use crate::visit::take_up;
+use crate::visit::visit;
+use heap::buffers::clear;
+use heap::clusters::record_of;
+use layout::limits::work_len;
+use layout::records::is_sink;
+use links::link;
+
+// Visits the pending objects, and what they lead to, until none is left.
+fn drain(by: bool, n: u32, records: &mut [u32], slots: &[u32], work: &mut [u32], top: usize)
+    requires { ⌜ Ready by n (now records) (now slots) (now work) top ⌝ }
+    ensures { λ _. ⌜ Drained by n (now (slots .entry)) (now (records .entry)) (pending n (now (work .entry)) top)
+        (now (records .exit)) (now (work .exit)) ⌝ }
+{
+    let end = 8 * (n as usize);
+    let mut at = top;
+    while at < end {
+        let x = work[at];
+        at = visit(by, n, records, slots, work, at + 1, x);
+    }
+}
+
+// Visits object x and what it leads to.
+fn follow(by: bool, n: u32, records: &mut [u32], slots: &[u32], work: &mut [u32], x: u32)
+    requires { ⌜ Ready by n (now records) (now slots) (now work) (8 * n) ⌝ }
+    requires { ⌜ Obj n x ⌝ }
+    ensures { λ _. ⌜ Followed by n (now (slots .entry)) (now (records .entry)) (x ∷ []) (now (records .exit)) (now (work .exit)) ⌝ }
+{
+    let top = visit(by, n, records, slots, work, 8 * (n as usize), x);
+    drain(by, n, records, slots, work, top);
+}
+
+// Visits the object that a root names, if it names one.
+fn follow_root(by: bool, n: u32, records: &mut [u32], slots: &[u32], work: &mut [u32], w: u32)
+    requires { ⌜ Ready by n (now records) (now slots) (now work) (8 * n) ⌝ }
+    requires { ⌜ Objects n (pointers (w ∷ [])) ⌝ }
+    ensures { λ _. ⌜ Followed by n (now (slots .entry)) (now (records .entry)) (pointers (w ∷ [])) (now (records .exit)) (now (work .exit)) ⌝ }
+{
+    if w == 0 {
+        return;
+    }
+    follow(by, n, records, slots, work, w);
+}
+
+// Visits object x, if it is a sink.
+fn follow_sink(by: bool, n: u32, records: &mut [u32], slots: &[u32], work: &mut [u32], x: u32)
+    requires { ⌜ Ready by n (now records) (now slots) (now work) (8 * n) ⌝ }
+    requires { ⌜ Obj n x ⌝ }
+    ensures { λ _. ⌜ Followed by n (now (slots .entry)) (now (records .entry))
+        (cond (isSink (recOf n (now (records .entry)) x)) (x ∷ []) []) (now (records .exit)) (now (work .exit)) ⌝ }
+{
+    if is_sink(record_of(n, x, records)) {
+        follow(by, n, records, slots, work, x);
+        return;
+    }
+}
+
+// Visits the objects that the first r roots name, by index.
+fn follow_roots(
+    by: bool,
+    n: u32,
+    r: u32,
+    records: &mut [u32],
+    slots: &[u32],
+    roots: &[u32],
+    work: &mut [u32],
+)
+    requires { ⌜ Ready by n (now records) (now slots) (now work) (8 * n) ⌝ }
+    requires { ⌜ (r ≤ length (now roots)) × Objects n (pointers (take r (now roots))) ⌝ }
+    ensures { λ _. ⌜ Followed by n (now (slots .entry)) (now (records .entry)) (pointers (take r (now (roots .entry))))
+        (now (records .exit)) (now (work .exit)) ⌝ }
+{
+    let mut i: usize = 0;
+    while i < r as usize {
+        follow_root(by, n, records, slots, work, roots[i]);
+        i += 1;
+    }
+}
+
+// Visits the sinks, by number.
+fn follow_sinks(by: bool, n: u32, records: &mut [u32], slots: &[u32], work: &mut [u32])
+    requires { ⌜ Ready by n (now records) (now slots) (now work) (8 * n) ⌝ }
+    ensures { λ _. ⌜ Followed by n (now (slots .entry)) (now (records .entry))
+        (gather n (view n (now (records .entry)) (now (slots .entry)) .sink) (λ x. x ∷ []))
+        (now (records .exit)) (now (work .exit)) ⌝ }
+{
+    let mut x: u32 = 0;
+    while x < n {
+        x += 1;
+        follow_sink(by, n, records, slots, work, x);
+    }
+}
+
+// Takes up the lowest postponed object x and visits what it leads to.
+fn follow_lowest(by: bool, n: u32, records: &mut [u32], slots: &[u32], work: &mut [u32], x: u32)
+    requires { ⌜ Ready by n (now records) (now slots) (now work) (8 * n) ⌝ }
+    requires { ⌜ (x ≡ lowestLater n (now records)) × (1 ≤ x) ⌝ }
+    ensures { λ _. ⌜ Retaken by n (now (slots .entry)) (now (records .entry)) (now (records .exit)) (now (work .exit)) ⌝ }
+{
+    let top = take_up(by, n, records, slots, work, x);
+    drain(by, n, records, slots, work, top);
+}
+
+// Takes up the postponed objects, the lowest first, until none is left.
+fn follow_postponed(by: bool, n: u32, records: &mut [u32], slots: &[u32], work: &mut [u32])
+    requires { ⌜ Ready by n (now records) (now slots) (now work) (8 * n) ⌝ }
+    ensures { λ _. ⌜ Finished by n (now (slots .entry)) (now (records .entry)) (now (records .exit)) ⌝ }
+{
+    let mut x = lowest(n, work);
+    while x != 0 {
+        follow_lowest(by, n, records, slots, work, x);
+        x = lowest(n, work);
+    }
+}
+
+// Writes the links of the clusters, where they are walked.
+fn link_clusters(by: bool, n: u32, records: &[u32], work: &mut [u32])
+    requires { ⌜ Linkable n (now records) (now work) ⌝ }
+    ensures { λ _. ⌜ Linked by n (now (records .entry)) (now (work .exit)) ⌝ }
+{
+    if !by {
+        return;
+    }
+    let m = n as usize;
+    link(n, records, &mut work[8 * m..9 * m]);
+}
+
+// Walks the heap from its roots and sinks, by clusters or without them, and leaves the flags in the records.
+pub(crate) fn trace(
+    by: bool,
+    n: u32,
+    r: u32,
+    records: &mut [u32],
+    slots: &[u32],
+    roots: &[u32],
+    work: &mut [u32],
+)
+    requires { ⌜ Traceable n r (now records) (now slots) (now roots) (now work) ⌝ }
+    ensures { λ _. ⌜ TracedIn by n r (now (records .entry)) (now (slots .entry)) (now (roots .entry)) (now (records .exit)) ⌝ }
+{
+    link_clusters(by, n, records, work);
+    clear(work, 9 * (n as usize), work_len(n));
+    follow_roots(by, n, r, records, slots, roots, work);
+    follow_sinks(by, n, records, slots, work);
+    follow_postponed(by, n, records, slots, work);
+}
