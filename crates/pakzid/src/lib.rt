@@ -7,7 +7,9 @@ ghost use Rattle.rules.specs.Show as Show;
 ghost use Rattle.rules.specs.Write as Write;
 ghost use Rattle.rules.specs.SetRoot as SetRoot;
 ghost use Rattle.rules.specs.DeclareSink as DeclareSink;
+ghost use Rattle.rules.specs.Collect as Collect;
 use layout::answers::Allocated;
+use layout::answers::Collected;
 use layout::answers::Control;
 use layout::answers::Done;
 use layout::answers::Part;
@@ -103,4 +105,34 @@ pub extern "C" fn pakzid_declare_sink(
         ≡ DeclareSink.declareSink c object (now (records .entry)) (now (slots .entry)) (now (roots .entry)) ⌝ }
 {
     heap::declare_sink::declare_sink(c, object, records, slots, roots)
+}
+
+#[no_mangle]
+pub extern "C" fn pakzid_collect_plain(
+    c: Control,
+    records: &mut [u32],
+    slots: &mut [u32],
+    roots: &[u32],
+    work: &mut [u32],
+    map: &mut [u64],
+) -> Collected
+    ensures { λ a. ⌜ Collect.gives a (now (records .exit)) (now (slots .exit)) (now (work .exit)) (now (map .exit))
+        ≡ Collect.collect Collect.plainly c (now (records .entry)) (now (slots .entry)) (now (roots .entry)) (now (work .entry)) (now (map .entry)) ⌝ }
+{
+    collect::plain::collect_plain(c, records, slots, roots, work, map)
+}
+
+#[no_mangle]
+pub extern "C" fn pakzid_collect_clusters(
+    c: Control,
+    records: &mut [u32],
+    slots: &mut [u32],
+    roots: &[u32],
+    work: &mut [u32],
+    map: &mut [u64],
+) -> Collected
+    ensures { λ a. ⌜ Collect.gives a (now (records .exit)) (now (slots .exit)) (now (work .exit)) (now (map .exit))
+        ≡ Collect.collect Collect.byClusters c (now (records .entry)) (now (slots .entry)) (now (roots .entry)) (now (work .entry)) (now (map .entry)) ⌝ }
+{
+    collect::clusters::collect_clusters(c, records, slots, roots, work, map)
 }
