@@ -7,8 +7,10 @@ ghost use Rattle.rules.specs.Show as Show;
 ghost use Rattle.rules.specs.Write as Write;
 ghost use Rattle.rules.specs.SetRoot as SetRoot;
 ghost use Rattle.rules.specs.DeclareSink as DeclareSink;
+ghost use Rattle.rules.specs.Analyse as Analyse;
 ghost use Rattle.rules.specs.Collect as Collect;
 use layout::answers::Allocated;
+use layout::answers::Analysed;
 use layout::answers::Collected;
 use layout::answers::Control;
 use layout::answers::Done;
@@ -105,6 +107,20 @@ pub extern "C" fn pakzid_declare_sink(
         ≡ DeclareSink.declareSink c object (now (records .entry)) (now (slots .entry)) (now (roots .entry)) ⌝ }
 {
     heap::declare_sink::declare_sink(c, object, records, slots, roots)
+}
+
+#[no_mangle]
+pub extern "C" fn pakzid_analyse(
+    c: Control,
+    records: &mut [u32],
+    slots: &[u32],
+    roots: &[u32],
+    work: &mut [u32],
+) -> Analysed
+    ensures { λ a. ⌜ Analyse.gives a (now (records .exit)) (now (work .exit))
+        ≡ Analyse.analyse c (now (records .entry)) (now (slots .entry)) (now (roots .entry)) (now (work .entry)) ⌝ }
+{
+    analyse::analyse(c, records, slots, roots, work)
 }
 
 #[no_mangle]

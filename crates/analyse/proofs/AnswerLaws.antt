@@ -1,0 +1,100 @@
+-- The answers, counted object by object.
+-- Assumes nothing.
+use Prim.Native.Nat.{ℕ, zero, suc, _+_, _-_, _*_, _/_, _%_, _≤_, _<_}
+use mathlib.Core.Path.{_≡_, refl, sym, ap, ap₂, _∙_}
+use mathlib.Core.Bool.{Bool, true, false, cond, not, _&&_}
+use mathlib.Core.List.{List}
+use mathlib.Core.Logic.{_≢_}
+use native.Mathlib.Omega.{arith}
+use lib.Dec.{eqb}
+use lib.ListN.{getD}
+use borrow.Author.Tests.{eq-eqb, ne-eqb}
+use Rattle.layout.specs.Record.{cluster}
+use Rattle.graph.specs.Numbers.{bit, sum, count}
+use Rattle.graph.proofs.NumberLaws.{count-le}
+use Rattle.rules.specs.Buffers.{recOf}
+use Rattle.rules.proofs.PlaceLaws.{rec-at}
+use Rattle.links.specs.Links.{clOf}
+use Rattle.analyse.specs.Memory.{area, sizeIn}
+use Rattle.analyse.specs.Judge.{overBy, lossAt, headAt, memberAt}
+
+module _ (n : ℕ) (recs work : List ℕ) (h : ℕ) (low : 1 ≤ h) (fits : h ≤ n) (d : ℕ) (is : d ≡ cluster (getD recs (h - 1) 0)) where
+  old-is : clOf n recs h ≡ d
+  old-is = ap cluster (sym (rec-at n recs h low fits)) ∙ sym is
+
+  pub loss-old : d ≢ 0 → (0 ≡ lossAt n recs work h) × (0 ≤ 4095)
+  unfolding lossAt
+  loss-old p = (rw (old-is, ne-eqb d 0 p) refl, omega arith)
+
+  pub head-old : d ≢ 0 → false ≡ headAt n recs work h
+  unfolding headAt
+  head-old p = rw (old-is, ne-eqb d 0 p) refl
+
+  pub member-old : d ≢ 0 → false ≡ memberAt n recs work h
+  unfolding memberAt
+  member-old p = rw (old-is, ne-eqb d 0 p) refl
+
+  module _ (z : d ≡ 0) (w : ℕ) where
+    pub head-new : w ≡ area n n work h → eqb (w % 4096) h ≡ headAt n recs work h
+    unfolding headAt
+    head-new e = rw (old-is, z, ← e) refl
+
+    pub member-new : w ≡ area n n work h → not (eqb (w % 4096) 0) ≡ memberAt n recs work h
+    unfolding memberAt
+    member-new e = rw (old-is, z, ← e) refl
+
+    pub loss-other : w ≡ area n (9 * n) work h → w % 4096 ≢ h → (0 ≡ lossAt n recs work h) × (0 ≤ 4095)
+    unfolding lossAt
+    loss-other e p = (rw (old-is, z, ← e, ne-eqb (w % 4096) h p) refl, omega arith)
+
+    module _ (e : w ≡ area n (9 * n) work h) (own : w % 4096 ≡ h) (s p : ℕ) (ss : s ≡ area n (8 * n) work h) (ps : p ≡ area n 0 work h)
+        (b : Bool) (o : b ≡ overBy (s / 4096) p) where
+      head-is : eqb (area n (9 * n) work h % 4096) h ≡ true
+      head-is = rw (← e) (eq-eqb (w % 4096) h own)
+
+      pub loss-over : b ≡ true → s / 4096 ≤ 4095 → (s / 4096 ≡ lossAt n recs work h) × (s / 4096 ≤ 4095)
+      unfolding lossAt
+      loss-over t m = (rw (old-is, z, head-is, ← ss, ← ps, ← o, t) refl, m)
+
+      pub loss-none : b ≡ false → (0 ≡ lossAt n recs work h) × (0 ≤ 4095)
+      unfolding lossAt
+      loss-none t = (rw (old-is, z, head-is, ← ss, ← ps, ← o, t) refl, omega arith)
+
+-- ---- sums up to k
+
+pub sum-more : (k : ℕ) (f : ℕ → ℕ) → sum (k + 1) f ≡ sum k f + f (k + 1)
+unfolding sum
+sum-more k f = let e : k + 1 ≡ suc k = omega arith in rw e refl
+
+pub record Found (n : ℕ) (recs work : List ℕ) (k loss clusters members : ℕ) : Type 0 where
+  pub loss-is : loss ≡ sum k (lossAt n recs work)
+  pub clusters-is : clusters ≡ count k (headAt n recs work)
+  pub members-is : members ≡ count k (memberAt n recs work)
+  pub most : k ≤ n
+  pub loss-most : loss ≤ 4095 * k
+
+module _ (n : ℕ) (recs work : List ℕ) where
+  pub found-start : Found n recs work 0 0 0 0
+  unfolding sum count
+  found-start = record { loss-is = refl; clusters-is = refl; members-is = refl; most = omega arith; loss-most = omega arith }
+
+  module _ (k loss clusters members : ℕ) (F : Found n recs work k loss clusters members) where
+    pub clusters-most : clusters ≤ k
+    clusters-most = rw (F .clusters-is) (count-le k (headAt n recs work))
+
+    pub members-most : members ≤ k
+    members-most = rw (F .members-is) (count-le k (memberAt n recs work))
+
+    pub found-turn : k < n → (a b c : ℕ) (p q : Bool) → a ≡ lossAt n recs work (k + 1) → a ≤ 4095 → b ≡ bit p → p ≡ headAt n recs work (k + 1)
+        → c ≡ bit q → q ≡ memberAt n recs work (k + 1) → Found n recs work (k + 1) (loss + a) (clusters + b) (members + c)
+    unfolding count
+    found-turn h a b c p q la al bp ph cq qm = record {
+      loss-is = ap₂ (λ (x y : ℕ). x + y) (F .loss-is) la ∙ sym (sum-more k (lossAt n recs work));
+      clusters-is = ap₂ (λ (x y : ℕ). x + y) (F .clusters-is) (bp ∙ ap bit ph) ∙ sym (sum-more k (λ x. bit (headAt n recs work x)));
+      members-is = ap₂ (λ (x y : ℕ). x + y) (F .members-is) (cq ∙ ap bit qm) ∙ sym (sum-more k (λ x. bit (memberAt n recs work x)));
+      most = omega arith;
+      loss-most = omega (arith, F .loss-most);
+    }
+
+    pub found-end : n ≤ k → (loss ≡ sum n (lossAt n recs work)) × (clusters ≡ count n (headAt n recs work)) × (members ≡ count n (memberAt n recs work))
+    found-end h = let e : k ≡ n = omega (arith, F .most) in (rw e at (F .loss-is), rw e at (F .clusters-is), rw e at (F .members-is))

@@ -1,0 +1,24 @@
+-- Laws of the analysis's code.
+-- ---- the work words
+pub mod MemoryLaws
+pub mod FillLaws
+pub mod PartLaws
+-- ---- one visit
+pub mod PushLaws
+pub mod SlotLaws
+pub mod CountLaws
+pub mod OlderLaws
+pub mod PlaceLaws
+pub mod VisitLaws
+-- ---- the walk
+pub mod WalkLaws
+pub mod StartLaws
+-- ---- what is left
+pub mod JudgeLaws
+pub mod TallyLaws
+pub mod AnswerLaws
+pub mod BridgeLaws
+pub mod SettleLaws
+-- ---- the call
+pub mod LimitLaws
+pub mod CallLaws

@@ -1,0 +1,55 @@
+-- The next limit, each way, and the count of the objects in use.
+-- Assumes nothing.
+use Prim.Native.Nat.{ℕ, _+_, _-_, _*_, _/_, _≤_, _<_, min, max}
+use mathlib.Core.Path.{_≡_, refl, sym, ap, ap₂, _∙_}
+use mathlib.Core.Bool.{Bool}
+use mathlib.Core.List.{List}
+use mathlib.Core.Logic.{_≢_}
+use native.Mathlib.Omega.{arith}
+use lib.Dec.{eqb}
+use lib.ListN.{length, getD}
+use borrow.Author.Tests.{lt-ltb, le-ltb, ne-eqb}
+use Rattle.layout.specs.declared.answers.Control.{Control}
+use Rattle.layout.specs.Record.{inUse}
+use Rattle.graph.specs.Numbers.{bit, sum, count}
+use Rattle.graph.proofs.NumberLaws.{count-le}
+use Rattle.rules.specs.Buffers.{recOf}
+use Rattle.rules.specs.Analyse.{nextLimit, usedCount}
+use Rattle.rules.proofs.PlaceLaws.{rec-at}
+use Rattle.analyse.proofs.AnswerLaws.{sum-more}
+
+module _ (c : Control) (used m : ℕ) where
+  pub limit-first : c .limit ≡ 0 → m ≡ max 8 (min 4095 (used / 16)) → m ≡ nextLimit c used
+  unfolding nextLimit
+  limit-first z e = e ∙ rw z refl
+
+  pub limit-halved : c .limit ≢ 0 → c .«out_loss» < c .«write_loss» → m ≡ max 8 (min 4095 (c .limit / 2)) → m ≡ nextLimit c used
+  unfolding nextLimit
+  limit-halved p h e = e ∙ rw (ne-eqb (c .limit) 0 p, lt-ltb (c .«out_loss») (c .«write_loss») h) refl
+
+  pub limit-doubled : c .limit ≢ 0 → c .«write_loss» ≤ c .«out_loss» → m ≡ max 8 (min 4095 (2 * c .limit)) → m ≡ nextLimit c used
+  unfolding nextLimit
+  limit-doubled p h e = e ∙ rw (ne-eqb (c .limit) 0 p, le-ltb (c .«out_loss») (c .«write_loss») h) refl
+
+-- the objects in use among 1 to k are counted
+abbrev pub Used : ℕ → List ℕ → ℕ → ℕ → Type 0
+Used n recs k total = (total ≡ count k (λ x. inUse (recOf n recs x))) × (k ≤ n)
+
+module _ (n : ℕ) (recs : List ℕ) where
+  pub used-start : Used n recs 0 0
+  unfolding count sum
+  used-start = (refl, omega arith)
+
+  pub used-most : (k total : ℕ) → Used n recs k total → total ≤ k
+  used-most k total g = rw (g .0) (count-le k (λ x. inUse (recOf n recs x)))
+
+  pub used-turn : (k total m : ℕ) (b : Bool) → Used n recs k total → k < n → b ≡ inUse (getD recs k 0) → m ≡ bit b → Used n recs (k + 1) (total + m)
+  unfolding count
+  used-turn k total m b g h e f =
+      let i : k + 1 - 1 ≡ k = omega arith in
+      let r : getD recs k 0 ≡ recOf n recs (k + 1) = rw i at (rec-at n recs (k + 1) (omega arith) (omega arith)) in
+      (ap₂ (λ (x y : ℕ). x + y) (g .0) (f ∙ ap bit (e ∙ ap inUse r)) ∙ sym (sum-more k (λ x. bit (inUse (recOf n recs x)))), omega arith)
+
+  pub used-end : (k total : ℕ) → Used n recs k total → n ≤ k → total ≡ usedCount n recs
+  unfolding usedCount
+  used-end k total g h = let e : k ≡ n = omega (arith, g .1) in rw e at (g .0)

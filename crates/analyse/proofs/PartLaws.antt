@@ -1,0 +1,88 @@
+-- A part of the work words that was lent: what is outside it stays.
+-- Assumes nothing.
+use Prim.Native.Nat.{ℕ, zero, suc, _+_, _-_, _*_, _≤_, _<_}
+use mathlib.Core.Path.{_≡_, refl, sym, ap, _∙_, fun-ext}
+use mathlib.Core.Bool.{cond}
+use mathlib.Core.List.{List, _++_}
+use mathlib.Core.Logic.{_⊎_, inl, inr}
+use native.Mathlib.Decide.{decLe}
+use native.Mathlib.Omega.{arith}
+use lib.ListN.{length, getD, take, drop, length-drop}
+use lib.Seq.{getD-take, getD-drop, drop-at, take-append-le, length-take-le}
+use borrow.Rule.Slice.PartMut.{putMid, midOf, postOf, same-len-mid, take-put, drop-put}
+use Rattle.rules.specs.Buffers.{recOf, eachFrom, eachRecord}
+use Rattle.rules.proofs.ListLaws.{recOf-each, recOf-above}
+use Rattle.rules.proofs.PlaceLaws.{rec-at, rec-take}
+use Rattle.links.specs.Links.{linkWord, links, linkable}
+use Rattle.links.proofs.LinkLaws.{linked}
+use Rattle.analyse.specs.Memory.{area}
+use Rattle.analyse.specs.Filling.{Filling}
+use Rattle.analyse.proofs.MemoryLaws.{area-read}
+use Rattle.analyse.proofs.FillLaws.{area-zero, area-over}
+
+pub area-same : (n b : ℕ) (l m : List ℕ) → ((i : ℕ) → b ≤ i → i < b + n → getD m i 0 ≡ getD l i 0) → area n b m ≡ area n b l
+area-same n b l m h = fun-ext (λ x. go x (decLe x n))
+  where
+    go : (x : ℕ) → Dec (x ≤ n) → area n b m x ≡ area n b l x
+    go zero q = area-zero n b m ∙ sym (area-zero n b l)
+    go (suc x) (yes q) =
+        sym (area-read n b m (suc x) (omega arith) q) ∙ h (b + suc x - 1) (omega arith) (omega arith) ∙ area-read n b l (suc x) (omega arith) q
+    go (suc x) (no q) = area-over n b m (suc x) (omega (arith, q)) ∙ sym (area-over n b l (suc x) (omega (arith, q)))
+
+module _ (n base e : ℕ) (work part : List ℕ) (size : e - base ≡ n) (long : e ≤ length work) (ordered : base ≤ e) (len : length part ≡ length (midOf base (e - base) work)) where
+  abbrev after : List ℕ
+  after = putMid base (e - base) work part
+
+  part-length : length part ≡ n
+  part-length = len ∙ length-take-le (e - base) (drop base work) (let a = length-drop base work in omega arith) ∙ size
+
+  before-same : (i : ℕ) → i < base → getD after i 0 ≡ getD work i 0
+  before-same i h =
+      sym (getD-take base after i 0 h) ∙ ap (λ (l : List ℕ). getD l i 0) (take-put base (e - base) work part (omega arith)) ∙ getD-take base work i 0 h
+
+  past-same : (i : ℕ) → e ≤ i → getD after i 0 ≡ getD work i 0
+  past-same i h =
+      let s : e + (i - e) ≡ i = omega arith in
+      rw s at (sym (getD-drop e after (i - e) 0) ∙ ap (λ (l : List ℕ). getD l (i - e) 0) (drop-put base e work part ordered long (part-length ∙ sym size)) ∙ getD-drop e work (i - e) 0)
+
+  pub part-area : (x : ℕ) → area n base after x ≡ recOf n part x
+  unfolding area
+  part-area x =
+      ap (λ (l : List ℕ). recOf n l x) (drop-at (take base work) (part ++ postOf base (e - base) work) base (length-take-le base work (omega arith)))
+      ∙ rec-take n _ _ (take-append-le n part (postOf base (e - base) work) (omega (arith, part-length))) x
+
+  pub part-filled : (f : ℕ → ℕ) → ((x : ℕ) → 1 ≤ x → x ≤ n → recOf n part x ≡ f x) → Filling n base f work after n
+  part-filled f h = record {
+    filled = λ x p q. part-area x ∙ h x p q;
+    others = λ b a. area-same n b work after (λ i p q. apart b a i p q);
+    long = same-len-mid base (e - base) work part len;
+  }
+    where
+      apart : (b : ℕ) → (b + n ≤ base) ⊎ (base + n ≤ b) → (i : ℕ) → b ≤ i → i < b + n → getD after i 0 ≡ getD work i 0
+      apart b (inl a) i p q = before-same i (omega arith)
+      apart b (inr a) i p q = past-same i (omega arith)
+
+each-link : (n : ℕ) (recs mid : List ℕ) (x : ℕ) → 1 ≤ x → x ≤ n → n ≤ length mid → recOf n (links n recs mid) x ≡ linkWord n recs x
+unfolding links eachRecord
+each-link n recs mid x p q l = recOf-each n (λ x w. linkWord n recs x) mid x p q l
+
+pub links-filled : (n : ℕ) (recs work part : List ℕ) → n ≤ 4095 → n ≤ length recs → length work ≡ 10 * n + 64
+    → length part ≡ length (midOf (8 * n) (9 * n - 8 * n) work)
+    → part ≡ cond (linkable n recs (midOf (8 * n) (9 * n - 8 * n) work)) (links n recs (midOf (8 * n) (9 * n - 8 * n) work)) (midOf (8 * n) (9 * n - 8 * n) work)
+    → Filling n (8 * n) (linkWord n recs) work (putMid (8 * n) (9 * n - 8 * n) work part) n
+unfolding links
+links-filled n recs work part m r w l e =
+    part-filled n (8 * n) (9 * n) work part size (omega arith) (omega arith) l (linkWord n recs)
+    (λ x p q. ap (λ (t : List ℕ). recOf n t x) (e ∙ sym (linked n recs mid m r (omega (arith, len)))) ∙ each x p q)
+  where
+    size : 9 * n - 8 * n ≡ n
+    size = omega arith
+
+    mid : List ℕ
+    mid = midOf (8 * n) (9 * n - 8 * n) work
+
+    len : length mid ≡ n
+    len = length-take-le (9 * n - 8 * n) (drop (8 * n) work) (let a = length-drop (8 * n) work in omega arith) ∙ size
+
+    each : (x : ℕ) → 1 ≤ x → x ≤ n → recOf n (links n recs mid) x ≡ linkWord n recs x
+    each x p q = each-link n recs mid x p q (omega (arith, len))

@@ -1,0 +1,454 @@
+-- A visit of the code is a step of the walk.
+-- Assumes nothing.
+use Prim.Native.Nat.{ℕ, zero, suc, _+_, _-_, _*_, _/_, _%_, _≤_, _<_}
+use mathlib.Core.Path.{_≡_, refl, sym, ap, ap₂, _∙_, fun-ext, subst}
+use mathlib.Core.Bool.{Bool, true, false, cond, not, _&&_, _||_}
+use mathlib.Core.List.{List, [], _∷_, _++_, map, map-append, List·Memᴰ}
+use mathlib.Core.Logic.{_≢_}
+use native.Mathlib.Decide.{ℕ-discrete}
+use native.Mathlib.Omega.{arith}
+use lib.Dec.{eqb, leb}
+use lib.ListN.{length, length-append, length-map}
+use borrow.Author.Tests.{eqb-true, eqb-false, eq-eqb, ne-eqb, le-leb, lt-leb}
+use Rattle.layout.specs.Record.{isWritten, isSink}
+use Rattle.graph.specs.Numbers.{upd, gather}
+use Rattle.graph.specs.Heap.{Heap}
+use Rattle.graph.specs.Analysis.{Item, Work, items, bars, Visit, skip, older, alone, join, head, pick, kind, visitsOfCluster, pushed, seenBy, clBy, act, step, needed, finish}
+use Rattle.graph.specs.Analysis as A
+use Rattle.graph.proofs.NumberLaws.{upd-same, upd-other, gather-all}
+use Rattle.graph.proofs.OutLaws.{eqb-iff}
+use Rattle.graph.proofs.AnalysisInv.{Facts, facts, Ready, Inv, all-first, in-range, head-range, passed-range, size-none, or-split}
+use Rattle.graph.proofs.AnalysisEnds.{step-inv, finish-step, needed-act, length-items, older-same}
+use Rattle.graph.proofs.SizeTable.{Sizes, tableBy, sizes-act, kind-table}
+use Rattle.rules.specs.Buffers.{recOf}
+use Rattle.rules.specs.View.{view}
+use Rattle.rules.proofs.PlaceLaws.{upd-map}
+use Rattle.rules.proofs.ViewLaws.{view-closed}
+use Rattle.links.specs.Links.{topMember, clOf}
+use Rattle.analyse.specs.Memory.{area, Memory, memOf, itemOf, visitWords, seenIn, clusterIn, sizeIn, walkOf, inFront, withState, withLink, given, counting}
+use Rattle.analyse.specs.Contracts.{Sized, outsBelow, Chained, handledState, handled, goesTo, placed, Ground, visiting, Visiting, Walking, Visited}
+use Rattle.analyse.proofs.MemoryLaws.{todo-length, words-items, counting-some, counting-none}
+use Rattle.analyse.proofs.PlaceLaws.{goes-fits}
+
+pub work-path : {t t′ : List Item} {s s′ : ℕ → Bool} {c c′ : ℕ → ℕ} → t ≡ t′ → s ≡ s′ → c ≡ c′
+    → _≡_ {A = Work} (record { todo = t; seen = s; cl = c }) (record { todo = t′; seen = s′; cl = c′ })
+work-path p q r = λ i. record { todo = p i; seen = q i; cl = r i }
+
+-- ---- the kinds of a visit, from the tests that the code makes
+
+module _ (H : Heap) (limit : ℕ) (seen : ℕ → Bool) (cl : ℕ → ℕ) (o c : ℕ) where
+  kind-skip : (eqb o 0 || seen o) ≡ true → kind H limit seen cl o c ≡ skip
+  unfolding kind pick
+  kind-skip e = rw e refl
+
+  kind-older : (eqb o 0 || seen o) ≡ false → cl o ≢ 0 → kind H limit seen cl o c ≡ older
+  unfolding kind pick
+  kind-older e p = rw (e, ne-eqb (cl o) 0 p) refl
+
+module _ (H : Heap) (seen : ℕ → Bool) (cl : ℕ → ℕ) (o c : ℕ) (rest : List Item) where
+  act-skip : act H seen cl o c rest skip ≡ record { todo = rest; seen = seen; cl = cl }
+  unfolding act pushed seenBy clBy
+  act-skip = refl
+
+  act-older : act H seen cl o c rest older
+      ≡ record { todo = items 0 (visitsOfCluster H cl (cl o)) ++ rest; seen = λ x. eqb (cl x) (cl o) || seen x; cl = cl }
+  unfolding act pushed seenBy clBy
+  act-older = refl
+
+  act-given : (b s : Bool) → cl o ≡ 0
+      → act H seen cl o c rest (pick false false b s)
+      ≡ record { todo = items (given b s o c) (H .kids o) ++ rest; seen = upd seen o true; cl = upd cl o (given b s o c) }
+  unfolding act pushed seenBy clBy pick given
+  act-given true s z =
+      ap (λ (f : ℕ → ℕ). record { todo = items 0 (H .kids o) ++ rest; seen = upd seen o true; cl = f }) (fun-ext (λ x. same x (ℕ-discrete x o)))
+    where
+      same : (x : ℕ) → Dec (x ≡ o) → cl x ≡ upd cl o 0 x
+      same x (yes i) = rw (i, upd-same cl o 0) z
+      same x (no i) = sym (upd-other cl o x 0 i)
+  act-given false true z = refl
+  act-given false false z = refl
+
+pushed-given : (H : Heap) (cl : ℕ → ℕ) (o c : ℕ) (b s : Bool) → length (pushed H cl o c (pick false false b s)) ≡ length (H .kids o)
+unfolding pushed pick
+pushed-given H cl o c true s = length-items 0 (H .kids o)
+pushed-given H cl o c false true = length-items c (H .kids o)
+pushed-given H cl o c false false = length-items o (H .kids o)
+
+-- ---- a visit that may be made
+
+module _ (n : ℕ) (recs slots : List ℕ) (limit : ℕ) (work : List ℕ) (o c top : ℕ) (X : Visiting n recs slots limit work o c top) where
+  abbrev H : Heap
+  H = view n recs slots
+
+  abbrev st : ℕ → ℕ
+  st = area n (9 * n) work
+
+  abbrev lk : ℕ → ℕ
+  lk = area n (8 * n) work
+
+  abbrev seen : ℕ → Bool
+  seen = seenIn st
+
+  abbrev cl : ℕ → ℕ
+  cl = clusterIn st
+
+  abbrev i : Item
+  i = record { obj = o; passed = c }
+
+  abbrev rest : List Item
+  rest = map itemOf (memOf n work top .todo)
+
+  R : Ready H
+  R = X .ground .ready
+
+  I : Inv H limit (record { todo = i ∷ rest; seen = seen; cl = cl })
+  unfolding walkOf memOf
+  I = X .inv
+
+  abbrev what : Visit
+  what = kind H limit seen cl o c
+
+  steps : step H limit (visiting o c (memOf n work top)) ≡ act H seen cl o c rest what
+  unfolding step A.visit walkOf memOf
+  steps = refl
+
+  -- what the code must show
+  visited : (work′ : List ℕ) (top′ : ℕ) → walkOf (memOf n work′ top′) ≡ act H seen cl o c rest what → Ground n recs slots limit work′ → top′ ≤ 8 * n
+      → Visited n recs slots limit work o c top work′ top′
+  unfolding walkOf memOf
+  visited work′ top′ e G h =
+      let p = X .ground .limits .0 in
+      let w = visiting o c (memOf n work top) in
+      let less : needed H (walkOf (memOf n work′ top′)) < needed H w =
+      subst (λ (v : Work). needed H v < needed H w) (sym e) (needed-act H limit R seen cl i rest I what (facts H limit seen cl o c)) in
+      record {
+        walking = record {
+          ground = G;
+          inv = subst (λ (v : Work). Inv H limit v) (sym (e ∙ sym steps)) (step-inv H limit R p w (X .inv));
+          room = omega (arith, less, X .room);
+          inside = h;
+        };
+        same = ap (finish H limit) (e ∙ sym steps) ∙ finish-step H limit R p w (X .inv);
+        less = less;
+      }
+
+  pub object-fits : o ≤ n
+  unfolding view
+  object-fits = in-range H limit R seen cl i rest I
+
+  pub passed-fits : c ≤ n
+  unfolding view
+  passed-fits = passed-range I i (all-first (I .visits))
+
+  pub sized : Sized n recs slots work
+  sized = X .ground .sized
+
+  -- room for what is put in front
+  room-for : (k : Visit) → what ≡ k → length (pushed H cl o c k) ≤ top
+  unfolding needed act walkOf memOf
+  room-for k e =
+      let a = needed-act H limit R seen cl i rest I what (facts H limit seen cl o c) in
+      let b = length-append (pushed H cl o c what) rest in
+      let d = ap (λ (j : Visit). length (pushed H cl o c j)) e in
+      let t = length-map (memOf n work top .todo) itemOf in
+      let u = todo-length n work (sized .work-long) top in
+      omega (arith, X .room, X .inside)
+
+  -- the next three: what the code tests
+  skips : (eqb o 0 || seen o) ≡ true → Visited n recs slots limit work o c top work top
+  unfolding walkOf memOf
+  skips e =
+      visited work top (sym (ap (act H seen cl o c rest) (kind-skip H limit seen cl o c e) ∙ act-skip H seen cl o c rest)) (X .ground) (X .inside)
+
+  pub skip-none : o ≡ 0 → Visited n recs slots limit work o c top work top
+  skip-none e = skips (rw e refl)
+
+  pub skip-seen : (s : ℕ) → s ≡ st o → 4096 ≤ s → Visited n recs slots limit work o c top work top
+  skip-seen s e h = skips (go (eqb o 0))
+    where
+      go : (b : Bool) → (b || seen o) ≡ true
+      go true = refl
+      go false = le-leb 4096 (st o) (omega arith)
+
+  module _ (nz : o ≢ 0) (s : ℕ) (is : s ≡ st o) (low : s < 4096) where
+    unseen : seen o ≡ false
+    unseen = lt-leb 4096 (st o) (omega arith)
+
+    not-yet : (eqb o 0 || seen o) ≡ false
+    not-yet = rw (ne-eqb o 0 nz) unseen
+
+    own : cl o ≡ s
+    own = omega arith
+
+    -- ---- an older cluster
+
+    module _ (p : s ≢ 0) where
+      is-older : what ≡ older
+      is-older = kind-older H limit seen cl o c not-yet (λ e. p (sym own ∙ e))
+
+      was : H .cluster o ≡ s
+      was = sym (I .unseen o unseen) ∙ own
+
+      pub older-low : 1 ≤ s
+      older-low = omega (arith, p)
+
+      pub older-fits : s ≤ n
+      unfolding view
+      older-fits = let a = head-range I o (λ e. p (sym own ∙ e)) in omega (arith, own)
+
+      same-members : (x : ℕ) → eqb (cl x) (cl o) ≡ eqb (H .cluster x) s
+      same-members x =
+          eqb-iff (cl x) (cl o) (H .cluster x) s
+          (λ e. older-same H limit R (record { todo = i ∷ rest; seen = seen; cl = cl }) I o x unseen (λ f. p (sym own ∙ f)) e .1 ∙ was)
+          (λ e. I .kept x (λ f. p (sym e ∙ f)) ∙ e ∙ sym own)
+
+      head-own : clOf n recs s ≡ s
+      unfolding view
+      head-own = ap (clOf n recs) (sym was) ∙ R .heads o (λ e. p (sym was ∙ e)) ∙ was
+
+      pub older-chained : Chained n recs lk s
+      older-chained = X .ground .chains s p head-own
+
+      outs-same : outsBelow H s n ≡ visitsOfCluster H cl (cl o)
+      unfolding outsBelow visitsOfCluster view
+      outs-same = ap (λ (f : ℕ → Bool). gather n (λ x. f x && H .out x) (H .kids)) (fun-ext (λ x. sym (same-members x)))
+
+      pub older-room : length (outsBelow H s n) ≤ top
+      unfolding pushed
+      older-room =
+          let a = room-for older is-older in
+          let b = length-items 0 (visitsOfCluster H cl (cl o)) in
+          let d = ap length outs-same in
+          omega arith
+
+      module _ (work′ : List ℕ) (top′ : ℕ) (l : length work′ ≡ length work) (m : memOf n work′ top′ ≡ handled H s (memOf n work top)) (h : top′ ≤ 8 * n) where
+        link-now : area n (8 * n) work′ ≡ lk
+        unfolding handled inFront withState memOf
+        link-now = ap (λ (v : Memory). v .link) m
+
+        state-now : area n (9 * n) work′ ≡ handledState H s st
+        unfolding handled inFront withState memOf
+        state-now = ap (λ (v : Memory). v .state) m
+
+        cl-now : clusterIn (area n (9 * n) work′) ≡ cl
+        cl-now = fun-ext (λ x. ap (λ (f : ℕ → ℕ). f x % 4096) state-now ∙ go x (eqb (H .cluster x) s) (same-members x))
+          where
+            go : (x : ℕ) (b : Bool) → eqb (cl x) (cl o) ≡ b → cond b (s + 4096) (st x) % 4096 ≡ st x % 4096
+            go x true e = let a : (s + 4096) % 4096 ≡ s = omega arith in a ∙ sym own ∙ sym (eqb-true (cl x) (cl o) e)
+            go x false e = refl
+
+        seen-now : seenIn (area n (9 * n) work′) ≡ (λ x. eqb (cl x) (cl o) || seen x)
+        seen-now = fun-ext (λ x. ap (λ (f : ℕ → ℕ). leb 4096 (f x)) state-now ∙ go x (eqb (H .cluster x) s) (same-members x))
+          where
+            go : (x : ℕ) (b : Bool) → eqb (cl x) (cl o) ≡ b → leb 4096 (cond b (s + 4096) (st x)) ≡ (eqb (cl x) (cl o) || seen x)
+            go x true e = rw e (le-leb 4096 (s + 4096) (omega arith))
+            go x false e = rw e refl
+
+        todo-now : map itemOf (memOf n work′ top′ .todo) ≡ items 0 (visitsOfCluster H cl (cl o)) ++ rest
+        unfolding handled inFront withState outsBelow view
+        todo-now =
+            ap (λ (v : Memory). map itemOf (v .todo)) m
+            ∙ map-append itemOf (visitWords 0 (outsBelow H s n)) (memOf n work top .todo)
+            ∙ ap (λ (t : List Item). t ++ rest)
+            (words-items n 0 (outsBelow H s n) (sized .most) (gather-all (λ k. k ≤ n) n _ (H .kids) (λ x q k b. view-closed n recs slots x k b))
+            ∙ ap (items 0) outs-same)
+
+        pub visit-older : Visited n recs slots limit work o c top work′ top′
+        unfolding walkOf memOf
+        visit-older =
+            visited work′ top′ (work-path todo-now seen-now cl-now ∙ sym (ap (act H seen cl o c rest) is-older ∙ act-older H seen cl o c rest))
+            (record {
+              sized = record {
+                most = sized .most;
+                recs-long = sized .recs-long;
+                slots-long = sized .slots-long;
+                work-long = l ∙ sized .work-long;
+                widths = sized .widths;
+              };
+              ready = R;
+              limits = X .ground .limits;
+              sizes = subst (λ (f : ℕ → ℕ). Sizes H f (sizeIn (area n (8 * n) work′))) (sym cl-now)
+                  (subst (λ (f : ℕ → ℕ). Sizes H cl (sizeIn f)) (sym link-now) (X .ground .sizes));
+              small = λ x. rw (ap (λ (f : ℕ → ℕ). sizeIn f x) link-now) (X .ground .small x);
+              chains = λ d q e. subst (λ (f : ℕ → ℕ). Chained n recs f d) (sym link-now) (X .ground .chains d q e);
+            })
+            h
+
+    -- ---- an object in no cluster
+
+    module _ (z : s ≡ 0) where
+      none : cl o ≡ 0
+      none = own ∙ z
+
+      abbrev barred : Bool
+      barred = isWritten (recOf n recs o) || isSink (recOf n recs o)
+
+      abbrev roomy : Bool
+      roomy = not (eqb c 0) && leb (sizeIn lk c + 1) limit
+
+      abbrev to : ℕ
+      to = goesTo limit (recOf n recs o) lk o c
+
+      abbrev kd : Visit
+      kd = pick false false barred roomy
+
+      kind-is : what ≡ kd
+      unfolding bars view
+      kind-is =
+          kind-table H limit R seen cl i rest I (sizeIn lk) (X .ground .sizes)
+          ∙ ap₂ (λ (a b : Bool). pick a (not b) (bars H o) roomy) not-yet (eq-eqb (cl o) 0 none)
+
+      known : Facts H limit seen cl o c kd
+      known = subst (λ (k : Visit). Facts H limit seen cl o c k) kind-is (facts H limit seen cl o c)
+
+      was-none : H .cluster o ≡ 0
+      was-none = sym (I .unseen o unseen) ∙ none
+
+      passed-new : c ≢ 0 → H .cluster c ≡ 0
+      passed-new p = all-first (I .visits) .from p .3
+
+      pub placed-room : length (H .kids o) ≤ top
+      placed-room =
+          let a = room-for kd kind-is in
+          let b = pushed-given H cl o c barred roomy in
+          omega arith
+
+      to-fits : to ≤ n
+      to-fits = goes-fits limit (recOf n recs o) lk o c n object-fits passed-fits
+
+      -- the cluster that it gets was none before the walk
+      to-new : to ≢ 0 → H .cluster to ≡ 0
+      unfolding given goesTo
+      to-new p = go barred roomy p
+        where
+          go : (b t : Bool) → given b t o c ≢ 0 → H .cluster (given b t o c) ≡ 0
+          go true t q = absurd (q refl)
+          go false true q = passed-new q
+          go false false q = was-none
+
+      new-to : to ≢ 0 → clOf n recs to ≡ 0
+      unfolding view
+      new-to p = to-new p
+
+      more : (x : ℕ) → (v : ℕ) → v ≢ 0 → sizeIn (counting v lk) x ≡ upd (sizeIn lk) v (sizeIn lk v + 1) x
+      more x v p =
+          let a : (lk v + 4096) / 4096 ≡ lk v / 4096 + 1 = omega arith in
+          ap (λ (f : ℕ → ℕ). f x / 4096) (counting-some v lk p) ∙ upd-map (λ (w : ℕ). w / 4096) lk v (lk v + 4096) x
+          ∙ ap (λ (w : ℕ). upd (sizeIn lk) v w x) a
+
+      -- the table holds the sizes after the visit
+      table-is : (x : ℕ) → sizeIn (counting to lk) x ≡ tableBy (sizeIn lk) o c kd x
+      unfolding pick given tableBy Sizes goesTo counting
+      table-is x = go barred roomy known
+        where
+          empty : sizeIn lk o ≡ 0
+          empty = X .ground .sizes o nz was-none ∙ size-none H cl o (I .heads) none nz
+
+          go : (b t : Bool) → Facts H limit seen cl o c (pick false false b t)
+              → sizeIn (counting (given b t o c) lk) x ≡ tableBy (sizeIn lk) o c (pick false false b t) x
+          go true t f = refl
+          go false true f = more x c (f .1)
+          go false false f = more x o nz ∙ ap (λ (v : ℕ). upd (sizeIn lk) o (v + 1) x) empty
+
+      table-small : (x : ℕ) → tableBy (sizeIn lk) o c kd x ≤ 4095
+      unfolding pick tableBy Sizes view
+      table-small x = go barred roomy known
+        where
+          at : (v k : ℕ) → k ≤ 4095 → Dec (x ≡ v) → upd (sizeIn lk) v k x ≤ 4095
+          at v k h (yes e) = rw (e, upd-same (sizeIn lk) v k) h
+          at v k h (no e) = rw (upd-other (sizeIn lk) v x k e) (X .ground .small x)
+
+          go : (b t : Bool) → Facts H limit seen cl o c (pick false false b t) → tableBy (sizeIn lk) o c (pick false false b t) x ≤ 4095
+          go true t f = X .ground .small x
+          go false true f =
+              at c (sizeIn lk c + 1) (omega (arith, f .2, X .ground .sizes c (f .1) (passed-new (f .1)), X .ground .limits .1)) (ℕ-discrete x c)
+          go false false f = at o 1 (omega arith) (ℕ-discrete x o)
+
+      count-other : (x : ℕ) → (to ≢ 0 → x ≢ to) → counting to lk x ≡ lk x
+      count-other x h = go (ℕ-discrete to 0)
+        where
+          go : Dec (to ≡ 0) → counting to lk x ≡ lk x
+          go (yes e) = ap (λ (f : ℕ → ℕ). f x) (counting-none to lk e)
+          go (no q) = ap (λ (f : ℕ → ℕ). f x) (counting-some to lk q) ∙ upd-other lk to x (lk to + 4096) (h q)
+
+      count-next : (x : ℕ) → counting to lk x % 4096 ≡ lk x % 4096
+      count-next x = go (ℕ-discrete x to) (ℕ-discrete to 0)
+        where
+          go : Dec (x ≡ to) → Dec (to ≡ 0) → counting to lk x % 4096 ≡ lk x % 4096
+          go e (yes f) = ap (λ (g : ℕ → ℕ). g x % 4096) (counting-none to lk f)
+          go (yes e) (no q) =
+              let a : (lk to + 4096) % 4096 ≡ lk to % 4096 = omega arith in
+              ap (λ (f : ℕ → ℕ). f x % 4096) (counting-some to lk q) ∙ ap (λ (y : ℕ). upd lk to (lk to + 4096) y % 4096) e
+              ∙ ap (λ (w : ℕ). w % 4096) (upd-same lk to (lk to + 4096)) ∙ a ∙ ap (λ (y : ℕ). lk y % 4096) (sym e)
+          go (no e) (no q) = ap (λ (w : ℕ). w % 4096) (count-other x (λ f. e))
+
+      module _ (work′ : List ℕ) (top′ : ℕ) (l : length work′ ≡ length work) (m : memOf n work′ top′ ≡ placed H to o (memOf n work top)) (h : top′ ≤ 8 * n) where
+        link-then : area n (8 * n) work′ ≡ counting to lk
+        unfolding placed inFront withState withLink memOf
+        link-then = ap (λ (v : Memory). v .link) m
+
+        state-then : area n (9 * n) work′ ≡ upd st o (to + 4096)
+        unfolding placed inFront withState withLink memOf
+        state-then = ap (λ (v : Memory). v .state) m
+
+        cl-then : clusterIn (area n (9 * n) work′) ≡ upd cl o to
+        cl-then =
+            let a : (to + 4096) % 4096 ≡ to = omega (arith, to-fits, sized .most) in
+            fun-ext (λ x. ap (λ (f : ℕ → ℕ). f x % 4096) state-then ∙ upd-map (λ (w : ℕ). w % 4096) st o (to + 4096) x ∙ ap (λ (v : ℕ). upd cl o v x) a)
+
+        seen-then : seenIn (area n (9 * n) work′) ≡ upd seen o true
+        seen-then =
+            fun-ext (λ x. ap (λ (f : ℕ → ℕ). leb 4096 (f x)) state-then ∙ upd-map (leb 4096) st o (to + 4096) x
+            ∙ ap (λ (b : Bool). upd seen o b x) (le-leb 4096 (to + 4096) (omega arith)))
+
+        todo-then : map itemOf (memOf n work′ top′ .todo) ≡ items to (H .kids o) ++ rest
+        unfolding placed inFront withState withLink
+        todo-then =
+            ap (λ (v : Memory). map itemOf (v .todo)) m
+            ∙ map-append itemOf (visitWords to (H .kids o)) (memOf n work top .todo)
+            ∙ ap (λ (t : List Item). t ++ rest) (words-items n to (H .kids o) (sized .most) (λ k b. view-closed n recs slots o k b))
+
+        given-to : act H seen cl o c rest what ≡ record { todo = items to (H .kids o) ++ rest; seen = upd seen o true; cl = upd cl o to }
+        unfolding goesTo
+        given-to = ap (act H seen cl o c rest) kind-is ∙ act-given H seen cl o c rest barred roomy none
+
+        sizes-then : Sizes H (clusterIn (area n (9 * n) work′)) (sizeIn (area n (8 * n) work′))
+        unfolding act
+        sizes-then =
+            subst (λ (f : ℕ → ℕ). Sizes H f (sizeIn (area n (8 * n) work′)))
+            (ap (λ (k : Visit). clBy cl o c k) (sym kind-is) ∙ ap (λ (w : Work). w .cl) given-to ∙ sym cl-then)
+            (subst (λ (t : ℕ → ℕ). Sizes H (clBy cl o c kd) t)
+            (fun-ext (λ x. sym (ap (λ (f : ℕ → ℕ). sizeIn f x) link-then ∙ table-is x)))
+            (sizes-act H limit R seen cl i rest I (sizeIn lk) (X .ground .sizes) kd known))
+
+        pub visit-placed : Visited n recs slots limit work o c top work′ top′
+        unfolding walkOf memOf
+        visit-placed =
+            visited work′ top′ (work-path todo-then seen-then cl-then ∙ sym given-to)
+            (record {
+              sized = record {
+                most = sized .most;
+                recs-long = sized .recs-long;
+                slots-long = sized .slots-long;
+                work-long = l ∙ sized .work-long;
+                widths = sized .widths;
+              };
+              ready = R;
+              limits = X .ground .limits;
+              sizes = sizes-then;
+              small = λ x. rw (ap (λ (f : ℕ → ℕ). sizeIn f x) link-then ∙ table-is x) (table-small x);
+              chains = chain;
+            })
+            h
+          where
+            chain : (d : ℕ) → d ≢ 0 → clOf n recs d ≡ d → Chained n recs (area n (8 * n) work′) d
+            chain d q e =
+                let old = X .ground .chains d q e in
+                record {
+                  first = ap (λ (f : ℕ → ℕ). f d / 4096 % 4096) link-then
+                      ∙ ap (λ (w : ℕ). w / 4096 % 4096) (count-other d (λ g f. q (sym e ∙ older-none g f))) ∙ old .first;
+                  next = λ x f. ap (λ (g : ℕ → ℕ). g x % 4096) link-then ∙ count-next x ∙ old .next x f;
+                }
+              where
+                older-none : to ≢ 0 → d ≡ to → clOf n recs d ≡ 0
+                older-none g f = ap (clOf n recs) f ∙ new-to g

@@ -1,0 +1,76 @@
+-- `put_states` meets its contract. Assumes nothing.
+use Prim.Native.Nat.{_*_, _-_, _≤_}
+use mathlib.Core.Path.{_≡_}
+use Rattle.links.specs.Links.{clOf}
+use Rattle.analyse.specs.Filling.{Filling}
+use Rattle.analyse.proofs.FillLaws.{fill-start, fill-turn, cluster-here}
+use borrow.Author.Needs.{needs}
+use native.Mathlib.Omega.{arith}
+use Rattle.analyse.proofs.form.put_states.Statement.{statement}
+use Rattle.analyse.proofs.form.put_states.Tie as tie
+
+abbrev Inv-loop : tie.InvT-loop
+Inv-loop n records work₀ k₀ work k = Filling n (9 * n) (clOf n records) work₀ work k × (k ≤ n)
+
+abbrev μ-loop : tie.MeasureT-loop
+μ-loop n records work₀ k₀ work k = n - k
+
+loop-holds : tie.Need-loop-holds Inv-loop μ-loop
+loop-holds c = (fill-start _ _ _ _, omega arith)
+
+cast-cluster-of : tie.Need-cast-cluster-of Inv-loop μ-loop
+cast-cluster-of c = omega arith
+
+mul-cluster-of : tie.Need-mul-cluster-of Inv-loop μ-loop
+mul-cluster-of c = omega arith
+
+shared-slice-read-cluster-of : tie.Need-shared-slice-read-cluster-of Inv-loop μ-loop
+shared-slice-read-cluster-of c = omega arith
+
+cluster-of-requires : tie.Need-cluster-of-requires Inv-loop μ-loop
+cluster-of-requires c κs = search needs
+
+add-k : tie.Need-add-k Inv-loop μ-loop
+add-k c = omega arith
+
+mul-put-word : tie.Need-mul-put-word Inv-loop μ-loop
+mul-put-word c = omega arith
+
+put-word-requires : tie.Need-put-word-requires Inv-loop μ-loop
+put-word-requires c κs = (omega arith, omega (arith, c .before .before .before .loop-test .taken), omega (arith, c .before .before .before .before .before .before .before .pre .1, c .before .before .before .before .loop .inv .0 .long))
+
+loop-less : tie.Need-loop-less Inv-loop μ-loop
+loop-less c = omega arith
+
+loop-again : tie.Need-loop-again Inv-loop μ-loop
+loop-again c =
+    let g = c .before .before .before .before .before .before .before .loop .inv in
+    let h = c .before .before .before .before .before .before .loop-test .taken in
+    (fill-turn _ _ _ _ _ _ _ _ (g .0) h (omega (arith, c .before .before .before .before .before .before .before .before .before .before .pre .1)) (c .before .before .put-word .ensures) (cluster-here _ _ _ _ h (c .before .before .before .before .cluster-of .ensures)), omega (arith, h))
+
+same-length : tie.Need-same-length Inv-loop μ-loop
+same-length c = c .before .loop .inv .0 .long
+
+returns : tie.Need-returns Inv-loop μ-loop
+returns c =
+    let e : c .before .loop .k ≡ c .before .before .before .before .args .n = omega (arith, c .loop-test .left, c .before .loop .inv .1) in
+    rw e at (c .before .loop .inv .0)
+
+pub put-states-spec : {M : Type 1} → statement M
+put-states-spec =
+    tie.close
+    (tie.spec
+    Inv-loop
+    μ-loop
+    loop-holds
+    cast-cluster-of
+    mul-cluster-of
+    shared-slice-read-cluster-of
+    cluster-of-requires
+    add-k
+    mul-put-word
+    put-word-requires
+    loop-less
+    loop-again
+    same-length
+    returns)

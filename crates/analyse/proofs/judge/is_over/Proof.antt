@@ -1,0 +1,19 @@
+-- `is_over` meets its contract. Assumes nothing.
+use mathlib.Core.Path.{refl}
+use Rattle.analyse.specs.Judge.{overBy}
+use borrow.Author.Needs.{needs}
+use Rattle.analyse.proofs.judge.is_over.Statement.{statement}
+use Rattle.analyse.proofs.judge.is_over.Tie as tie
+
+mul-result : tie.Need-mul-result
+mul-result c = search needs
+
+mul-result-2 : tie.Need-mul-result-2
+mul-result-2 c = search needs
+
+returns : tie.Need-returns
+unfolding overBy
+returns c = refl
+
+pub is-over-spec : {M : Type 1} → statement M
+is-over-spec = tie.close (tie.spec mul-result mul-result-2 returns)

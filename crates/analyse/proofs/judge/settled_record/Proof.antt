@@ -1,0 +1,25 @@
+-- `settled_record` meets its contract. Assumes nothing.
+use mathlib.Core.Path.{_≡_, sym, ap, _∙_}
+use Prim.Native.Nat.{ℕ, _%_}
+use lib.Dec.{leb}
+use Rattle.layout.specs.Record.{withCluster, withOut}
+use Rattle.analyse.proofs.JudgeLaws.{settled-is}
+use borrow.Author.Needs.{needs}
+use Rattle.analyse.proofs.judge.settled_record.Statement.{statement}
+use Rattle.analyse.proofs.judge.settled_record.Tie as tie
+
+with-written-requires : tie.Need-with-written-requires
+with-written-requires c κs = search needs
+
+with-out-requires : tie.Need-with-out-requires
+with-out-requires c κs = search needs
+
+with-cluster-requires : tie.Need-with-cluster-requires
+with-cluster-requires c κs = search needs
+
+returns : tie.Need-returns
+returns c = c .with-cluster .ensures ∙ rw (c .before .with-out .ensures, c .before .before .with-written .ensures) (settled-is _ _)
+
+pub settled-record-spec : {M : Type 1} → statement M
+settled-record-spec =
+    tie.close (tie.spec with-written-requires with-out-requires with-cluster-requires returns)

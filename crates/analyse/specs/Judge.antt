@@ -1,0 +1,96 @@
+-- What is left of the clusters that the walk formed, told by tables: word c of 0 to n counts the out pointers of cluster c, the link word of a
+-- new head the members, and word x of n to 2n tells what object x is left with.
+use Prim.Native.Nat.{ℕ, _+_, _*_, _/_, _%_, _≤_}
+use mathlib.Core.Path.{_≡_}
+use mathlib.Core.Bool.{Bool, true, false, not, cond, _&&_, _||_}
+use mathlib.Core.List.{List}
+use mathlib.Core.Logic.{_≢_}
+use lib.Dec.{eqb, ltb, leb}
+use lib.ListN.{length}
+use Rattle.layout.specs.Record.{isSink, cluster}
+use Rattle.graph.specs.Numbers.{bit, sum, count}
+use Rattle.graph.specs.Heap.{Heap}
+use Rattle.graph.specs.Clusters.{keep, outCount, outBit, outsOf}
+use Rattle.graph.specs.Analysis.{stays, outLossOf}
+use Rattle.graph.proofs.SizeTable.{Sizes}
+use Rattle.rules.specs.Buffers.{recOf, eachFrom}
+use Rattle.rules.specs.View.{view, laidRecord}
+use Rattle.rules.specs.Analyse.{least, outPerTen, rule}
+use Rattle.links.specs.Links.{clOf}
+use Rattle.analyse.specs.Memory.{area, clusterIn, sizeIn}
+use Rattle.analyse.specs.Contracts.{Sized}
+
+-- the clusters that the walk formed
+abbrev pub formed : ℕ → List ℕ → ℕ → ℕ
+formed n work = clusterIn (area n (9 * n) work)
+
+-- how many pointers of object x leave cluster c
+unfoldable pub outsAt : ℕ → List ℕ → List ℕ → List ℕ → ℕ → ℕ → ℕ
+outsAt n recs slots work x c = outCount (view n recs slots .sink) (formed n work) c (view n recs slots .kids x)
+
+-- The out pointers of the objects 1 to k are counted by cluster; all other areas are as they were.
+pub record Tallying (n : ℕ) (recs slots work₀ work : List ℕ) (k : ℕ) : Type 0 where
+  pub entry : (c : ℕ) → 1 ≤ c → c ≤ n → area n 0 work c ≡ outsOf k (view n recs slots .kids) (view n recs slots .sink) (formed n work₀) c
+  pub most : (c : ℕ) → area n 0 work c ≤ 8 * k
+  pub others : (b : ℕ) → n ≤ b → area n b work ≡ area n b work₀
+  pub long : length work ≡ length work₀
+
+-- What the judging asks: the words are long enough, and the numbers in the tables small enough.
+pub record Judging (n : ℕ) (recs slots work : List ℕ) : Type 0 where
+  pub sized : Sized n recs slots work
+  pub small : (x : ℕ) → sizeIn (area n (8 * n) work) x ≤ 4095
+  pub few : (c : ℕ) → area n 0 work c ≤ 32760
+  pub fits : (x : ℕ) → formed n work x ≤ n
+
+-- s members have p out pointers: too many
+unfoldable pub overBy : ℕ → ℕ → Bool
+overBy s p = ltb (outPerTen * s) (10 * p)
+
+-- cluster c, where `old` is its number in the records: does it stay with s members and p out pointers?
+unfoldable pub staysBy : ℕ → ℕ → ℕ → Bool
+staysBy old s p = not (eqb old 0 && (overBy s p || ltb s least))
+
+unfoldable pub staysIn : ℕ → List ℕ → List ℕ → ℕ → Bool
+staysIn n recs work c = staysBy (clOf n recs c) (sizeIn (area n (8 * n) work) c) (area n 0 work c)
+
+-- what object x is left with: the cluster, and 4096 where it is an out member
+unfoldable pub leftWord : ℕ → List ℕ → List ℕ → List ℕ → ℕ → ℕ
+leftWord n recs slots work x =
+    keep (staysIn n recs work) (formed n work) x
+    + 4096 * bit (outBit (view n recs slots .kids) (view n recs slots .sink) (keep (staysIn n recs work) (formed n work)) x)
+
+-- the members of the cluster that h heads, if it is new and has too many out pointers
+unfoldable pub lossAt : ℕ → List ℕ → List ℕ → ℕ → ℕ
+lossAt n recs work h =
+    cond (eqb (clOf n recs h) 0 && (eqb (formed n work h) h && overBy (sizeIn (area n (8 * n) work) h) (area n 0 work h)))
+    (sizeIn (area n (8 * n) work) h) 0
+
+-- h heads a new cluster that is left; x is in one
+unfoldable pub headAt : ℕ → List ℕ → List ℕ → ℕ → Bool
+headAt n recs work h = eqb (clOf n recs h) 0 && eqb (area n n work h % 4096) h
+
+unfoldable pub memberAt : ℕ → List ℕ → List ℕ → ℕ → Bool
+memberAt n recs work x = eqb (clOf n recs x) 0 && not (eqb (area n n work x % 4096) 0)
+
+-- record r of an object that is left with w
+unfoldable pub settled : ℕ → ℕ → ℕ
+settled w r = laidRecord (w % 4096) (leb 4096 w) (isSink r) false r
+
+-- What the second half asks of the walk's end.
+pub record Judgeable (n : ℕ) (recs slots work : List ℕ) : Type 0 where
+  pub sized : Sized n recs slots work
+  pub small : (x : ℕ) → sizeIn (area n (8 * n) work) x ≤ 4095
+  pub sizes : Sizes (view n recs slots) (formed n work) (sizeIn (area n (8 * n) work))
+  pub fits : (x : ℕ) → formed n work x ≤ n
+
+-- the clusters of cl that are left
+abbrev pub leftOf : Heap → (ℕ → ℕ) → ℕ → ℕ
+leftOf H cl = keep (stays rule H cl) cl
+
+-- What it leaves, where the walk formed the clusters cl: the records and the answers of the definition.
+pub record Judged (n : ℕ) (recs slots : List ℕ) (cl : ℕ → ℕ) (recs′ : List ℕ) (loss clusters members : ℕ) : Type 0 where
+  pub records : recs′ ≡ eachFrom 1 n (λ x r. laidRecord (leftOf (view n recs slots) cl x)
+      (outBit (view n recs slots .kids) (view n recs slots .sink) (leftOf (view n recs slots) cl) x) (isSink r) false r) recs
+  pub loss-is : loss ≡ outLossOf rule (view n recs slots) cl
+  pub clusters-is : clusters ≡ count n (λ h. eqb (clOf n recs h) 0 && eqb (leftOf (view n recs slots) cl h) h)
+  pub members-is : members ≡ count n (λ x. eqb (clOf n recs x) 0 && not (eqb (leftOf (view n recs slots) cl x) 0))

@@ -1,0 +1,202 @@
+// The walk of the analysis. A visit to make is one work word: the object, and above its 12 bits the cluster passed to it.
+ghost use mathlib.Core.Path.{_≡_};
+ghost use mathlib.Core.Bool.{cond};
+ghost use mathlib.Core.List.{List, [], _∷_, map};
+ghost use Prim.Native.Nat.{ℕ, _+_, _-_, _*_, _<_, _≤_};
+ghost use lib.ListN.{length, take, drop};
+ghost use Rattle.graph.specs.Analysis.{finish};
+ghost use Rattle.rules.specs.Buffers.{recOf};
+ghost use Rattle.rules.specs.View.{view, target};
+ghost use Rattle.graph.specs.Numbers.{upd};
+ghost use Rattle.analyse.specs.Memory.{area, memOf, visitWords, sizeIn, inFront, withState, withLink, counting, walkOf};
+ghost use Rattle.analyse.specs.Contracts.{Sized, outKids, outsBelow, Chained, handled, goesTo, placed, Visiting, Walking, Visited, Walked, visiting};
+use crate::memory::put_word;
+use crate::memory::word_of;
+use layout::records::cluster_of;
+use layout::records::is_out;
+use layout::records::is_sink;
+use layout::records::is_written;
+use layout::records::width_of;
+use links::next_member;
+use links::top_member;
+
+// The object that the word w points at, 0 where it is no pointer.
+pub(crate) fn target_of(n: u32, w: u32) -> u32
+    ensures { λ t. ⌜ t ≡ target n w ⌝ }
+{
+    if w <= n { w } else { 0 }
+}
+
+// Puts a visit to object o, with the cluster c, in front of those from `top` on.
+fn push(n: u32, work: &mut [u32], top: usize, o: u32, c: u32) -> usize
+    requires { ⌜ (n ≤ 4095) × (length (now work) ≡ 10 * n + 64) × (0 < top) × (top ≤ 8 * n) × (o ≤ n) × (c ≤ n) ⌝ }
+    ensures { λ r. ⌜ (memOf n (now (work .exit)) r ≡ inFront ((o + 4096 * c) ∷ []) (memOf n (now (work .entry)) top)) × (r ≡ top - 1) ⌝ }
+{
+    let at = top - 1;
+    work[at] = o + 4096 * c;
+    at
+}
+
+// Puts visits to what the k words of `slots` from `from` point at, each with the cluster c, in front of the others.
+fn push_words(
+    n: u32,
+    slots: &[u32],
+    work: &mut [u32],
+    from: usize,
+    k: u32,
+    c: u32,
+    top: usize,
+) -> usize
+    requires { ⌜ (n ≤ 4095) × (length (now work) ≡ 10 * n + 64) × (c ≤ n) × (k ≤ top) × (top ≤ 8 * n) × (from + k ≤ length (now slots)) ⌝ }
+    ensures { λ r. ⌜ (memOf n (now (work .exit)) r ≡ inFront (visitWords c (map (target n) (take k (drop from (now (slots .entry)))))) (memOf n (now (work .entry)) top)) × (r + k ≡ top) ⌝ }
+{
+    let mut j = k as usize;
+    let mut at = top;
+    while 0 < j {
+        j -= 1;
+        at = push(n, work, at, target_of(n, slots[from + j]), c);
+    }
+    at
+}
+
+// Object x, of the older cluster d, is seen; if it is an out member, what it points at is visited next.
+fn member(
+    n: u32,
+    records: &[u32],
+    slots: &[u32],
+    work: &mut [u32],
+    d: u32,
+    x: u32,
+    top: usize,
+) -> usize
+    requires { ⌜ Sized n (now records) (now slots) (now work) ⌝ }
+    requires { ⌜ (1 ≤ x) × (x ≤ n) × (d ≤ n) × (top ≤ 8 * n) × (length (outKids (view n (now records) (now slots)) x) ≤ top) ⌝ }
+    ensures { λ r. ⌜ (memOf n (now (work .exit)) r ≡ inFront (visitWords 0 (outKids (view n (now (records .entry)) (now (slots .entry))) x)) (withState (upd (area n (9 * n) (now (work .entry))) x (d + 4096)) (memOf n (now (work .entry)) top))) × (r + length (outKids (view n (now (records .entry)) (now (slots .entry))) x) ≡ top) ⌝ }
+{
+    let i = x as usize - 1;
+    let r = records[i];
+    put_word(n, work, 9 * n as usize, x, d + 4096);
+    if is_out(r) {
+        return push_words(n, slots, work, 8 * i, width_of(r), 0, top);
+    }
+    top
+}
+
+// The older cluster d is handled: all its members are seen, and what its out members point at is visited next.
+fn older(n: u32, records: &[u32], slots: &[u32], work: &mut [u32], d: u32, top: usize) -> usize
+    requires { ⌜ Sized n (now records) (now slots) (now work) ⌝ }
+    requires { ⌜ (1 ≤ d) × (d ≤ n) × (top ≤ 8 * n) × (length (outsBelow (view n (now records) (now slots)) d n) ≤ top) ⌝ }
+    requires { ⌜ Chained n (now records) (area n (8 * n) (now work)) d ⌝ }
+    ensures { λ r. ⌜ (memOf n (now (work .exit)) r ≡ handled (view n (now (records .entry)) (now (slots .entry))) d (memOf n (now (work .entry)) top)) × (r ≤ 8 * n) ⌝ }
+{
+    let mut at = top;
+    let mut x = top_member(word_of(n, work, 8 * n as usize, d));
+    while x != 0 {
+        at = member(n, records, slots, work, d, x, at);
+        x = next_member(word_of(n, work, 8 * n as usize, x));
+    }
+    at
+}
+
+// The cluster that object o, with the record r and in no cluster, gets when c is passed to it; 0 for none.
+fn choose(n: u32, limit: u32, work: &[u32], r: u32, o: u32, c: u32) -> u32
+    requires { ⌜ (9 * n ≤ length (now work)) × (c ≤ n) × (n ≤ 4095) ⌝ }
+    ensures { λ e. ⌜ e ≡ goesTo limit r (area n (8 * n) (now (work .entry))) o c ⌝ }
+{
+    if is_written(r) {
+        return 0;
+    }
+    if is_sink(r) {
+        return 0;
+    }
+    if c == 0 {
+        return o;
+    }
+    if word_of(n, work, 8 * n as usize, c) / 4096 < limit {
+        return c;
+    }
+    o
+}
+
+// Counts one more member of cluster e.
+fn count(n: u32, work: &mut [u32], e: u32)
+    requires { ⌜ (n ≤ 4095) × (length (now work) ≡ 10 * n + 64) × (e ≤ n) × (sizeIn (area n (8 * n) (now work)) e ≤ 4095) ⌝ }
+    ensures { λ _. ⌜ ((top : ℕ) → memOf n (now (work .exit)) top ≡ withLink (counting e (area n (8 * n) (now (work .entry)))) (memOf n (now (work .entry)) top)) ⌝ }
+{
+    if e != 0 {
+        let w = word_of(n, work, 8 * n as usize, e);
+        put_word(n, work, 8 * n as usize, e, w + 4096);
+    }
+}
+
+// Object o, in no cluster, is seen and gets a cluster or none; what it points at is visited next, with that cluster.
+fn place(
+    n: u32,
+    limit: u32,
+    records: &[u32],
+    slots: &[u32],
+    work: &mut [u32],
+    o: u32,
+    c: u32,
+    top: usize,
+) -> usize
+    requires { ⌜ Sized n (now records) (now slots) (now work) ⌝ }
+    requires { ⌜ (1 ≤ o) × (o ≤ n) × (c ≤ n) × (top ≤ 8 * n) × (length (view n (now records) (now slots) .kids o) ≤ top) ⌝ }
+    requires { ⌜ ((x : ℕ) → sizeIn (area n (8 * n) (now work)) x ≤ 4095) ⌝ }
+    ensures { λ r. ⌜ (memOf n (now (work .exit)) r ≡ placed (view n (now (records .entry)) (now (slots .entry))) (goesTo limit (recOf n (now (records .entry)) o) (area n (8 * n) (now (work .entry))) o c) o (memOf n (now (work .entry)) top)) × (r ≤ 8 * n) ⌝ }
+{
+    let i = o as usize - 1;
+    let r = records[i];
+    let e = choose(n, limit, work, r, o, c);
+    count(n, work, e);
+    put_word(n, work, 9 * n as usize, o, e + 4096);
+    push_words(n, slots, work, 8 * i, width_of(r), e, top)
+}
+
+// Visits object o, to which the cluster c is passed.
+fn visit(
+    n: u32,
+    limit: u32,
+    records: &[u32],
+    slots: &[u32],
+    work: &mut [u32],
+    o: u32,
+    c: u32,
+    top: usize,
+) -> usize
+    requires { ⌜ Visiting n (now records) (now slots) limit (now work) o c top ⌝ }
+    ensures { λ r. ⌜ Visited n (now (records .entry)) (now (slots .entry)) limit (now (work .entry)) o c top (now (work .exit)) r ⌝ }
+{
+    if o == 0 {
+        return top;
+    }
+    let s = word_of(n, work, 9 * n as usize, o);
+    if 4096 <= s {
+        return top;
+    }
+    if s != 0 {
+        return older(n, records, slots, work, s, top);
+    }
+    place(n, limit, records, slots, work, o, c, top)
+}
+
+// Makes every visit.
+fn walk(n: u32, limit: u32, records: &[u32], slots: &[u32], work: &mut [u32], start: usize)
+    requires { ⌜ Walking n (now records) (now slots) limit (now work) start ⌝ }
+    ensures { λ _. ⌜ Walked n (now (records .entry)) (now (slots .entry)) limit (walkOf (memOf n (now (work .entry)) start)) (now (work .exit)) ⌝ }
+{
+    let mut top = start;
+    while top < 8 * n as usize {
+        let w = work[top];
+        top = visit(n, limit, records, slots, work, w % 4096, w / 4096, top + 1);
+    }
+}
+
+// The walk from one start, object o, to its end.
+pub(crate) fn start(n: u32, limit: u32, records: &[u32], slots: &[u32], work: &mut [u32], o: u32)
+    requires { ⌜ Walking n (now records) (now slots) limit (now work) (8 * n) × (o ≤ n) ⌝ }
+    ensures { λ _. ⌜ Walked n (now (records .entry)) (now (slots .entry)) limit (visiting o 0 (memOf n (now (work .entry)) (8 * n))) (now (work .exit)) ⌝ }
+{
+    let top = visit(n, limit, records, slots, work, o, 0, 8 * n as usize);
+    walk(n, limit, records, slots, work, top);
+}
