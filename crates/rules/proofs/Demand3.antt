@@ -80,7 +80,7 @@ module _ (s : State) (I : Inv s) where
 -- ---- demand 3
 
 -- n and r stay
-sizes-kept : (call : Call) (s : State) → (step call s .after .control .n ≡ s .control .n) × (step call s .after .control .r ≡ s .control .r)
+pub sizes-kept : (call : Call) (s : State) → (step call s .after .control .n ≡ s .control .n) × (step call s .after .control .r ≡ s .control .r)
 unfolding step answer Allocate.allocate Write.write Analyse.analyse withLast withWriteLoss withAnalysis
 sizes-kept (allocate width) s =
     all-by (λ (o : Allocate.Outcome). (o .answer .control .n ≡ s .control .n) × (o .answer .control .r ≡ s .control .r)) _ _ _ (λ z. (refl, refl)) (λ m. (refl, refl))
@@ -95,7 +95,7 @@ sizes-kept (analyse work) s =
     all-by (λ (o : Analyse.Outcome). (o .answer .control .n ≡ s .control .n) × (o .answer .control .r ≡ s .control .r)) _ _ _ (λ z. (refl, refl)) (λ m. (refl, refl))
 
 -- one call: what it is lent, and that it does what the plain heap does
-abbrev LentOne : ℕ → Call → Type 0
+abbrev pub LentOne : ℕ → Call → Type 0
 LentOne n call = Lent n (call ∷ [])
 
 lent-split : (n : ℕ) (call : Call) (l : List Call) → Lent n (call ∷ l) → LentOne n call × Lent n l
@@ -108,7 +108,7 @@ lent-split n (declareSink i) l h = (tt, h)
 lent-split n (collect kind work map) l h = ((h .0, h .1, tt), h .2)
 lent-split n (analyse work) l h = (tt, h)
 
-step-same : (call : Call) (s : State) → Inv s → LentOne (s .control .n) call → Same call s
+pub step-same : (call : Call) (s : State) → Inv s → LentOne (s .control .n) call → Same call s
 step-same (allocate width) s I h = allocate-same s I width
 step-same (read i k) s I h = read-same s I i k
 step-same (show i) s I h = show-same s I i

@@ -1,0 +1,94 @@
+-- What running a line of a call list answers and leaves in the buffers.
+use Prim.Native.Nat.{ℕ}
+use mathlib.Core.List.{List}
+use Rattle.layout.specs.declared.answers.Control.{Control}
+use Rattle.rules.specs.Create as Create
+use Rattle.rules.specs.Allocate as Allocate
+use Rattle.rules.specs.Read as Read
+use Rattle.rules.specs.Show as Show
+use Rattle.rules.specs.Write as Write
+use Rattle.rules.specs.SetRoot as SetRoot
+use Rattle.rules.specs.DeclareSink as DeclareSink
+use Rattle.rules.specs.Analyse as Analyse
+use Rattle.rules.specs.Collect as Collect
+use Rattle.lines.specs.declared.Line.{Line}
+use Rattle.lines.specs.declared.Line.the-variants as line
+use Rattle.calls.specs.declared.Ran.{Ran}
+
+-- the answer and what stands in the buffers after the line
+pub record Outcome : Type 0 where
+  pub answer : Ran
+  pub records : List ℕ
+  pub slots : List ℕ
+  pub roots : List ℕ
+  pub work : List ℕ
+  pub map : List ℕ
+
+abbrev pub gives : Ran → List ℕ → List ℕ → List ℕ → List ℕ → List ℕ → Outcome
+gives a recs slots roots work map = record { answer = a; records = recs; slots = slots; roots = roots; work = work; map = map }
+
+-- a refusal, 0 if accepted, the values that the call answers, and the control record
+abbrev pub ran : ℕ → ℕ → ℕ → ℕ → Control → Ran
+ran refusal a b c control = record { refusal = refusal; a = a; b = b; c = c; control = control }
+
+module _ (c : Control) (recs slots roots work map : List ℕ) where
+  -- nothing is done
+  unfoldable pub idle : Outcome
+  idle = gives (ran 0 0 0 0 c) recs slots roots work map
+
+  unfoldable pub create : ℕ → ℕ → Outcome
+  create n r =
+      let o = Create.create n r recs slots roots in
+      gives (ran (o .answer .refusal) 0 0 0 (o .answer .control)) (o .records) (o .slots) (o .roots) work map
+
+  unfoldable pub allocate : ℕ → Outcome
+  allocate width =
+      let o = Allocate.allocate c width recs slots in
+      gives (ran (o .answer .refusal) (o .answer .object) 0 0 (o .answer .control)) (o .records) (o .slots) roots work map
+
+  unfoldable pub read : ℕ → ℕ → Outcome
+  read i k = let a = Read.read c i k recs slots in gives (ran (a .refusal) (a .word) 0 0 c) recs slots roots work map
+
+  -- where the part stands that is shown
+  unfoldable pub show : ℕ → Outcome
+  show i = let a = Show.show c i recs slots .answer in gives (ran (a .refusal) (a .start) (a .length) 0 c) recs slots roots work map
+
+  unfoldable pub write : ℕ → ℕ → ℕ → Outcome
+  write i k w =
+      let o = Write.write c i k w recs slots in
+      gives (ran (o .answer .refusal) 0 0 0 (o .answer .control)) (o .records) (o .slots) roots work map
+
+  unfoldable pub setRoot : ℕ → ℕ → Outcome
+  setRoot j w = let o = SetRoot.setRoot c j w recs roots in gives (ran (o .answer .refusal) 0 0 0 c) recs slots (o .roots) work map
+
+  unfoldable pub declareSink : ℕ → Outcome
+  declareSink i =
+      let o = DeclareSink.declareSink c i recs slots roots in
+      gives (ran (o .answer .refusal) 0 0 0 c) (o .records) slots roots work map
+
+  unfoldable pub analyse : Outcome
+  analyse =
+      let o = Analyse.analyse c recs slots roots work in
+      gives (ran (o .answer .refusal) (o .answer .clusters) (o .answer .members) 0 (o .answer .control)) (o .records) slots roots (o .work) map
+
+  unfoldable pub collect : Collect.Kind → Outcome
+  collect kind =
+      let o = Collect.collect kind c recs slots roots work map in
+      gives (ran (o .answer .refusal) (o .answer .freed) (o .answer .kept) (o .answer .scanned) c) (o .records) (o .slots) roots (o .work) (o .map)
+
+  -- the call of the line; a line without one does nothing
+  unfoldable pub run : Line → Outcome
+  run line.Nothing = idle
+  run (line.Create n r) = create n r
+  run (line.Allocate width) = allocate width
+  run (line.Read i k) = read i k
+  run (line.Show i) = show i
+  run (line.Write i k w) = write i k w
+  run (line.Root j w) = setRoot j w
+  run (line.Sink i) = declareSink i
+  run line.Analyse = analyse
+  run line.CollectPlain = collect Collect.plainly
+  run line.CollectClusters = collect Collect.byClusters
+  run (line.Wrote start length) = idle
+  run (line.Loaded start length) = idle
+  run (line.Bad expected) = idle
