@@ -1,11 +1,79 @@
 /*
  * pakzid.h - the C interface of the Pakzid object heap.
  *
- * Structs hold 32-bit numbers and go by value; a slice goes as a pointer and
- * its length in elements. `refusal` is 0 where the call was accepted, else a
- * number listed in docs/HEAP.md ("From the input", "From the state"). After a
- * refusal the other answers are 0, and the control record is the one handed in
- * (zeros where create refuses).
+ * A heap is a set of buffers that the engine owns, and a control record that it
+ * keeps. The library has no state of its own, allocates nothing and calls
+ * nothing back: each call is lent what it needs, and is done with it when it
+ * returns. docs/HEAP.md has every rule in full.
+ *
+ * Objects are numbered from 1 to n, and n is at most 4,095. An object has a
+ * width from 0 to 8: that many slots, each holding one word. Roots are indexed
+ * from 0 to r - 1, and r is at most 64.
+ *
+ * Words
+ *
+ *   0                          nil
+ *   1 to n                     a pointer: the number of an object
+ *   n + 1 to 0x7FFFFFFF        illegal
+ *   0x80000000 and above       an immediate: a value of the engine's own
+ *
+ * A root is nil or a pointer.
+ *
+ * Buffers
+ *
+ *   buffer    element    at least this long    what it is
+ *   records   uint32_t   n                     record i - 1 describes object i
+ *   slots     uint32_t   8 * n                 object i has 8, from 8 * (i - 1)
+ *   roots     uint32_t   r                     one word for each root
+ *   work      uint32_t   10 * n + 64           scratch; all 0 after acceptance
+ *   map       uint64_t   n / 64 + 1            which objects were freed
+ *
+ * (PAKZID_SLOTS_LENGTH, PAKZID_WORK_LENGTH and PAKZID_MAP_LENGTH compute these.)
+ * A buffer is handed over as a pointer and its length in elements. It may be
+ * longer than needed; the rest is never touched. Work and map may hold anything
+ * before a call, and may be others at each call, or shared by heaps that take
+ * turns.
+ *
+ * The engine reads these buffers as it likes, and changes them by the calls
+ * alone. A heap may be copied or saved: it is its records, slots, roots and
+ * control record, with no address inside.
+ *
+ * What the engine must see to (nothing here can test it)
+ *
+ *   - Each pointer is valid for its length, aligned for its element, and not
+ *     NULL, even where the length is 0.
+ *   - No two buffers of one call overlap, and none overlaps a control record
+ *     that is lent in place.
+ *   - One thread at a time uses a heap. Different heaps are independent.
+ *
+ * Answers
+ *
+ * `refusal` is 0 if the call was accepted, and else the number of the first of
+ * its tests that failed, in the order that stands with the call. A refused call
+ * changes no buffer and no control record; its other answers are 0, and the
+ * control record it gives back is the one handed in (for create: all 0).
+ *
+ *   number   meaning                                              given by
+ *    1       n is not 1 to 4,095, or r is not 1 to 64             create
+ *    2       a buffer is too short                                all
+ *    3       width above 8                                        allocate
+ *    4       no such object: its number is 0 or above n           read, show, write,
+ *                                                                 declare_sink
+ *    5       no such slot: the object is not that wide            read, write
+ *    6       an illegal word, or an immediate for a root          write, set_root
+ *    7       no such root: the index is not below r               set_root
+ *   20       a field of the control record is out of range        all but create
+ *   21       damage: the record of the object is broken           read, show, write
+ *   21       damage anywhere in the heap                          declare_sink, analyse,
+ *                                                                 both collections
+ *   22       the object is free                                   read, show, write,
+ *                                                                 declare_sink
+ *   23       the word points to an object that is free or broken  write, set_root
+ *   24       no object is free                                    allocate
+ *   25       write loss would pass n                              write
+ *
+ * As long as nothing but the library stores into the buffers of a heap, and each
+ * call is handed the latest control record, 20, 21 and 25 do not occur.
  */
 #ifndef PAKZID_H
 #define PAKZID_H
@@ -13,13 +81,26 @@
 #include <stddef.h>
 #include <stdint.h>
 
+#ifdef __cplusplus
+extern "C" {
+#endif
+
+#define PAKZID_SLOTS_LENGTH(objects) (8 * (objects))
+#define PAKZID_WORK_LENGTH(objects) (10 * (objects) + 64)
+#define PAKZID_MAP_LENGTH(objects) ((objects) / 64 + 1)
+
+/*
+ * The control record. The engine keeps one for each heap, and replaces it by
+ * the one in the answer of each call, refused or not (but not by that of a
+ * refused create). It may read the fields; the calls alone set them.
+ */
 typedef struct {
     uint32_t objects;    /* n */
     uint32_t roots;      /* r */
     uint32_t last;       /* object allocated last */
     uint32_t limit;      /* size limit; 0 until an analysis has run */
-    uint32_t write_loss;
-    uint32_t out_loss;
+    uint32_t write_loss; /* members of clusters dissolved by writes since the last analysis */
+    uint32_t out_loss;   /* members of clusters that the last analysis deleted for out pointers */
 } pakzid_control;
 
 /* create, write, set_root, declare_sink */
@@ -57,9 +138,9 @@ typedef struct {
 
 typedef struct {
     uint32_t refusal;
-    uint32_t freed;
-    uint32_t kept;
-    uint32_t scanned;
+    uint32_t freed;   /* objects freed: the ones in the map */
+    uint32_t kept;    /* objects in use afterwards */
+    uint32_t scanned; /* objects whose slots were read */
     pakzid_control control;
 } pakzid_collected;
 
@@ -68,42 +149,97 @@ typedef struct {
     uint32_t object;
 } pakzid_allocated_in_place;
 
+/*
+ * Makes an empty heap: zeroes records, slots and roots up to the lengths above,
+ * whatever they held, and gives the first control record.
+ * Tests: 1, 2.
+ */
 pakzid_done pakzid_create(uint32_t objects, uint32_t roots,
                           uint32_t *records, size_t records_length,
                           uint32_t *slots, size_t slots_length,
                           uint32_t *root_words, size_t root_words_length);
 
+/*
+ * Gives a free object the width, with nil in every slot, and answers its number.
+ * The search begins behind `last` and goes round. An object that no root, sink
+ * or pointer leads to by the next collection is freed there.
+ * Tests: 20, 2, 3, 24.
+ */
 pakzid_allocated pakzid_allocate(pakzid_control control, uint32_t width,
                                  uint32_t *records, size_t records_length,
                                  uint32_t *slots, size_t slots_length);
 
+/*
+ * Answers the word in a slot.
+ * Tests: 20, 2, 4, 21, 22, 5.
+ */
 pakzid_word pakzid_read(pakzid_control control, uint32_t object, uint32_t slot,
                         const uint32_t *records, size_t records_length,
                         const uint32_t *slots, size_t slots_length);
 
+/*
+ * Answers where the words of an object are in the slots, and how many; the
+ * length may be 0 although the call is accepted. These words are to be read
+ * only: a store past the library sets no written bit and dissolves nothing, and
+ * a collection may then free what is in use.
+ * Tests: 20, 2, 4, 21, 22.
+ */
 pakzid_part pakzid_show(pakzid_control control, uint32_t object,
                         const uint32_t *records, size_t records_length,
                         const uint32_t *slots, size_t slots_length);
 
+/*
+ * Stores a word in a slot. If the word that was there pointed into the object's
+ * own cluster, that cluster is dissolved, which takes a pass over the records;
+ * any other write takes the same short time in every heap.
+ * Tests: 20, 2, 4, 21, 22, 5, 6, 23, and last 25.
+ */
 pakzid_done pakzid_write(pakzid_control control, uint32_t object, uint32_t slot, uint32_t word,
                          uint32_t *records, size_t records_length,
                          uint32_t *slots, size_t slots_length);
 
+/*
+ * Stores nil or a pointer in a root.
+ * Tests: 20, 2, 7, 6, 23.
+ */
 pakzid_done pakzid_set_root(pakzid_control control, uint32_t index, uint32_t word,
                             const uint32_t *records, size_t records_length,
                             uint32_t *roots, size_t roots_length);
 
+/*
+ * Makes an object a sink, for good: no collection frees it, nor what it leads
+ * to, and a pointer to it does not count against a cluster. Meant for objects
+ * that very many others point to. Its own cluster is dissolved. A second
+ * declaration is accepted and changes nothing. Goes through the whole heap;
+ * changes records only.
+ * Tests: 20, 2, 4, 21, 22.
+ */
 pakzid_done pakzid_declare_sink(pakzid_control control, uint32_t object,
                                 uint32_t *records, size_t records_length,
                                 uint32_t *slots, size_t slots_length,
                                 uint32_t *roots, size_t roots_length);
 
+/*
+ * Forms clusters for later collections, out of objects that are in none and
+ * were not written since the analysis before. The engine decides when; the game
+ * can't tell from any other answer whether it ran, but for `scanned`. Changes
+ * records and work only.
+ * Tests: 20, 2, 21.
+ */
 pakzid_analysed pakzid_analyse(pakzid_control control,
                                uint32_t *records, size_t records_length,
                                uint32_t *slots, size_t slots_length,
                                uint32_t *roots, size_t roots_length,
                                uint32_t *work, size_t work_length);
 
+/*
+ * The two collections. Each frees the objects that can't be reached along
+ * pointers from a root or a sink, and names them in the map: object i is bit
+ * i % 64 of map[i / 64]. Both keep the same objects. The plain one scans all
+ * that it keeps; that by clusters passes over the members of a cluster whose
+ * head it meets, unless they have pointers out of it. Roots stay as they are.
+ * Tests of both: 20, 2, 21.
+ */
 pakzid_collected pakzid_collect_plain(pakzid_control control,
                                       uint32_t *records, size_t records_length,
                                       uint32_t *slots, size_t slots_length,
@@ -118,7 +254,11 @@ pakzid_collected pakzid_collect_clusters(pakzid_control control,
                                          uint32_t *work, size_t work_length,
                                          uint64_t *map, size_t map_length);
 
-/* Allocate and write for a control record that is lent and changed. */
+/*
+ * Allocate and write for a control record that is lent and changed where it is.
+ * Tests, effects and refusals are those of the calls by value; a refused call
+ * leaves the control record as it was.
+ */
 
 pakzid_allocated_in_place pakzid_allocate_in_place(pakzid_control *control, uint32_t width,
                                                    uint32_t *records, size_t records_length,
@@ -128,5 +268,9 @@ pakzid_allocated_in_place pakzid_allocate_in_place(pakzid_control *control, uint
 uint32_t pakzid_write_in_place(pakzid_control *control, uint32_t object, uint32_t slot, uint32_t word,
                                uint32_t *records, size_t records_length,
                                uint32_t *slots, size_t slots_length);
+
+#ifdef __cplusplus
+}
+#endif
 
 #endif
