@@ -43,7 +43,7 @@ pub record Chained (n : ℕ) (recs : List ℕ) (link : ℕ → ℕ) (d : ℕ) : 
 abbrev pub handledState : Heap → ℕ → (ℕ → ℕ) → ℕ → ℕ
 handledState H d state = λ x. cond (eqb (H .cluster x) d) (d + 4096) (state x)
 
--- the older cluster d is handled: the pointers of its out members come next
+-- the older cluster d is handled: what its out members point at comes next
 unfoldable pub handled : Heap → ℕ → Memory → Memory
 handled H d m = inFront (visitWords 0 (outsBelow H d (H .n))) (withState (handledState H d (m .state)) m)
 

@@ -5,7 +5,7 @@ use crate::call::collect_by;
 use layout::answers::Collected;
 use layout::answers::Control;
 
-// Frees every object in use that no path of pointers leads to from a root or a sink. The map tells which.
+// Frees every object in use that cannot be reached along pointers from a root or a sink. The map tells which.
 pub fn collect_plain(
     c: Control,
     records: &mut [u32],
