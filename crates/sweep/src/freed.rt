@@ -43,7 +43,7 @@ fn freed_word(n: u32, j: u32, records: &[u32]) -> u64
 }
 
 // Fills the freed map.
-pub fn fill_map(n: u32, records: &[u32], map: &mut [u64])
+pub(crate) fn fill_map(n: u32, records: &[u32], map: &mut [u64])
     requires { ⌜ n ≤ objectMax ⌝ }
     requires { ⌜ mapLen n ≤ length (now map) ⌝ }
     ensures { λ _. ⌜ now (map .exit) ≡ S.freedMap n (now (records .entry)) (now (map .entry)) ⌝ }
@@ -108,7 +108,7 @@ fn free_word(base: u32, word: u64, records: &mut [u32], slots: &mut [u32])
 }
 
 // Frees every object whose bit is set in the map.
-pub fn free_all(map: &[u64], records: &mut [u32], slots: &mut [u32])
+pub(crate) fn free_all(map: &[u64], records: &mut [u32], slots: &mut [u32])
     requires { ⌜ length (now map) ≤ 64 ⌝ }
     ensures { λ _. ⌜ now (records .exit) ≡ S.inTurn S.clearRecord (numbersIn 0 (now (map .entry))) (now (records .entry)) ⌝ }
     ensures { λ _. ⌜ now (slots .exit) ≡ S.inTurn S.clearSlots (numbersIn 0 (now (map .entry))) (now (slots .entry)) ⌝ }
