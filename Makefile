@@ -1,5 +1,6 @@
 # make           build/libpakzid.a, build/pakzid.h and build/pakzid.pc
 # make test      the whole gate: C tests, example, proofs, must-fail edits, programs (bash .ci/run)
+# make run       the report of an example level (the program replay)
 # make bench     times against the C reference and a baseline in C, on standard output
 # make install   library, header and pkg-config file to PREFIX (with DESTDIR before it)
 
@@ -30,6 +31,10 @@ build build/bench:
 test:
 	bash .ci/run
 
+run:
+	rt check replay
+	target/bin/replay examples/trials.calls
+
 build/bench/bench: $(reference)/bench.c $(reference)/reference.c $(reference)/baseline.c build/libpakzid.a | build/bench
 	gcc -std=c11 -O2 -Wall -Wextra -I include -I $(reference) -o $@ $^
 
@@ -44,4 +49,4 @@ install: all
 
 FORCE:
 
-.PHONY: all test bench install FORCE
+.PHONY: all test run bench install FORCE

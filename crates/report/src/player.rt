@@ -1,0 +1,125 @@
+// A list that is run on a column's buffers, line by line.
+use crate::memory::MAP;
+use crate::memory::RECORDS;
+use crate::memory::ROOTS;
+use crate::memory::SLOTS;
+use crate::memory::WORK;
+use crate::phrases::ANALYSE;
+use crate::phrases::NO_CALL;
+use crate::phrases::parts_of;
+use crate::reading::FAILED;
+use crate::reading::LINE;
+use crate::reading::Source;
+use crate::reading::next_line;
+use crate::reading::parsed;
+use crate::text::SHEET;
+use calls::Ran;
+use calls::compare::plainly;
+use calls::run;
+use layout::answers::Control;
+use lines::Line;
+
+// How a player stands: on its way to the next call, at a call that was run, at an analysis that was run, behind the last line.
+pub const READING: u32 = 0;
+
+pub const AT_CALL: u32 = 1;
+
+pub const AT_ANALYSIS: u32 = 2;
+
+pub const DONE: u32 = 3;
+
+// A list that is run, plainly or as it says: the line run last, and what it answered.
+pub struct Player {
+    pub source: Source,
+    pub plain: bool,
+    pub line: Line,
+    pub ran: Ran,
+    pub state: u32,
+}
+
+fn no_control() -> Control {
+    Control {
+        n: 0,
+        r: 0,
+        last: 0,
+        limit: 0,
+        write_loss: 0,
+        out_loss: 0,
+    }
+}
+
+pub fn start(source: Source, plain: bool) -> Player {
+    Player {
+        source,
+        plain,
+        line: Line::Nothing,
+        ran: Ran {
+            refusal: 0,
+            a: 0,
+            b: 0,
+            c: 0,
+            control: no_control(),
+        },
+        state: READING,
+    }
+}
+
+// The player in another state.
+pub fn standing(p: Player, state: u32) -> Player {
+    let source = p.source;
+    let line = p.line;
+    let ran = p.ran;
+    Player {
+        source,
+        plain: p.plain,
+        line,
+        ran,
+        state,
+    }
+}
+
+// The line as the player runs it.
+fn as_run(line: Line, plain: bool) -> Line {
+    if plain { plainly(line) } else { line }
+}
+
+fn state_after(line: Line) -> u32 {
+    let p = parts_of(line);
+    let kind = p.kind;
+    match kind {
+        NO_CALL => READING,
+        ANALYSE => AT_ANALYSIS,
+        _ => AT_CALL,
+    }
+}
+
+// Runs the next line.
+pub fn step(
+    p: Player,
+    sheet: &mut [u8; SHEET],
+    records: &mut [u32; RECORDS],
+    slots: &mut [u32; SLOTS],
+    roots: &mut [u32; ROOTS],
+    work: &mut [u32; WORK],
+    map: &mut [u64; MAP],
+) -> Player {
+    let old = p.source;
+    let source = next_line(old, sheet);
+    if source.state == FAILED {
+        os::fail(b"read");
+    }
+    if source.state != LINE {
+        return standing(p, DONE);
+    }
+    let line = as_run(parsed(source, sheet), p.plain);
+    let before = p.ran;
+    let control = before.control;
+    let ran = run(line, control, records, slots, roots, work, map);
+    Player {
+        source,
+        plain: p.plain,
+        line,
+        ran,
+        state: state_after(line),
+    }
+}
