@@ -22,6 +22,7 @@ pub record Work : Type 0 where
   pub seen : ℕ → Bool
   pub cl : ℕ → ℕ
 
+-- the objects of a list, each to be visited with cluster c passed ("Analysis")
 unfoldable pub items : ℕ → List ℕ → List Item
 items c [] = []
 items c (x ∷ l) = record { obj = x; passed = c } ∷ items c l
@@ -35,6 +36,7 @@ bars H o = H .written o || H .sink o
 pub data Visit : Type 0 where
   skip older alone join head : Visit
 
+-- the visit, by: 0 or seen, in an older cluster, barred, the passed cluster has room ("Analysis")
 unfoldable pub pick : Bool → Bool → Bool → Bool → Visit
 pick true b c d = skip
 pick false true c d = older
@@ -42,6 +44,7 @@ pick false false true d = alone
 pick false false false true = join
 pick false false false false = head
 
+-- what a visit to o, with c passed, does ("Analysis")
 unfoldable pub kind : Heap → ℕ → (ℕ → Bool) → (ℕ → ℕ) → ℕ → ℕ → Visit
 kind H limit seen cl o c =
     pick (eqb o 0 || seen o) (not (eqb (cl o) 0)) (bars H o) (not (eqb c 0) && leb (size (H .n) cl c + 1) limit)
@@ -74,13 +77,16 @@ clBy cl o c alone = cl
 clBy cl o c join = upd cl o c
 clBy cl o c head = upd cl o o
 
+-- the walk after that visit ("Analysis")
 unfoldable pub act : Heap → (ℕ → Bool) → (ℕ → ℕ) → ℕ → ℕ → List Item → Visit → Work
 act H seen cl o c rest v = record { todo = pushed H cl o c v ++ rest; seen = seenBy seen cl o v; cl = clBy cl o c v }
 
+-- the walk after its next visit, if one is left ("Analysis")
 unfoldable pub visit : Heap → ℕ → (ℕ → Bool) → (ℕ → ℕ) → List Item → Work
 visit H limit seen cl [] = record { todo = []; seen = seen; cl = cl }
 visit H limit seen cl (i ∷ rest) = act H seen cl (i .obj) (i .passed) rest (kind H limit seen cl (i .obj) (i .passed))
 
+-- one step of the walk ("Analysis")
 unfoldable pub step : Heap → ℕ → Work → Work
 step H limit w = visit H limit (w .seen) (w .cl) (w .todo)
 
@@ -92,6 +98,7 @@ begin H from = record { todo = items 0 from; seen = λ x. false; cl = H .cluster
 unfoldable pub needed : Heap → Work → ℕ
 needed H w = length (w .todo) + sum (H .n) (λ x. cond (w .seen x) 0 (length (H .kids x)))
 
+-- the walk to its end ("Analysis")
 unfoldable pub finish : Heap → ℕ → Work → Work
 finish H limit w = Run.finish (step H limit) (needed H) w
 
@@ -123,6 +130,7 @@ module _ (P : Rule) (H : Heap) (cl : ℕ → ℕ) where
   unfoldable pub few : ℕ → Bool
   few c = ltb (size (H .n) cl c) (P .least)
 
+  -- an older cluster stays, and a new one that is neither over nor few ("Analysis")
   unfoldable pub stays : ℕ → Bool
   stays c = not (isNew c && (over c || few c))
 
@@ -141,6 +149,7 @@ pub record Analysed : Type 0 where
   pub clusters : ℕ
   pub members : ℕ
 
+-- the heap, the out loss and the counts that an analysis with this limit leaves ("Analysis")
 unfoldable pub analyse : Rule → Heap → ℕ → List ℕ → Analysed
 analyse P H limit roots =
     record {

@@ -37,6 +37,7 @@ lowestOf zero true x = x
 lowestOf zero false x = zero
 lowestOf (suc m) b x = suc m
 
+-- by going up: what the numbers before gave decides first
 unfoldable pub lowest : (ℕ → Bool) → ℕ → ℕ
 lowest t zero = zero
 lowest t (suc n) = lowestOf (lowest t n) (t (suc n)) (suc n)

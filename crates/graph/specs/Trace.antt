@@ -15,9 +15,11 @@ pub data Flag : Type 0 where
   marked postponed reached : Flag
   deriving Discrete as Flag-discrete
 
+-- which flag stands at which object ("Collection")
 abbrev pub Flags : Type 0
 Flags = Flag → ℕ → Bool
 
+-- whether two flags are the same
 unfoldable pub sameFlag : Flag → Flag → Bool
 sameFlag marked marked = true
 sameFlag marked postponed = false
@@ -33,6 +35,7 @@ sameFlag reached reached = true
 unfoldable pub setFlag : Flags → Flag → ℕ → Bool → Flags
 setFlag s f o b g x = cond (sameFlag f g && eqb x o) b (s g x)
 
+-- no flag stands anywhere
 unfoldable pub noFlags : Flags
 noFlags f x = false
 
@@ -51,12 +54,15 @@ module _ (H : Heap) where
   unfoldable pub scan : ℕ → Walk → Walk
   scan o w = record { flags = setFlag (w .flags) marked o true; todo = targets H o ++ w .todo; scanned = suc (w .scanned) }
 
+  -- member o waits ("Collection")
   unfoldable pub postpone : ℕ → Walk → Walk
   postpone o w = record { flags = setFlag (w .flags) postponed o true; todo = w .todo; scanned = w .scanned }
 
+  -- o waits no longer ("Collection")
   unfoldable pub unpostpone : ℕ → Walk → Walk
   unpostpone o w = record { flags = setFlag (w .flags) postponed o false; todo = w .todo; scanned = w .scanned }
 
+  -- the cluster of head h is reached ("Collection")
   unfoldable pub arrive : ℕ → Walk → Walk
   arrive h w = record { flags = setFlag (w .flags) reached h true; todo = w .todo; scanned = w .scanned }
 
@@ -82,6 +88,7 @@ module _ (H : Heap) where
   visitBy false false false true o w = w
   visitBy false false false false o w = postpone o w
 
+  -- a visit to o ("Collection")
   unfoldable pub visit : ℕ → Walk → Walk
   visit o w = visitBy (eqb (cluster o) 0) (eqb (cluster o) o) (w .flags marked o) (w .flags reached (cluster o)) o w
 
@@ -101,6 +108,7 @@ module _ (H : Heap) where
   stepBy [] w = take (lowest (λ x. w .flags postponed x) n) w
   stepBy (o ∷ rest) w = visit o (record { flags = w .flags; todo = rest; scanned = w .scanned })
 
+  -- one step of the walk ("Collection")
   unfoldable pub step : Walk → Walk
   step w = stepBy (w .todo) w
 
@@ -118,6 +126,7 @@ module _ (H : Heap) where
   unfoldable pub needed : Walk → ℕ
   needed w = 2 * weight w + count n (λ x. w .flags postponed x)
 
+  -- the walk to its end ("Collection")
   unfoldable pub finish : Walk → Walk
   finish w = Run.finish step needed w
 

@@ -14,10 +14,12 @@ unfoldable pub nth : {A : Type 0} → A → List A → ℕ → A
 nth d l zero = d
 nth d l (suc i) = getD l i d
 
+-- whether the list has the number
 unfoldable pub has : List ℕ → ℕ → Bool
 has [] x = false
 has (y ∷ l) x = eqb x y || has l x
 
+-- the numbers 1 to n
 unfoldable pub upTo : ℕ → List ℕ
 upTo zero = []
 upTo (suc n) = upTo n ++ (suc n ∷ [])
@@ -36,6 +38,7 @@ heap kids written sinks clusters =
 
 -- ---- analyses
 
+-- a heap, the limit and the root of an analysis, and what it is to leave
 pub record Formed : Type 0 where
   pub start : Heap
   pub limit : ℕ
@@ -43,6 +46,7 @@ pub record Formed : Type 0 where
   pub clusters : List ℕ
   pub outLoss : ℕ
 
+-- the bounds of "Analysis"
 abbrev pub rule : Rule
 rule = record { outPerTen = 25; least = 4 }
 
@@ -52,9 +56,11 @@ formed t =
     let a = analyse rule (t .start) (t .limit) (t .root ∷ []) in
     a .outLoss ∷ map (a .heap .cluster) (upTo (t .start .n))
 
+-- what is expected
 unfoldable pub formedAs : Formed → List ℕ
 formedAs t = t .outLoss ∷ t .clusters
 
+-- the heaps of the analyses
 unfoldable pub analyses : List Formed
 analyses =
     -- a chain of nine at limit 8: eight join, the ninth heads a cluster of its own, which is too small
@@ -120,17 +126,20 @@ analyses =
 
 -- ---- collections
 
+-- a heap and the roots of a collection, and what it is to keep and scan
 pub record Traced : Type 0 where
   pub start : Heap
   pub roots : List ℕ
   pub scanned : ℕ
   pub kept : List Bool
 
+-- which objects are kept
 unfoldable pub kept : Traced → List Bool
 kept t =
     let w = traced (t .start) (starts (t .start) (t .roots)) in
     map (keeps (t .start) (w .flags)) (upTo (t .start .n))
 
+-- how many are scanned
 unfoldable pub scanned : Traced → ℕ
 scanned t = traced (t .start) (starts (t .start) (t .roots)) .scanned
 
@@ -138,9 +147,11 @@ scanned t = traced (t .start) (starts (t .start) (t .roots)) .scanned
 unfoldable pub six : List ℕ → List ℕ → List ℕ → List (List ℕ)
 six more of4 of5 = (2 ∷ 3 ∷ more) ∷ (4 ∷ []) ∷ (5 ∷ []) ∷ (6 ∷ of4) ∷ of5 ∷ [] ∷ [] ∷ []
 
+-- six members of cluster 1
 unfoldable pub all1 : List ℕ
 all1 = 1 ∷ 1 ∷ 1 ∷ 1 ∷ 1 ∷ 1 ∷ []
 
+-- the heaps of the collections
 unfoldable pub collections : List Traced
 collections =
     -- the head is reached: nothing is scanned, all six are kept

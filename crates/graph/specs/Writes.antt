@@ -47,6 +47,7 @@ lossBy false H o = 0
 unfoldable pub store : Heap → ℕ → ℕ → ℕ → Heap
 store H o k t = storeBy (dissolves H o k t) H o k t
 
+-- by how much write loss grows ("Writes and sinks")
 unfoldable pub lossOf : Heap → ℕ → ℕ → ℕ → ℕ
 lossOf H o k t = lossBy (dissolves H o k t) H o
 

@@ -19,9 +19,11 @@ badControl c =
 unfoldable pub newControl : ℕ → ℕ → Control
 newControl n r = record { n = n; r = r; last = 0; limit = 0; «write_loss» = 0; «out_loss» = 0 }
 
+-- the control record with another last number ("The heap")
 unfoldable pub withLast : ℕ → Control → Control
 withLast i c = record { n = c .n; r = c .r; last = i; limit = c .limit; «write_loss» = c .«write_loss»; «out_loss» = c .«out_loss» }
 
+-- the control record with another write loss ("The heap")
 unfoldable pub withWriteLoss : ℕ → Control → Control
 withWriteLoss k c = record { n = c .n; r = c .r; last = c .last; limit = c .limit; «write_loss» = k; «out_loss» = c .«out_loss» }
 

@@ -3,9 +3,11 @@ use mathlib.Core.Bool.{Bool, _&&_}
 use Prim.Native.Nat.{ℕ, _+_, _*_, _/_}
 use lib.Dec.{leb}
 
+-- the most objects of a heap ("The heap")
 abbrev pub objectMax : ℕ
 objectMax = 4095
 
+-- the most roots of a heap ("The heap")
 abbrev pub rootMax : ℕ
 rootMax = 64
 
@@ -17,6 +19,7 @@ widthMax = 8
 abbrev pub limitMin : ℕ
 limitMin = 8
 
+-- the highest size limit ("Analysis")
 abbrev pub limitMax : ℕ
 limitMax = 4095
 
@@ -24,9 +27,11 @@ limitMax = 4095
 unfoldable pub slotsLen : ℕ → ℕ
 slotsLen n = widthMax * n
 
+-- work ("The heap")
 unfoldable pub workLen : ℕ → ℕ
 workLen n = 10 * n + rootMax
 
+-- the freed map ("The heap")
 unfoldable pub mapLen : ℕ → ℕ
 mapLen n = n / 64 + 1
 

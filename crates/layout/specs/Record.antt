@@ -7,12 +7,15 @@ use Rattle.layout.specs.Field.{field, put, flag, putFlag}
 
 -- ---- reading
 
+-- the object exists ("The heap")
 abbrev pub inUse : ℕ → Bool
 inUse r = flag 0 r
 
+-- stored into since the last analysis ("The heap")
 abbrev pub isWritten : ℕ → Bool
 isWritten r = flag 1 r
 
+-- immortal, and a start of every walk ("The heap")
 abbrev pub isSink : ℕ → Bool
 isSink r = flag 2 r
 
@@ -24,12 +27,15 @@ isOut r = flag 3 r
 abbrev pub isMarked : ℕ → Bool
 isMarked r = flag 4 r
 
+-- a member that waits for its head ("Collection")
 abbrev pub isPostponed : ℕ → Bool
 isPostponed r = flag 5 r
 
+-- a head whose cluster is kept whole ("Collection")
 abbrev pub isReached : ℕ → Bool
 isReached r = flag 6 r
 
+-- how many slots are used ("The heap")
 abbrev pub width : ℕ → ℕ
 width r = field 8 4 r
 
@@ -39,30 +45,39 @@ cluster r = field 16 12 r
 
 -- ---- setting, each field by itself: all other bits stay
 
+-- bit 0
 abbrev pub withUse : Bool → ℕ → ℕ
 withUse b r = putFlag 0 b r
 
+-- bit 1
 abbrev pub withWritten : Bool → ℕ → ℕ
 withWritten b r = putFlag 1 b r
 
+-- bit 2
 abbrev pub withSink : Bool → ℕ → ℕ
 withSink b r = putFlag 2 b r
 
+-- bit 3
 abbrev pub withOut : Bool → ℕ → ℕ
 withOut b r = putFlag 3 b r
 
+-- bit 4
 abbrev pub withMarked : Bool → ℕ → ℕ
 withMarked b r = putFlag 4 b r
 
+-- bit 5
 abbrev pub withPostponed : Bool → ℕ → ℕ
 withPostponed b r = putFlag 5 b r
 
+-- bit 6
 abbrev pub withReached : Bool → ℕ → ℕ
 withReached b r = putFlag 6 b r
 
+-- bits 8 to 11
 abbrev pub withWidth : ℕ → ℕ → ℕ
 withWidth w r = put 8 4 w r
 
+-- bits 16 to 27
 abbrev pub withCluster : ℕ → ℕ → ℕ
 withCluster c r = put 16 12 c r
 
@@ -76,6 +91,7 @@ newRecord w = withWidth w (withUse true 0)
 
 -- ---- legality
 
+-- no object: the record is 0 and nothing else is ("The heap")
 unfoldable pub free : ℕ → Bool
 free r = eqb r 0
 

@@ -3,6 +3,7 @@ use mathlib.Core.Bool.{Bool, cond}
 use mathlib.Core.List.{List, [], _∷_}
 use Prim.Native.Nat.{ℕ, zero, suc}
 
+-- a number and whether its condition holds ("From the state")
 abbrev pub Test : Type 0
 Test = ℕ × Bool
 

@@ -33,9 +33,11 @@ noRoot = 7
 
 -- ---- from the state
 
+-- the control record is not in order
 abbrev pub badControl : ℕ
 badControl = 20
 
+-- a record, or the heap, breaks its rules
 abbrev pub damaged : ℕ
 damaged = 21
 

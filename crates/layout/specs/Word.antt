@@ -6,6 +6,7 @@ use Rattle.layout.specs.Limits.{objectMax, within}
 use Rattle.layout.specs.declared.words.Word.{Word}
 use Rattle.layout.specs.declared.words.Word.the-variants.{Nil, Object, Immediate, Illegal}
 
+-- no object ("The heap")
 unfoldable pub isNil : ℕ → Bool
 isNil w = eqb w 0
 
@@ -13,6 +14,7 @@ isNil w = eqb w 0
 unfoldable pub isPointer : ℕ → ℕ → Bool
 isPointer n w = within 1 n w
 
+-- a value of the game's own ("The heap")
 unfoldable pub isImmediate : ℕ → Bool
 isImmediate w = leb (2 ^ 31) w
 

@@ -20,6 +20,7 @@ unfoldable pub firstOf : (ℕ → Bool) → List ℕ → ℕ
 firstOf t [] = 0
 firstOf t (x ∷ l) = cond (t x) x (firstOf t l)
 
+-- what allocate answers and leaves
 pub record Outcome : Type 0 where
   pub answer : Allocated
   pub records : List ℕ
@@ -34,10 +35,12 @@ module _ (c : Control) (width : ℕ) (recs slots : List ℕ) where
   unfoldable pub given : ℕ
   given = firstOf (λ x. free (recOf (c .n) recs x)) (candidates (c .last) (c .n))
 
+  -- its tests in their order ("From the state")
   unfoldable pub allocateTests : List Test
   allocateTests =
       (20, badControl c) ∷ (2, short (c .n) recs || short (slotsLen (c .n)) slots) ∷ (3, ltb widthMax width) ∷ (24, eqb given 0) ∷ []
 
+  -- the outcome ("The heap")
   unfoldable pub allocate : Outcome
   allocate =
       outcome allocateTests

@@ -25,6 +25,7 @@ least = 4
 abbrev pub outPerTen : ℕ
 outPerTen = 25
 
+-- both bounds together ("Analysis")
 abbrev pub rule : Rule
 rule = record { outPerTen = outPerTen; least = least }
 
@@ -34,9 +35,11 @@ nextLimit c used =
     max limitMin
     (min limitMax (cond (eqb (c .limit) 0) (used / 16) (cond (ltb (c .«out_loss») (c .«write_loss»)) (c .limit / 2) (2 * c .limit))))
 
+-- the objects in use, reachable or not ("Analysis")
 unfoldable pub usedCount : ℕ → List ℕ → ℕ
 usedCount n recs = count n (λ x. inUse (recOf n recs x))
 
+-- what analyse answers and leaves
 pub record Outcome : Type 0 where
   pub answer : Analysed
   pub records : List ℕ
@@ -47,12 +50,14 @@ abbrev pub gives : Analysed → List ℕ → List ℕ → Outcome
 gives a recs work = record { answer = a; records = recs; work = work }
 
 module _ (c : Control) (recs slots roots work : List ℕ) where
+  -- its tests in their order ("From the state")
   unfoldable pub analyseTests : List Test
   analyseTests =
       (20, badControl c)
       ∷ (2, short (c .n) recs || short (slotsLen (c .n)) slots || short (c .r) roots || short (workLen (c .n)) work)
       ∷ (21, not (wellFormed (c .n) (c .r) recs slots roots)) ∷ []
 
+  -- the size limit that the call works by and leaves ("Analysis")
   unfoldable pub limitAfter : ℕ
   limitAfter = nextLimit c (usedCount (c .n) recs)
 
@@ -60,6 +65,7 @@ module _ (c : Control) (recs slots roots work : List ℕ) where
   unfoldable pub analysed : Graph.Analysed
   analysed = Graph.analyse rule (view (c .n) recs slots) limitAfter (take (c .r) roots)
 
+  -- the outcome ("Analysis")
   unfoldable pub analyse : Outcome
   analyse =
       outcome analyseTests

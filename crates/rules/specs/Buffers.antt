@@ -27,6 +27,7 @@ eight slots (suc i) = take widthMax (drop (widthMax * i) slots)
 unfoldable pub usedWords : ℕ → List ℕ → List ℕ → ℕ → List ℕ
 usedWords n recs slots i = take (width (recOf n recs i)) (eight slots i)
 
+-- the unused ones
 unfoldable pub otherWords : ℕ → List ℕ → List ℕ → ℕ → List ℕ
 otherWords n recs slots i = drop (width (recOf n recs i)) (eight slots i)
 

@@ -18,6 +18,7 @@ use Rattle.rules.specs.Buffers.{short, recOf, eachFrom, eachRecord, each
 use Rattle.rules.specs.View.{view}
 use Rattle.rules.specs.WellFormed.{wellFormed}
 
+-- the two kinds ("Collection")
 pub data Kind : Type 0 where
   plainly byClusters : Kind
 
@@ -40,6 +41,7 @@ trace byClusters H from =
 
 -- ---- the sweep
 
+-- what a collection answers and leaves
 pub record Outcome : Type 0 where
   pub answer : Collected
   pub records : List ℕ
@@ -52,6 +54,7 @@ abbrev pub gives : Collected → List ℕ → List ℕ → List ℕ → List ℕ
 gives a recs slots work map = record { answer = a; records = recs; slots = slots; work = work; map = map }
 
 module _ (kind : Kind) (c : Control) (recs slots roots work map : List ℕ) where
+  -- its tests in their order ("From the state")
   unfoldable pub collectTests : List Test
   collectTests =
       (20, badControl c)
@@ -69,6 +72,7 @@ module _ (kind : Kind) (c : Control) (recs slots roots work map : List ℕ) wher
   unfoldable pub sweptRecord : Traced → ℕ → ℕ → ℕ
   sweptRecord t x r = cond (freedBy t x) 0 (cond (eqb (cluster r) 0 || t .heads (cluster r)) r (loose r))
 
+  -- what is left after a walk that told this ("Collection")
   unfoldable pub sweep : Traced → Outcome
   sweep t =
       record {
@@ -79,6 +83,7 @@ module _ (kind : Kind) (c : Control) (recs slots roots work map : List ℕ) wher
         map = eachFrom 0 (mapLen (c .n)) (λ j w. wordOf (freedBy t) j) map;
       }
 
+  -- the outcome ("Collection")
   unfoldable pub collect : Outcome
   collect =
       outcome collectTests

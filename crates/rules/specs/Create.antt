@@ -8,6 +8,7 @@ use Rattle.layout.specs.ControlRecord.{badSizes, newControl}
 use Rattle.layout.specs.Refusal.{Test, outcome}
 use Rattle.rules.specs.Buffers.{short, zeros}
 
+-- what create answers and leaves
 pub record Outcome : Type 0 where
   pub answer : Done
   pub records : List ℕ
@@ -19,6 +20,7 @@ abbrev pub gives : Done → List ℕ → List ℕ → List ℕ → Outcome
 gives a recs slots roots = record { answer = a; records = recs; slots = slots; roots = roots }
 
 module _ (n r : ℕ) (recs slots roots : List ℕ) where
+  -- its tests in their order ("From the input")
   unfoldable pub createTests : List Test
   createTests = (1, badSizes n r) ∷ (2, short n recs || short (slotsLen n) slots || short r roots) ∷ []
 

@@ -14,6 +14,7 @@ use Rattle.rules.specs.Buffers.{short, recOf}
 use Rattle.rules.specs.View.{view, laid}
 use Rattle.rules.specs.WellFormed.{wellFormed}
 
+-- what declare sink answers and leaves
 pub record Outcome : Type 0 where
   pub answer : Done
   pub records : List ℕ
@@ -23,11 +24,13 @@ abbrev pub gives : Done → List ℕ → Outcome
 gives a recs = record { answer = a; records = recs }
 
 module _ (c : Control) (i : ℕ) (recs slots roots : List ℕ) where
+  -- its tests in their order ("From the state")
   unfoldable pub declareTests : List Test
   declareTests =
       (20, badControl c) ∷ (2, short (c .n) recs || short (slotsLen (c .n)) slots || short (c .r) roots) ∷ (4, not (isPointer (c .n) i))
       ∷ (21, not (wellFormed (c .n) (c .r) recs slots roots)) ∷ (22, free (recOf (c .n) recs i)) ∷ []
 
+  -- the outcome ("Writes and sinks")
   unfoldable pub declareSink : Outcome
   declareSink =
       outcome declareTests

@@ -156,6 +156,7 @@ Led s x = Reach (targets (heapOf s)) (pointers (startsOf s)) x
 
 -- ---- collections
 
+-- the outcome of a collection
 abbrev pub collected : State → Kind → List ℕ → List ℕ → Collect.Outcome
 collected s kind work map = Collect.collect kind (s .control) (s .records) (s .slots) (s .roots) work map
 
@@ -164,6 +165,7 @@ abbrev pub Scans : State → Kind → Collected → Type 0
 Scans s plainly a = a .scanned ≡ a .kept
 Scans s byClusters a = (a .scanned ≤ a .kept) × (a .scanned ≡ traced (heapOf s) (startsOf s) .scanned)
 
+-- what a collection does
 pub record Collects (s : State) (kind : Kind) (work map : List ℕ) : Type 0 where
   pub accepted : collected s kind work map .answer .refusal ≡ 0
   -- an object in use is freed exactly if it is not so reached
@@ -189,6 +191,7 @@ pub record SameEnd (s : State) (work map : List ℕ) : Type 0 where
 
 -- ---- clusters
 
+-- the outcome of an analysis
 abbrev pub analysed : State → List ℕ → Analyse.Outcome
 analysed s work = Analyse.analyse (s .control) (s .records) (s .slots) (s .roots) work
 
@@ -214,6 +217,7 @@ walkedIn s work = walked (heapOf s) (limitIn s work) (rootsOf s)
 abbrev pub membersIn : State → List ℕ → ℕ → ℕ
 membersIn s work c = size (s .control .n) (walkedIn s work) c
 
+-- the out pointers of cluster c then
 abbrev pub outsIn : State → List ℕ → ℕ → ℕ
 outsIn s work c = outsOf (s .control .n) (heapOf s .kids) (heapOf s .sink) (walkedIn s work) c
 
@@ -278,6 +282,7 @@ refusalOf (declareSink i) s = DeclareSink.declareSink (s .control) i (s .records
 refusalOf (collect kind work map) s = collected s kind work map .answer .refusal
 refusalOf (analyse work) s = analysed s work .answer .refusal
 
+-- all of demand 2
 pub record Demand2 : Type 0 where
   pub collects : (s : State) → Made s → (kind : Kind) (work map : List ℕ) → workLen (s .control .n) ≤ length work
       → mapLen (s .control .n) ≤ length map → Collects s kind work map
@@ -321,6 +326,7 @@ ScansFew s (collect plainly work map) = Unit {0}
 ScansFew s (collect byClusters work map) = collected s byClusters work map .answer .scanned ≤ collected s byClusters work map .answer .kept
 ScansFew s (analyse work) = Unit {0}
 
+-- the same for each call of a list
 abbrev pub EachScansFew : List Call → State → Type 0
 EachScansFew [] s = Unit {0}
 EachScansFew (call ∷ l) s = ScansFew s call × EachScansFew l (step call s .after)
@@ -332,6 +338,7 @@ pub record Alike (n r : ℕ) (calls : List Call) (s : State) (P : Plain) : Type 
   pub roots : take r (afterAll step calls s .roots) ≡ afterAll plainStep calls P .roots
   pub scans : EachScansFew calls s
 
+-- all of demand 3
 abbrev pub Demand3 : Type 0
 Demand3 =
     (n r : ℕ) (recs slots roots : List ℕ) → Create.create n r recs slots roots .answer .refusal ≡ 0

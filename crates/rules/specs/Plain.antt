@@ -24,31 +24,38 @@ pub record Plain : Type 0 where
   pub roots : List ℕ
   pub cells : List Cell
 
+-- the plain heap at first
 unfoldable pub plainCreated : ℕ → ℕ → Plain
 plainCreated n r = record { last = 0; roots = replicate r 0; cells = replicate n free }
 
+-- the number is free
 unfoldable pub isFree : Cell → Bool
 isFree free = true
 isFree (object words sink) = false
 
+-- the words of its object, none for a free number
 unfoldable pub wordsIn : Cell → List ℕ
 wordsIn free = []
 wordsIn (object words sink) = words
 
+-- its object is a sink
 unfoldable pub isSink : Cell → Bool
 isSink free = false
 isSink (object words sink) = sink
 
+-- the cell of number i; 0 and numbers past the end are free
 unfoldable pub cellAt : List Cell → ℕ → Cell
 cellAt cells zero = free
 cellAt cells (suc i) = getD cells i free
 
 -- ---- what can be reached along pointers
 
+-- whether the list has the number
 unfoldable pub has : ℕ → List ℕ → Bool
 has x [] = false
 has x (y ∷ l) = eqb x y || has x l
 
+-- whether one of the list passes
 unfoldable pub anyOf : (ℕ → Bool) → List ℕ → Bool
 anyOf t [] = false
 anyOf t (y ∷ l) = t y || anyOf t l
@@ -57,14 +64,17 @@ anyOf t (y ∷ l) = t y || anyOf t l
 unfoldable pub round : ℕ → (ℕ → List ℕ) → List ℕ → List ℕ
 round n words l = gather n (λ x. has x l || anyOf (λ y. has x (words y)) l) (λ x. x ∷ [])
 
+-- k rounds
 unfoldable pub rounds : ℕ → (ℕ → List ℕ) → ℕ → List ℕ → List ℕ
 rounds n words zero l = l
 rounds n words (suc k) l = rounds n words k (round n words l)
 
 module _ (P : Plain) where
+  -- n
   abbrev pub plainSize : ℕ
   plainSize = length (P .cells)
 
+  -- the words of number x
   unfoldable pub plainWords : ℕ → List ℕ
   plainWords x = wordsIn (cellAt (P .cells) x)
 
@@ -78,29 +88,37 @@ module _ (P : Plain) where
 
   -- ---- tests
 
+  -- the number that allocate gives, 0 where none is free
   unfoldable pub plainGiven : ℕ
   plainGiven = firstOf (λ x. isFree (cellAt (P .cells) x)) (candidates (P .last) plainSize)
 
+  -- the tests of a named object
   unfoldable pub objectTests : ℕ → List Test
   objectTests i = (4, not (isPointer plainSize i)) ∷ (22, isFree (cellAt (P .cells) i)) ∷ []
 
+  -- and those of a slot of it
   unfoldable pub slotTests : ℕ → ℕ → List Test
   slotTests i k = objectTests i ++ ((5, leb (length (plainWords i)) k) ∷ [])
 
+  -- the word names a free number
   unfoldable pub namesFree : ℕ → Bool
   namesFree w = isPointer plainSize w && isFree (cellAt (P .cells) w)
 
   -- ---- effects
 
+  -- another cell for number i
   unfoldable pub withCell : ℕ → Cell → Plain
   withCell i cell = record { last = P .last; roots = P .roots; cells = set (P .cells) (i - 1) cell }
 
+  -- the cells with all but the listed numbers free
   unfoldable pub plainSwept : List ℕ → List Cell
   plainSwept l = eachFrom 1 plainSize (λ x cell. cond (has x l) cell free) (P .cells)
 
+  -- the objects that are then freed
   unfoldable pub plainFreed : List ℕ → ℕ → Bool
   plainFreed l x = not (isFree (cellAt (P .cells) x)) && not (has x l)
 
+  -- the words of their map
   unfoldable pub plainMap : List ℕ → List ℕ
   plainMap l = map (wordOf (plainFreed l)) (numbers 0 (mapLen plainSize))
 
@@ -109,9 +127,11 @@ pub record Played (A : Type 0) : Type 0 where
   pub answers : List Answer
   pub after : A
 
+-- one answer, and the heap after it
 unfoldable pub answer : {A : Type 0} → Answer → A → Played A
 answer a s = record { answers = a ∷ []; after = s }
 
+-- each call of the game; an analysis does nothing
 unfoldable pub plainStep : Call → Plain → Played Plain
 plainStep (allocate width) P =
     outcome ((3, ltb widthMax width) ∷ (24, eqb (plainGiven P) 0) ∷ [])
@@ -138,6 +158,7 @@ plainStep (analyse work) P = record { answers = []; after = P }
 unfoldable pub eightOf : Cell → List ℕ
 eightOf cell = wordsIn cell ++ replicate (8 - length (wordsIn cell)) 0
 
+-- all of them, one cell after the other
 unfoldable pub plainSlots : List Cell → List ℕ
 plainSlots [] = []
 plainSlots (cell ∷ l) = eightOf cell ++ plainSlots l

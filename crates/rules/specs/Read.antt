@@ -14,11 +14,13 @@ use Rattle.layout.specs.Refusal.{Test, outcome}
 use Rattle.rules.specs.Buffers.{short, recOf, usedWords}
 
 module _ (c : Control) (i k : ℕ) (recs slots : List ℕ) where
+  -- its tests in their order ("From the state")
   unfoldable pub readTests : List Test
   readTests =
       (20, badControl c) ∷ (2, short (c .n) recs || short (slotsLen (c .n)) slots) ∷ (4, not (isPointer (c .n) i))
       ∷ (21, damaged (c .n) (recOf (c .n) recs i)) ∷ (22, free (recOf (c .n) recs i)) ∷ (5, leb (width (recOf (c .n) recs i)) k) ∷ []
 
+  -- the answer ("The heap")
   unfoldable pub read : WordRead
   read =
       outcome readTests

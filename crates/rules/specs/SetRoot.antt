@@ -12,6 +12,7 @@ use Rattle.layout.specs.ControlRecord.{badControl}
 use Rattle.layout.specs.Refusal.{Test, outcome}
 use Rattle.rules.specs.Buffers.{short, recOf}
 
+-- what set root answers and leaves
 pub record Outcome : Type 0 where
   pub answer : Done
   pub roots : List ℕ
@@ -21,11 +22,13 @@ abbrev pub gives : Done → List ℕ → Outcome
 gives a roots = record { answer = a; roots = roots }
 
 module _ (c : Control) (j w : ℕ) (recs roots : List ℕ) where
+  -- its tests in their order ("From the state")
   unfoldable pub setRootTests : List Test
   setRootTests =
       (20, badControl c) ∷ (2, short (c .n) recs || short (c .r) roots) ∷ (7, leb (c .r) j) ∷ (6, not (isNil w || isPointer (c .n) w))
       ∷ (23, isPointer (c .n) w && not (legal (c .n) (recOf (c .n) recs w))) ∷ []
 
+  -- the outcome ("The heap")
   unfoldable pub setRoot : Outcome
   setRoot =
       outcome setRootTests

@@ -17,11 +17,13 @@ pub record Outcome : Type 0 where
   pub words : List ℕ
 
 module _ (c : Control) (i : ℕ) (recs slots : List ℕ) where
+  -- its tests in their order ("From the state")
   unfoldable pub showTests : List Test
   showTests =
       (20, badControl c) ∷ (2, short (c .n) recs || short (slotsLen (c .n)) slots) ∷ (4, not (isPointer (c .n) i))
       ∷ (21, damaged (c .n) (recOf (c .n) recs i)) ∷ (22, free (recOf (c .n) recs i)) ∷ []
 
+  -- the outcome ("The heap")
   unfoldable pub show : Outcome
   show =
       outcome showTests

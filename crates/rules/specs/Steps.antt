@@ -23,11 +23,13 @@ pub record State : Type 0 where
   pub slots : List ℕ
   pub roots : List ℕ
 
+-- the state that create leaves
 unfoldable pub created : ℕ → ℕ → List ℕ → List ℕ → List ℕ → State
 created n r recs slots roots =
     let o = Create.create n r recs slots roots in
     record { control = o .answer .control; records = o .records; slots = o .slots; roots = o .roots }
 
+-- a call in a state: what the game sees of its answer, and the state after it
 unfoldable pub step : Call → State → Played State
 step (allocate width) s =
     let o = Allocate.allocate (s .control) width (s .records) (s .slots) in
@@ -55,10 +57,12 @@ step (analyse work) s =
 -- ---- lists of calls, of either heap
 
 module _ {A : Type 0} (next : Call → A → Played A) where
+  -- the answers to a list of calls
   unfoldable pub answersOf : List Call → A → List Answer
   answersOf [] s = []
   answersOf (call ∷ l) s = next call s .answers ++ answersOf l (next call s .after)
 
+  -- the heap after it
   unfoldable pub afterAll : List Call → A → A
   afterAll [] s = s
   afterAll (call ∷ l) s = afterAll l (next call s .after)

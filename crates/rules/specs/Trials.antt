@@ -54,11 +54,13 @@ pub record Trial : Type 0 where
   pub answers : List ℕ
   pub stands : List ℕ
 
+-- what comes of a trial
 unfoldable pub told : Trial → List (List ℕ)
 told t =
     let s = afterAll step (t .before) (t .from) in
     answered (t .call) s ∷ standing (step (t .call) s .after) ∷ []
 
+-- what should
 unfoldable pub expected : Trial → List (List ℕ)
 expected t = t .answers ∷ t .stands ∷ []
 
@@ -68,12 +70,15 @@ expected t = t .answers ∷ t .stands ∷ []
 unfoldable pub new : ℕ → ℕ → State
 new n r = created n r (replicate (n + 1) 1) (replicate (8 * n + 1) 1) (replicate (r + 1) 1)
 
+-- an analysis with just enough work
 unfoldable pub analysis : ℕ → Call
 analysis n = analyse (replicate (10 * n + 64) 1)
 
+-- a collection by clusters with just enough work and map
 unfoldable pub clustered : ℕ → Call
 clustered n = collect byClusters (replicate (10 * n + 64) 1) (1 ∷ [])
 
+-- a plain one
 unfoldable pub plain : ℕ → Call
 plain n = collect plainly (replicate (10 * n + 64) 1) (1 ∷ [])
 
@@ -83,9 +88,11 @@ beforeH =
     allocate 3 ∷ allocate 1 ∷ allocate 1 ∷ allocate 1 ∷ allocate 1 ∷ allocate 1
     ∷ write 1 0 2 ∷ write 1 1 3 ∷ write 2 0 4 ∷ write 3 0 5 ∷ write 4 0 6 ∷ setRoot 0 1 ∷ []
 
+-- with both
 unfoldable pub heapH : List Call
 heapH = beforeH ++ (analysis 16 ∷ analysis 16 ∷ [])
 
+-- a trial from heap H on
 unfoldable pub onH : List Call → Call → List ℕ → List ℕ → Trial
 onH calls call answers stands = record { from = new 16 2; before = heapH ++ calls; call = call; answers = answers; stands = stands }
 
@@ -102,6 +109,7 @@ fan more =
 
 -- ---- the marked trials
 
+-- the rows marked P in "Trials"
 unfoldable pub marked : List Trial
 marked =
     -- the first analysis of H leaves nothing, the second has all six objects in cluster 1
@@ -160,6 +168,7 @@ given n limit loss recs slots root =
 unfoldable pub one : ℕ → List ℕ
 one a = a ∷ replicate 7 0
 
+-- two pointers
 unfoldable pub two : ℕ → ℕ → List ℕ
 two a b = a ∷ b ∷ replicate 6 0
 
@@ -167,11 +176,13 @@ two a b = a ∷ b ∷ replicate 6 0
 unfoldable pub rec : ℕ → ℕ → ℕ → ℕ
 rec width flags c = 1 + flags + 256 * width + 65536 * c
 
+-- a trial of one call
 unfoldable pub fresh : State → Call → List ℕ → List ℕ → Trial
 fresh s call answers stands = record { from = s; before = []; call = call; answers = answers; stands = stands }
 
 -- ---- what the walks do, by value
 
+-- rows of our own
 unfoldable pub ownRows : List Trial
 ownRows =
     -- a chain of nine at limit 8: eight join, the ninth heads a cluster of its own, which is too small
@@ -248,9 +259,11 @@ ownRows =
 unfoldable pub small : ℕ → ℕ → State
 small a b = given 2 0 0 (a ∷ b ∷ []) (one 2 ++ one 0) 1
 
+-- a sound control record, and no buffers
 unfoldable pub noBuffers : State
 noBuffers = given 2 0 0 [] [] 0
 
+-- neither
 unfoldable pub badControls : State
 badControls = given 4096 0 0 [] [] 0
 
@@ -262,12 +275,15 @@ full = given 2 8 2 (rec 1 0 1 ∷ rec 1 0 1 ∷ []) (one 2 ++ one 0) 1
 unfoldable pub lossy : State
 lossy = given 3 8 2 (rec 1 0 1 ∷ rec 1 0 1 ∷ 0 ∷ []) (one 2 ++ one 0 ++ one 0) 1
 
+-- a call that is refused and changes nothing
 unfoldable pub refused : State → Call → List ℕ → Trial
 refused s call answers = fresh s call answers (standing s)
 
+-- an analysis that is lent no work
 unfoldable pub noWork : Call
 noWork = analyse []
 
+-- one row for each pair of neighbours in a call's order that can both hold
 unfoldable pub refusals : List Trial
 refusals =
     -- 20 and 2
@@ -315,6 +331,7 @@ refusals =
     ∷ refused (small 257 0) (setRoot 1 2) (7 ∷ [])
     ∷ []
 
+-- the whole table
 unfoldable pub table : List Trial
 table = marked ++ ownRows ++ refusals
 

@@ -12,6 +12,7 @@ use Rattle.rules.specs.Buffers.{recOf, usedWords, eachRecord}
 unfoldable pub target : ℕ → ℕ → ℕ
 target n w = cond (leb w n) w 0
 
+-- pointers, sinks, written bits, clusters and out bits as the buffers have them
 unfoldable pub view : ℕ → List ℕ → List ℕ → Heap
 view n recs slots =
     record {

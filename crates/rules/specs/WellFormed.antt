@@ -41,6 +41,7 @@ module _ (n : ℕ) (recs slots : List ℕ) where
 unfoldable pub rootsNamed : ℕ → ℕ → List ℕ → List ℕ → List ℕ → Bool
 rootsNamed n r recs slots roots = allOf (λ w. isNil w || names n recs slots w) (take r roots)
 
+-- all rules together
 unfoldable pub wellFormed : ℕ → ℕ → List ℕ → List ℕ → List ℕ → Bool
 wellFormed n r recs slots roots =
     allTo n (legalAt n recs slots) && allTo n (emptyAt n recs slots) && allTo n (wordsAt n recs slots)

@@ -16,6 +16,7 @@ use Rattle.graph.specs.Writes.{store, lossOf}
 use Rattle.rules.specs.Buffers.{short, recOf}
 use Rattle.rules.specs.View.{target, view, laid}
 
+-- what write answers and leaves
 pub record Outcome : Type 0 where
   pub answer : Done
   pub records : List ℕ
@@ -34,12 +35,14 @@ module _ (c : Control) (i k w : ℕ) (recs slots : List ℕ) where
   unfoldable pub lossAfter : ℕ
   lossAfter = c .«write_loss» + lossOf before i k (target (c .n) w)
 
+  -- its tests in their order ("From the state")
   unfoldable pub writeTests : List Test
   writeTests =
       (20, badControl c) ∷ (2, short (c .n) recs || short (slotsLen (c .n)) slots) ∷ (4, not (isPointer (c .n) i))
       ∷ (21, damaged (c .n) (recOf (c .n) recs i)) ∷ (22, free (recOf (c .n) recs i)) ∷ (5, leb (width (recOf (c .n) recs i)) k)
       ∷ (6, not (legalWord (c .n) w)) ∷ (23, isPointer (c .n) w && not (legal (c .n) (recOf (c .n) recs w))) ∷ (25, ltb (c .n) lossAfter) ∷ []
 
+  -- the outcome ("Writes and sinks")
   unfoldable pub write : Outcome
   write =
       outcome writeTests
