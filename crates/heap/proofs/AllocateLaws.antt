@@ -10,21 +10,21 @@ use lib.ListN.{length, getD, set}
 use borrow.Author.Tests.{lt-ltb, le-ltb, ltb-false, eq-eqb, ne-eqb, eqb-false}
 use Rattle.layout.specs.declared.answers.Control.{Control}
 use Rattle.layout.specs.Limits.{slotsLen}
-use Rattle.layout.specs.Record.{free, newRecord}
+use Rattle.records.specs.Record.{free, newRecord}
 use Rattle.layout.specs.ControlRecord.{badControl, withLast}
 use Rattle.layout.specs.Refusal.{first, by, outcome}
 use Rattle.layout.proofs.ControlLaws.{control-facts}
-use Rattle.layout.proofs.RecordLaws.{zero-free, nonzero-free}
+use Rattle.records.proofs.RecordLaws.{zero-free, nonzero-free}
 use Rattle.layout.proofs.RefusalLaws.{first-passed, outcome-zero, outcome-number}
 use Rattle.rules.specs.Buffers.{short, recOf, numbers, eachRecord, eachSlot}
 use Rattle.rules.specs.Allocate.{firstOf, candidates, given, allocateTests}
 use Rattle.rules.specs.Allocate as Allocate
 use Rattle.rules.proofs.BufferLaws.{recOf-get, record-one}
 use Rattle.heap.specs.Choice.{choice}
-use Rattle.heap.specs.Cleared.{cleared}
+use Rattle.table.specs.Cleared.{cleared}
 use Rattle.heap.specs.declared.allocate.Choice.{Choice}
 use Rattle.heap.specs.declared.allocate.Choice.the-variants.{Object, Refusal}
-use Rattle.heap.proofs.ClearedLaws.{cleared-object}
+use Rattle.table.proofs.ClearedLaws.{cleared-object}
 use Rattle.rules.proofs.BoolLaws.{or-split}
 use Rattle.rules.proofs.SearchLaws.{firstOf-found, candidates-of, firstOf-here, firstOf-next, firstOf-none, firstOf-rest, firstOf-front}
 
@@ -167,13 +167,13 @@ module _ (c : Control) (width : ℕ) (recs slots : List ℕ) where
       go zero z e = passes x z (ap objectOf e)
       go (suc m) z e = let q : 0 ≡ suc (suc m) = ap refusalOf e in absurd (omega arith)
 
-  pub accepted : (x : ℕ) → Object x ≡ choice c width recs slots → (v s e : ℕ) (slots′ : List ℕ) (d : Control)
-      → v ≡ newRecord width → s ≡ slotsLen (x - 1) → e ≡ slotsLen x → slots′ ≡ cleared s e slots → d ≡ withLast x c
+  pub accepted : (x : ℕ) → Object x ≡ choice c width recs slots → (v s : ℕ) (slots′ : List ℕ) (d : Control)
+      → v ≡ newRecord width → s ≡ slotsLen (x - 1) → slots′ ≡ cleared s (s + 8) slots → d ≡ withLast x c
       → Allocate.gives (record { refusal = 0; object = x; control = d }) (set recs (x - 1) v) slots′ ≡ Allocate.allocate c width recs slots
   unfolding Allocate.allocate slotsLen
-  accepted x o v s e slots′ d h p q r k =
+  accepted x o v s slots′ d h p r k =
       let G = given-facts x o in
-      rw (k, r, h, p, q)
+      rw (k, r, h, p)
       (ap₂ (λ (a b : List ℕ). Allocate.gives (record { refusal = 0; object = x; control = withLast x c }) a b)
       (sym (record-one (c .n) x (G .low) (G .high) (newRecord width) recs)) (cleared-object (c .n) x slots (G .low) (G .high))
       ∙ ap (λ (g : ℕ). Allocate.gives (record { refusal = 0; object = g; control = withLast g c })

@@ -10,14 +10,14 @@ use lib.ListN.{length, getD}
 use borrow.Author.Tests.{le-leb, lt-leb}
 use Rattle.layout.specs.declared.answers.Control.{Control}
 use Rattle.layout.specs.declared.answers.WordRead.{WordRead}
-use Rattle.layout.specs.Record.{width}
+use Rattle.records.specs.Record.{width}
 use Rattle.layout.specs.Refusal.{Test, first}
 use Rattle.layout.proofs.RefusalLaws.{first-front, first-holds, first-fails, outcome-zero, outcome-number}
 use Rattle.rules.specs.Buffers.{recOf}
 use Rattle.rules.specs.Show.{showTests}
 use Rattle.rules.specs.Read as Read
 use Rattle.rules.proofs.BufferLaws.{used-get}
-use Rattle.heap.proofs.NamedLaws.{named, named-rest}
+use Rattle.table.proofs.NamedLaws.{named, named-rest}
 
 module _ (c : Control) (i k : ℕ) (recs slots : List ℕ) where
   abbrev slot-test : List Test

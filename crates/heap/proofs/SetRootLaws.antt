@@ -10,7 +10,7 @@ use borrow.Author.Tests.{lt-ltb, le-ltb, le-leb, lt-leb, ltb-false, leb-false, l
 use Rattle.layout.specs.declared.answers.Control.{Control}
 use Rattle.layout.specs.declared.words.Word.{Word}
 use Rattle.layout.specs.declared.words.Word.the-variants.{Nil, Object, Immediate, Illegal}
-use Rattle.layout.specs.Record.{legal}
+use Rattle.records.specs.Record.{legal}
 use Rattle.layout.specs.Word.{isNil, isPointer, isImmediate, legalWord, sortOf}
 use Rattle.layout.specs.ControlRecord.{badControl}
 use Rattle.layout.specs.Refusal.{first}

@@ -6,13 +6,13 @@ use mathlib.Core.Logic.{_≢_}
 use native.Mathlib.Omega.{arith}
 use lib.ListN.{length, getD, take, drop}
 use Rattle.layout.specs.declared.answers.Control.{Control}
-use Rattle.layout.specs.Record.{width}
+use Rattle.records.specs.Record.{width}
 use Rattle.layout.specs.Refusal.{first}
 use Rattle.layout.proofs.RefusalLaws.{outcome-zero, outcome-number}
 use Rattle.rules.specs.Show.{showTests}
 use Rattle.rules.specs.Show as Show
 use Rattle.rules.proofs.BufferLaws.{used-part}
-use Rattle.heap.proofs.NamedLaws.{named}
+use Rattle.table.proofs.NamedLaws.{named}
 
 module _ (c : Control) (i : ℕ) (recs slots : List ℕ) where
   -- the two outcomes

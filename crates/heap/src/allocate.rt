@@ -3,22 +3,22 @@ ghost use mathlib.Core.Path.{_≡_};
 ghost use Prim.Native.Nat.{suc, _-_, _≤_};
 ghost use lib.ListN.{length};
 ghost use Rattle.layout.specs.Limits.{objectMax};
-ghost use Rattle.layout.specs.Record.{free};
+ghost use Rattle.records.specs.Record.{free};
 ghost use Rattle.rules.specs.Buffers.{recOf, numbers};
 ghost use Rattle.rules.specs.Allocate as Allocate;
 ghost use Rattle.layout.specs.ControlRecord.{withLast};
 ghost use Rattle.heap.specs.Choice.{choice};
-use crate::buffers::clear;
 use layout::answers::Allocated;
 use layout::answers::Control;
 use layout::limits::WIDTH_MAX;
 use layout::limits::slots_len;
-use layout::records::new_record;
 use layout::refusals::BAD_CONTROL;
 use layout::refusals::FULL;
 use layout::refusals::TOO_SHORT;
 use layout::refusals::TOO_WIDE;
 use layout::refusals::bad_control;
+use records::new_record;
+use table::buffers::clear_eight;
 
 // The control record after object x is given.
 pub(crate) fn with_last(c: Control, x: u32) -> Control
@@ -100,7 +100,7 @@ pub fn allocate(c: Control, width: u32, records: &mut [u32], slots: &mut [u32]) 
         },
         Choice::Object(x) => {
             records[(x - 1) as usize] = new_record(width);
-            clear(slots, slots_len(x - 1), slots_len(x));
+            clear_eight(slots, slots_len(x - 1));
             Allocated {
                 refusal: 0,
                 object: x,

@@ -2,13 +2,13 @@
 ghost use mathlib.Core.Path.{_≡_};
 ghost use Rattle.layout.specs.ControlRecord.{newControl};
 ghost use Rattle.rules.specs.Create as Create;
-use crate::buffers::zero;
 use layout::answers::Control;
 use layout::answers::Done;
 use layout::limits::slots_len;
 use layout::refusals::BAD_SIZES;
 use layout::refusals::TOO_SHORT;
 use layout::refusals::bad_sizes;
+use table::buffers::zero;
 
 // The control record of a heap just created.
 pub(crate) fn new_control(n: u32, r: u32) -> Control

@@ -1,12 +1,6 @@
-// The game calls, one file each, and the check of a whole heap.
+// The game calls that leave the clusters as they are, one file each.
 pub mod allocate;
-pub mod buffers;
-pub mod check;
-pub mod clusters;
 pub mod create;
-pub mod declare_sink;
-pub mod named;
 pub mod read;
 pub mod set_root;
 pub mod show;
-pub mod write;

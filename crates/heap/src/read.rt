@@ -1,12 +1,12 @@
 // Read: one word of an object.
 ghost use mathlib.Core.Path.{_≡_};
 ghost use Rattle.rules.specs.Read as Read;
-use crate::named::object_refusal;
 use layout::answers::Control;
 use layout::answers::WordRead;
 use layout::limits::slots_len;
-use layout::records::width_of;
 use layout::refusals::NO_SLOT;
+use records::width_of;
+use table::named::object_refusal;
 
 pub fn read(c: Control, object: u32, slot: u32, records: &[u32], slots: &[u32]) -> WordRead
     ensures { λ a. ⌜ a ≡ Read.read c object slot (now (records .entry)) (now (slots .entry)) ⌝ }

@@ -4,7 +4,6 @@ ghost use Rattle.layout.specs.Refusal.{first};
 ghost use Rattle.rules.specs.SetRoot as SetRoot;
 use layout::answers::Control;
 use layout::answers::Done;
-use layout::records::legal;
 use layout::refusals::BAD_CONTROL;
 use layout::refusals::BAD_WORD;
 use layout::refusals::NAMES_NONE;
@@ -13,6 +12,7 @@ use layout::refusals::TOO_SHORT;
 use layout::refusals::bad_control;
 use layout::words::Word;
 use layout::words::sort_word;
+use records::legal;
 
 // The number of the first test that holds, 0 where none does.
 pub(crate) fn root_refusal(c: Control, index: u32, word: u32, records: &[u32], roots: &[u32]) -> u32

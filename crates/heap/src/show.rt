@@ -2,11 +2,11 @@
 ghost use mathlib.Core.Path.{_≡_};
 ghost use Prim.Native.Nat.{_+_, _*_};
 ghost use Rattle.rules.specs.Show as Show;
-use crate::named::object_refusal;
 use layout::answers::Control;
 use layout::answers::Part;
 use layout::limits::slots_len;
-use layout::records::width_of;
+use records::width_of;
+use table::named::object_refusal;
 
 // The part itself. `refusal` becomes 0, or the number of the refusal of an empty part.
 pub fn show<'a>(

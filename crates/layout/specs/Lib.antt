@@ -1,9 +1,7 @@
--- The layout of words, records, maps and the control record.
+-- The layout of words and the control record, the lengths and the refusals.
 pub mod Limits
 pub mod Field
-pub mod Record
 pub mod Word
-pub mod Bits
 pub mod ControlRecord
 pub mod Refusal
 pub mod RefusalNumbers

@@ -13,7 +13,7 @@ use lib.Seq.{drop-set-lt}
 use borrow.Author.Tests.{leb-true, le-leb, lt-ltb, le-ltb}
 use Rattle.layout.specs.Limits.{objectMax, within}
 use Rattle.layout.specs.Field.{field}
-use Rattle.layout.specs.Record.{cluster}
+use Rattle.records.specs.Record.{cluster}
 use Rattle.graph.specs.Numbers.{upd}
 use Rattle.graph.proofs.NumberLaws.{upd-same, upd-other}
 use Rattle.rules.specs.Buffers.{recOf, short}

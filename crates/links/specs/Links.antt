@@ -4,7 +4,7 @@ use mathlib.Core.Bool.{Bool, cond, not, _||_}
 use mathlib.Core.List.{List}
 use lib.Dec.{eqb, ltb}
 use Rattle.layout.specs.Limits.{objectMax, within}
-use Rattle.layout.specs.Record.{cluster}
+use Rattle.records.specs.Record.{cluster}
 use Rattle.rules.specs.Buffers.{short, recOf, eachFrom}
 
 -- the highest of 1 to k that is in cluster d; 0 for none

@@ -8,7 +8,7 @@ ghost use Rattle.links.specs.Links.{linkable, links};
 ghost use Rattle.links.specs.Linking.{Linking};
 use layout::limits::OBJECT_MAX;
 use layout::limits::within;
-use layout::records::cluster_of;
+use records::cluster_of;
 
 // The next lower member of the object's cluster, 0 for none.
 pub fn next_member(link: u32) -> u32

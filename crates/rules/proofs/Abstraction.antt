@@ -8,9 +8,9 @@ use native.Mathlib.Decide.{decLe}
 use native.Mathlib.Omega.{arith}
 use lib.Dec.{eqb}
 use lib.ListN.{length, getD, take, List·getD-eq-default}
-use Rattle.layout.specs.Record as R
+use Rattle.records.specs.Record as R
 use Rattle.layout.specs.Field.{field, flag}
-use Rattle.layout.specs.Record.{width}
+use Rattle.records.specs.Record.{width}
 use Rattle.rules.specs.Buffers.{recOf, numbers, usedWords}
 use Rattle.rules.specs.Plain.{Cell, free, object, Plain, isFree, isSink, wordsIn, cellAt}
 use Rattle.rules.specs.Steps.{State}

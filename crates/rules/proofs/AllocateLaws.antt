@@ -11,14 +11,14 @@ use lib.Dec.{leb, ltb, eqb}
 use lib.ListN.{length, set, take, drop, replicate}
 use borrow.Author.Tests.{ltb-false, eqb-false, eqb-true, eq-eqb, ne-eqb}
 use Rattle.layout.proofs.RefusalLaws.{first-passed}
-use Rattle.layout.specs.Record as R
+use Rattle.records.specs.Record as R
 use Rattle.layout.specs.ControlRecord.{withLast}
 use Rattle.layout.specs.Field.{field, flag}
 use Rattle.layout.specs.Limits.{slotsLen, widthMax}
-use Rattle.layout.specs.Record.{width, cluster, newRecord}
+use Rattle.records.specs.Record.{width, cluster, newRecord}
 use Rattle.layout.specs.Refusal.{first}
 use Rattle.layout.specs.Word.{isNil, isImmediate, isPointer}
-use Rattle.layout.proofs.RecordLaws.{Legal, new-width, new-cluster, new-written, new-sink, new-out, new-legal, legal-nonzero}
+use Rattle.records.proofs.RecordLaws.{Legal, new-width, new-cluster, new-written, new-sink, new-out, new-legal, legal-nonzero}
 use Rattle.layout.proofs.ControlLaws.{last-sound}
 use Rattle.graph.specs.Heap.{Heap}
 use Rattle.graph.specs.Numbers.{upd}

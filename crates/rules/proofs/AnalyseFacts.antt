@@ -11,7 +11,7 @@ use lib.ListN.{length}
 use borrow.Author.Tests.{eq-eqb}
 use Rattle.layout.specs.Limits.{slotsLen, workLen}
 use Rattle.layout.specs.Refusal.{first}
-use Rattle.layout.specs.Record.{isWritten, isSink, isOut, cluster}
+use Rattle.records.specs.Record.{isWritten, isSink, isOut, cluster}
 use Rattle.graph.specs.Numbers.{count}
 use Rattle.graph.specs.Clusters.{keep, size}
 use Rattle.graph.specs.Heap.{Heap}

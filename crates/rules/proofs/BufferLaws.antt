@@ -10,7 +10,7 @@ use lib.ListN.{getD, take, drop, set}
 use lib.Seq.{getD-take, getD-drop, take-take}
 use borrow.Author.Tests.{eq-eqb, ne-eqb}
 use Rattle.layout.specs.Limits.{slotsLen}
-use Rattle.layout.specs.Record.{width}
+use Rattle.records.specs.Record.{width}
 use Rattle.rules.specs.Buffers.{recOf, eight, usedWords, eachFrom, eachRecord, eachSlot, zeros}
 use Rattle.rules.proofs.ListLaws.{each-same, each-id, each-set}
 

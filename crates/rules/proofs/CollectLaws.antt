@@ -11,9 +11,9 @@ use lib.Dec.{eqb}
 use lib.ListN.{length, take}
 use borrow.Author.Tests.{eq-eqb}
 use Rattle.layout.specs.Limits.{slotsLen, workLen, mapLen}
-use Rattle.layout.specs.Record.{inUse, cluster, loose}
+use Rattle.records.specs.Record.{inUse, cluster, loose}
 use Rattle.layout.specs.Refusal.{first, by, outcome}
-use Rattle.layout.specs.Bits.{wordOf, holds, numbersIn}
+use Rattle.bitmap.specs.Bits.{wordOf, holds, numbersIn}
 use Rattle.graph.specs.Heap.{starts}
 use Rattle.graph.specs.Numbers.{Obj, count}
 use Rattle.graph.proofs.NumberLaws.{count-ext}

@@ -11,11 +11,11 @@ use native.Mathlib.Omega.{arith}
 use lib.ListN.{length, getD, take, drop, replicate}
 use borrow.Author.Tests.{ltb-false}
 use Rattle.layout.proofs.RefusalLaws.{first-passed}
-use Rattle.layout.specs.Record as R
+use Rattle.records.specs.Record as R
 use Rattle.layout.specs.ControlRecord.{newControl}
 use Rattle.layout.specs.Field.{field, flag}
 use Rattle.layout.specs.Limits.{slotsLen}
-use Rattle.layout.specs.Record.{width}
+use Rattle.records.specs.Record.{width}
 use Rattle.layout.specs.Refusal.{first, by, outcome}
 use Rattle.layout.specs.Word.{isNil}
 use Rattle.layout.proofs.ControlLaws.{Sizes, sizes-facts, new-sound}

@@ -11,7 +11,7 @@ use lib.Dec.{eqb}
 use lib.ListN.{set}
 use borrow.Author.Tests.{not-false, eqb-false, ne-eqb}
 use Rattle.layout.proofs.RefusalLaws.{first-passed}
-use Rattle.layout.specs.Record as R
+use Rattle.records.specs.Record as R
 use Rattle.layout.specs.Field.{field, flag}
 use Rattle.layout.specs.Limits.{slotsLen}
 use Rattle.layout.specs.Refusal.{first}

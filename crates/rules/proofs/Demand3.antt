@@ -9,7 +9,7 @@ use lib.ListN.{length, take, drop, replicate, length-drop, take-append-drop}
 use lib.Seq.{take-add, drop-drop}
 use borrow.Author.Tests.{eqb-true}
 use Rattle.layout.specs.Limits.{slotsLen}
-use Rattle.layout.specs.Record.{width}
+use Rattle.records.specs.Record.{width}
 use Rattle.layout.specs.Word.{isNil}
 use Rattle.layout.specs.ControlRecord.{withLast, withWriteLoss, withAnalysis, newControl}
 use Rattle.rules.specs.Buffers.{eight, usedWords, otherWords, allOf, numbers}

@@ -12,9 +12,9 @@ use borrow.Author.Tests.{not-false, leb-false, ltb-false}
 use Rattle.layout.proofs.RefusalLaws.{first-passed}
 use Rattle.layout.specs.Limits.{widthMax, slotsLen, workLen, mapLen}
 use Rattle.layout.specs.Refusal.{first}
-use Rattle.layout.specs.Record.{width, isSink}
+use Rattle.records.specs.Record.{width, isSink}
 use Rattle.layout.specs.declared.answers.Control.{Control}
-use Rattle.layout.proofs.RecordLaws.{legal-facts, undamaged}
+use Rattle.records.proofs.RecordLaws.{legal-facts, undamaged}
 use Rattle.graph.specs.Heap.{Heap}
 use Rattle.graph.specs.Analysis as Graph
 use Rattle.graph.specs.Writes.{dissolves, storeBy, store, declare}

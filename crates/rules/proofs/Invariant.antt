@@ -9,12 +9,12 @@ use native.Mathlib.Decide.{ℕ-discrete}
 use lib.Dec.{eqb}
 use lib.ListN.{length}
 use borrow.Author.Tests.{le-ltb, eq-eqb, ne-eqb}
-use Rattle.layout.specs.Record as R
+use Rattle.records.specs.Record as R
 use Rattle.layout.specs.ControlRecord.{badControl}
 use Rattle.layout.specs.Field.{field, flag}
-use Rattle.layout.specs.Record.{cluster, clear, damaged}
+use Rattle.records.specs.Record.{cluster, clear, damaged}
 use Rattle.layout.specs.Word.{isNil, isImmediate}
-use Rattle.layout.proofs.RecordLaws.{Legal, facts-legal, legal-nonzero, zero-free, free-undamaged, legal-undamaged}
+use Rattle.records.proofs.RecordLaws.{Legal, facts-legal, legal-nonzero, zero-free, free-undamaged, legal-undamaged}
 use Rattle.layout.proofs.ControlLaws.{Sound, facts-control}
 use Rattle.graph.proofs.Paths.{connected-head}
 use Rattle.graph.proofs.State.{Good}

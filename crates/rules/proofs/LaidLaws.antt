@@ -10,12 +10,12 @@ use native.Mathlib.Omega.{arith}
 use lib.Dec.{eqb}
 use lib.ListN.{length, take, drop}
 use borrow.Author.Tests.{ne-eqb}
-use Rattle.layout.specs.Record as R
+use Rattle.records.specs.Record as R
 use Rattle.layout.specs.Field.{field, flag}
-use Rattle.layout.specs.Record.{width, cluster}
+use Rattle.records.specs.Record.{width, cluster}
 use Rattle.layout.specs.Word.{isNil, isImmediate, isPointer}
 use Rattle.layout.specs.declared.answers.Control.{Control}
-use Rattle.layout.proofs.RecordLaws.{Legal, legal-nonzero}
+use Rattle.records.proofs.RecordLaws.{Legal, legal-nonzero}
 use Rattle.layout.proofs.ControlLaws.{Sound}
 use Rattle.graph.specs.Heap.{Heap}
 use Rattle.graph.proofs.OutLaws.{outBit-none}

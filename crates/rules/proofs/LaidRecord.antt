@@ -8,9 +8,9 @@ use native.Mathlib.Omega.{arith}
 use lib.Dec.{eqb}
 use borrow.Author.Tests.{eqb-false}
 use Rattle.layout.specs.Field.{field, flag, put, putFlag, digit}
-use Rattle.layout.specs.Record.{inUse, isWritten, isSink, isOut, width, cluster, clear, loose, withWritten, withSink, withOut, withCluster}
+use Rattle.records.specs.Record.{inUse, isWritten, isSink, isOut, width, cluster, clear, loose, withWritten, withSink, withOut, withCluster}
 use Rattle.layout.proofs.FieldLaws.{apart, field-put-other, field-put-flag, flag-put-same, flag-put-other, flag-same, put-same}
-use Rattle.layout.proofs.RecordLaws.{Legal, clear-same, cluster-with-cluster, flag-with-cluster}
+use Rattle.records.proofs.RecordLaws.{Legal, clear-same, cluster-with-cluster, flag-with-cluster}
 use Rattle.rules.specs.View.{laidRecord}
 
 module _ (c : ℕ) (o s w : Bool) (r : ℕ) where

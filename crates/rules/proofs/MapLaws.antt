@@ -8,8 +8,8 @@ use native.Mathlib.Decide.{decLt}
 use native.Mathlib.Omega.{arith}
 use lib.ListN.{length, take, length-append}
 use Rattle.layout.specs.Limits.{mapLen}
-use Rattle.layout.specs.Bits.{holds, numbersIn, wordOf}
-use Rattle.layout.proofs.BitLaws.{passers, passers-add, wordOf-holds, holds-past, numbersIn-words}
+use Rattle.bitmap.specs.Bits.{holds, numbersIn, wordOf}
+use Rattle.bitmap.proofs.BitLaws.{passers, passers-add, wordOf-holds, holds-past, numbersIn-words}
 use Rattle.graph.specs.Numbers.{bit, sum, count}
 use Rattle.rules.specs.Buffers.{eachFrom, numbers}
 use Rattle.rules.proofs.ListLaws.{length-numbers, get-numbers}

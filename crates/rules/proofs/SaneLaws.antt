@@ -12,8 +12,8 @@ use lib.ListN.{length, take, length-take, length-map}
 use borrow.Author.Tests.{le-leb, lt-leb}
 use Rattle.layout.specs.Limits.{objectMax, widthMax}
 use Rattle.layout.specs.Field.{field, flag}
-use Rattle.layout.specs.Record.{isSink, width, cluster}
-use Rattle.layout.proofs.RecordLaws.{Legal}
+use Rattle.records.specs.Record.{isSink, width, cluster}
+use Rattle.records.proofs.RecordLaws.{Legal}
 use Rattle.graph.specs.Heap.{Heap, targets, starts}
 use Rattle.graph.specs.Clusters.{outBit}
 use Rattle.graph.proofs.MemberLaws.{pointer-word, pointer-nonzero}

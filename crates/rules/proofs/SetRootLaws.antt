@@ -10,7 +10,7 @@ use lib.ListN.{length, length-set}
 use lib.Seq.{length-take-le, take-set-lt}
 use borrow.Author.Tests.{not-false, leb-false}
 use Rattle.layout.proofs.RefusalLaws.{first-passed}
-use Rattle.layout.specs.Record as R
+use Rattle.records.specs.Record as R
 use Rattle.layout.specs.Refusal.{first}
 use Rattle.layout.specs.Word.{isNil, isPointer}
 use Rattle.graph.proofs.NumberLaws.{mem-of-set}

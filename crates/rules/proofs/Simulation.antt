@@ -11,12 +11,12 @@ use native.Mathlib.Omega.{arith}
 use lib.Dec.{eqb}
 use lib.ListN.{length, take}
 use lib.Seq.{length-take-le}
-use Rattle.layout.specs.Record as R
+use Rattle.records.specs.Record as R
 use Rattle.layout.specs.Field.{field, flag}
-use Rattle.layout.specs.Record.{width}
+use Rattle.records.specs.Record.{width}
 use Rattle.layout.specs.Refusal.{Test, first, by, outcome}
 use Rattle.layout.specs.Word.{isPointer}
-use Rattle.layout.proofs.RecordLaws.{Legal, legal-nonzero}
+use Rattle.records.proofs.RecordLaws.{Legal, legal-nonzero}
 use Rattle.layout.proofs.LimitLaws.{within-true}
 use Rattle.rules.specs.Buffers.{recOf, usedWords, eight}
 use Rattle.rules.specs.WellFormed.{names}

@@ -12,7 +12,7 @@ use lib.ListN.{length, getD, take, set, length-set, length-take, List·getD-eq-d
 use lib.Seq.{take-set-lt, getD-set-same, getD-set-other, ext-getD}
 use borrow.Author.Tests.{le-leb, lt-leb, eq-eqb, ne-eqb, eqb-false}
 use Rattle.layout.specs.Field.{field}
-use Rattle.layout.specs.Record.{width, cluster, isOut, isSink, isWritten, withOut, withSink, withCluster, withWritten, loose}
+use Rattle.records.specs.Record.{width, cluster, isOut, isSink, isWritten, withOut, withSink, withCluster, withWritten, loose}
 use Rattle.layout.proofs.FieldLaws.{put-same, field-put-flag, flag-put-other, flag-stays}
 use Rattle.graph.specs.Numbers.{upd}
 use Rattle.graph.specs.Heap.{Heap}

@@ -10,12 +10,12 @@ use native.Mathlib.Omega.{arith}
 use lib.Dec.{eqb}
 use lib.ListN.{take, drop}
 use borrow.Author.Tests.{ne-eqb, eqb-true, eqb-false}
-use Rattle.layout.specs.Record as R
+use Rattle.records.specs.Record as R
 use Rattle.layout.specs.Field.{field, flag}
-use Rattle.layout.specs.Record.{width, cluster, inUse, loose}
+use Rattle.records.specs.Record.{width, cluster, inUse, loose}
 use Rattle.layout.specs.Limits.{slotsLen}
 use Rattle.layout.specs.Word.{isNil, isImmediate, isPointer}
-use Rattle.layout.proofs.RecordLaws.{Legal, loose-cluster, loose-out, loose-flag, loose-legal, loose-width, legal-nonzero}
+use Rattle.records.proofs.RecordLaws.{Legal, loose-cluster, loose-out, loose-flag, loose-legal, loose-width, legal-nonzero}
 use Rattle.graph.specs.Clusters.{keep}
 use Rattle.graph.specs.Heap.{Heap}
 use Rattle.graph.specs.Numbers.{Obj}

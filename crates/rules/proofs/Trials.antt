@@ -4,9 +4,9 @@ use mathlib.Core.Path.{_≡_, refl}
 use mathlib.Core.List.{[], _∷_, map}
 use Rattle.layout.specs.Limits as LLimits
 use Rattle.layout.specs.Field as LField
-use Rattle.layout.specs.Record as LRecord
+use Rattle.records.specs.Record as LRecord
 use Rattle.layout.specs.Word as LWord
-use Rattle.layout.specs.Bits as LBits
+use Rattle.bitmap.specs.Bits as LBits
 use Rattle.layout.specs.ControlRecord as LControlRecord
 use Rattle.layout.specs.Refusal as LRefusal
 use Rattle.graph.specs.Numbers as GNumbers

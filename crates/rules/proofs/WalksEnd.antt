@@ -9,7 +9,7 @@ use native.Mathlib.Omega.{arith}
 use lib.Dec.{eqb}
 use lib.ListN.{take}
 use borrow.Author.Tests.{eqb-true}
-use Rattle.layout.specs.Record.{inUse, cluster}
+use Rattle.records.specs.Record.{inUse, cluster}
 use Rattle.layout.specs.Word.{isNil, isPointer}
 use Rattle.graph.specs.Heap.{Heap, starts}
 use Rattle.graph.specs.Trace.{traced, unclustered}

@@ -12,9 +12,9 @@ use lib.ListN.{length, take}
 use borrow.Author.Tests.{ltb-false, leb-true, eqb-true}
 use Rattle.layout.specs.Limits.{objectMax, widthMax, slotsLen}
 use Rattle.layout.specs.Field.{field, flag}
-use Rattle.layout.specs.Record.{inUse, isOut, cluster, free, legal}
+use Rattle.records.specs.Record.{inUse, isOut, cluster, free, legal}
 use Rattle.layout.specs.Word.{isNil, isPointer, isImmediate}
-use Rattle.layout.proofs.RecordLaws.{Legal, legal-facts}
+use Rattle.records.proofs.RecordLaws.{Legal, legal-facts}
 use Rattle.layout.proofs.LimitLaws.{in-within}
 use Rattle.graph.specs.Numbers.{Obj}
 use Rattle.rules.specs.Buffers.{short, recOf, usedWords, otherWords, allTo}

@@ -9,7 +9,7 @@ use lib.Dec.{eqb}
 use lib.ListN.{getD}
 use borrow.Author.Tests.{eqb-true, eqb-false, eq-eqb, ne-eqb, not-true}
 use Rattle.layout.specs.Field.{field}
-use Rattle.layout.specs.Record.{cluster}
+use Rattle.records.specs.Record.{cluster}
 use Rattle.layout.specs.ControlRecord.{withWriteLoss}
 use Rattle.graph.specs.Heap.{Heap}
 use Rattle.graph.specs.Clusters.{size, keep, others}

@@ -13,11 +13,11 @@ use lib.ListN.{length, set, take, drop, length-set}
 use lib.Seq.{take-set-lt, drop-set-lt}
 use borrow.Author.Tests.{not-false, leb-false, le-ltb, eqb-false}
 use Rattle.layout.proofs.RefusalLaws.{first-passed}
-use Rattle.layout.specs.Record as R
+use Rattle.records.specs.Record as R
 use Rattle.layout.specs.ControlRecord.{withWriteLoss}
 use Rattle.layout.specs.Field.{field, flag}
 use Rattle.layout.specs.Limits.{slotsLen}
-use Rattle.layout.specs.Record.{width}
+use Rattle.records.specs.Record.{width}
 use Rattle.layout.specs.Refusal.{first}
 use Rattle.layout.specs.Word.{isNil, isImmediate, isPointer, legalWord}
 use Rattle.layout.proofs.ControlLaws.{writes-sound}

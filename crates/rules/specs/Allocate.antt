@@ -6,7 +6,7 @@ use lib.Dec.{eqb, ltb}
 use Rattle.layout.specs.declared.answers.Control.{Control}
 use Rattle.layout.specs.declared.answers.Allocated.{Allocated}
 use Rattle.layout.specs.Limits.{widthMax, slotsLen}
-use Rattle.layout.specs.Record.{free, newRecord}
+use Rattle.records.specs.Record.{free, newRecord}
 use Rattle.layout.specs.ControlRecord.{badControl, withLast}
 use Rattle.layout.specs.Refusal.{Test, outcome}
 use Rattle.rules.specs.Buffers.{short, recOf, eachRecord, eachSlot, numbers}

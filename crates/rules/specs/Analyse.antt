@@ -7,7 +7,7 @@ use lib.ListN.{take}
 use Rattle.layout.specs.declared.answers.Control.{Control}
 use Rattle.layout.specs.declared.answers.Analysed.{Analysed}
 use Rattle.layout.specs.Limits.{limitMin, limitMax, slotsLen, workLen}
-use Rattle.layout.specs.Record.{inUse}
+use Rattle.records.specs.Record.{inUse}
 use Rattle.layout.specs.ControlRecord.{badControl, withAnalysis}
 use Rattle.layout.specs.Refusal.{Test, outcome}
 use Rattle.graph.specs.Numbers.{count}

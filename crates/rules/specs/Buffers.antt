@@ -5,7 +5,7 @@ use mathlib.Core.List.{List, [], _∷_}
 use lib.Dec.{ltb}
 use lib.ListN.{length, getD, take, drop}
 use Rattle.layout.specs.Limits.{widthMax, slotsLen}
-use Rattle.layout.specs.Record.{width}
+use Rattle.records.specs.Record.{width}
 
 -- refusal 2 of one slice: it has fewer than k words
 unfoldable pub short : ℕ → List ℕ → Bool

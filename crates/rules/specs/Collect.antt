@@ -7,8 +7,8 @@ use lib.ListN.{take}
 use Rattle.layout.specs.declared.answers.Control.{Control}
 use Rattle.layout.specs.declared.answers.Collected.{Collected}
 use Rattle.layout.specs.Limits.{slotsLen, workLen, mapLen}
-use Rattle.layout.specs.Record.{inUse, cluster, loose}
-use Rattle.layout.specs.Bits.{wordOf}
+use Rattle.records.specs.Record.{inUse, cluster, loose}
+use Rattle.bitmap.specs.Bits.{wordOf}
 use Rattle.layout.specs.ControlRecord.{badControl}
 use Rattle.layout.specs.Refusal.{Test, outcome}
 use Rattle.graph.specs.Numbers.{count}

@@ -5,7 +5,7 @@ use mathlib.Core.List.{List, [], _∷_}
 use Rattle.layout.specs.declared.answers.Control.{Control}
 use Rattle.layout.specs.declared.answers.Done.{Done}
 use Rattle.layout.specs.Limits.{slotsLen}
-use Rattle.layout.specs.Record.{isSink, free}
+use Rattle.records.specs.Record.{isSink, free}
 use Rattle.layout.specs.Word.{isPointer}
 use Rattle.layout.specs.ControlRecord.{badControl}
 use Rattle.layout.specs.Refusal.{Test, outcome}

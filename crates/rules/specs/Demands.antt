@@ -7,8 +7,8 @@ use mathlib.Core.Logic.{_≢_, _↔_}
 use lib.Dec.{eqb, ltb}
 use lib.ListN.{length, getD, take, drop, replicate}
 use Rattle.layout.specs.Limits.{slotsLen, workLen, mapLen}
-use Rattle.layout.specs.Record.{inUse, isWritten, isSink, isOut, cluster}
-use Rattle.layout.specs.Bits.{holds, numbersIn}
+use Rattle.records.specs.Record.{inUse, isWritten, isSink, isOut, cluster}
+use Rattle.bitmap.specs.Bits.{holds, numbersIn}
 use Rattle.layout.specs.ControlRecord.{newControl}
 use Rattle.layout.specs.Refusal.{Test}
 use Rattle.layout.specs.declared.answers.Control.{Control}

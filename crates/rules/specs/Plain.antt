@@ -6,7 +6,7 @@ use lib.Dec.{leb, ltb, eqb}
 use lib.ListN.{length, getD, set, replicate}
 use Rattle.layout.specs.Limits.{widthMax, mapLen}
 use Rattle.layout.specs.Word.{isNil, isPointer, legalWord}
-use Rattle.layout.specs.Bits.{wordOf}
+use Rattle.bitmap.specs.Bits.{wordOf}
 use Rattle.layout.specs.Refusal.{Test, outcome}
 use Rattle.graph.specs.Numbers.{count, gather}
 use Rattle.rules.specs.Buffers.{eachFrom, numbers}

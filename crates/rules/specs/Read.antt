@@ -7,7 +7,7 @@ use lib.ListN.{getD}
 use Rattle.layout.specs.declared.answers.Control.{Control}
 use Rattle.layout.specs.declared.answers.WordRead.{WordRead}
 use Rattle.layout.specs.Limits.{slotsLen}
-use Rattle.layout.specs.Record.{width, free, damaged}
+use Rattle.records.specs.Record.{width, free, damaged}
 use Rattle.layout.specs.Word.{isPointer}
 use Rattle.layout.specs.ControlRecord.{badControl}
 use Rattle.layout.specs.Refusal.{Test, outcome}

@@ -6,7 +6,7 @@ use lib.Dec.{leb}
 use lib.ListN.{set}
 use Rattle.layout.specs.declared.answers.Control.{Control}
 use Rattle.layout.specs.declared.answers.Done.{Done}
-use Rattle.layout.specs.Record.{legal}
+use Rattle.records.specs.Record.{legal}
 use Rattle.layout.specs.Word.{isNil, isPointer}
 use Rattle.layout.specs.ControlRecord.{badControl}
 use Rattle.layout.specs.Refusal.{Test, outcome}

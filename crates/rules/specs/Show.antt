@@ -5,7 +5,7 @@ use mathlib.Core.List.{List, [], _∷_}
 use Rattle.layout.specs.declared.answers.Control.{Control}
 use Rattle.layout.specs.declared.answers.Part.{Part}
 use Rattle.layout.specs.Limits.{widthMax, slotsLen}
-use Rattle.layout.specs.Record.{width, free, damaged}
+use Rattle.records.specs.Record.{width, free, damaged}
 use Rattle.layout.specs.Word.{isPointer}
 use Rattle.layout.specs.ControlRecord.{badControl}
 use Rattle.layout.specs.Refusal.{Test, outcome}

@@ -4,7 +4,7 @@ use mathlib.Core.Path.{_≡_, refl}
 use mathlib.Core.List.{List, [], _∷_, _++_, map}
 use lib.ListN.{getD, replicate}
 use Rattle.layout.specs.declared.answers.Control.{Control}
-use Rattle.layout.specs.Record.{cluster}
+use Rattle.records.specs.Record.{cluster}
 use Rattle.rules.specs.Buffers.{recOf, numbers}
 use Rattle.rules.specs.Create as Create
 use Rattle.rules.specs.Allocate as Allocate

@@ -3,7 +3,7 @@ use Prim.Native.Nat.{ℕ}
 use mathlib.Core.Bool.{Bool, cond}
 use mathlib.Core.List.{List, map}
 use lib.Dec.{leb}
-use Rattle.layout.specs.Record.{isWritten, isSink, isOut, cluster, withWritten, withSink, withOut, withCluster}
+use Rattle.records.specs.Record.{isWritten, isSink, isOut, cluster, withWritten, withSink, withOut, withCluster}
 use Rattle.graph.specs.Heap.{Heap}
 use Rattle.graph.specs.Clusters.{outBit}
 use Rattle.rules.specs.Buffers.{recOf, usedWords, eachRecord}

@@ -5,7 +5,7 @@ use mathlib.Core.List.{List}
 use lib.Dec.{eqb, leb}
 use lib.ListN.{take}
 use Rattle.layout.specs.Limits.{objectMax, slotsLen}
-use Rattle.layout.specs.Record.{inUse, cluster, free, legal}
+use Rattle.records.specs.Record.{inUse, cluster, free, legal}
 use Rattle.layout.specs.Word.{isNil, isPointer, isImmediate}
 use Rattle.rules.specs.Buffers.{short, recOf, usedWords, otherWords, allOf, allTo}
 use Rattle.rules.specs.View.{view, exactOut}

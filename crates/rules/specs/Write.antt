@@ -7,7 +7,7 @@ use lib.ListN.{set}
 use Rattle.layout.specs.declared.answers.Control.{Control}
 use Rattle.layout.specs.declared.answers.Done.{Done}
 use Rattle.layout.specs.Limits.{widthMax, slotsLen}
-use Rattle.layout.specs.Record.{width, free, legal, damaged}
+use Rattle.records.specs.Record.{width, free, legal, damaged}
 use Rattle.layout.specs.Word.{isPointer, legalWord}
 use Rattle.layout.specs.ControlRecord.{badControl, withWriteLoss}
 use Rattle.layout.specs.Refusal.{Test, outcome}

@@ -11,14 +11,15 @@ use lib.Bits.{bitAnd}
 use lib.Count.{trailingZeros}
 use lib.ListN.{length, getD, take, drop, set, drop-of-length-le}
 use lib.Seq.{set-out, drop-cons}
-use Rattle.layout.specs.Limits.{mapLen}
-use Rattle.layout.specs.Record.{inUse, isMarked}
-use Rattle.layout.specs.Bits.{setBits, numbersIn, bitsOf, wordOf}
-use Rattle.layout.proofs.BitLaws.{bitsOf-lt, setBits-step, setBits-none}
+use Rattle.layout.specs.Limits.{mapLen, slotsLen}
+use Rattle.records.specs.Record.{inUse, isMarked}
+use Rattle.bitmap.specs.Bits.{setBits, numbersIn, bitsOf, wordOf}
+use Rattle.bitmap.proofs.BitLaws.{bitsOf-lt, setBits-step, setBits-none}
 use Rattle.rules.specs.Buffers.{recOf, eachFrom, zeros}
 use Rattle.rules.proofs.PassLaws.{passFrom}
-use Rattle.sweep.specs.Sweep.{freedAt, freedMap, inTurn, clearRecord, zeroEight, clearSlots}
-use Rattle.sweep.proofs.PassingLaws.{Passing}
+use Rattle.rules.proofs.BufferLaws.{zeros-from}
+use Rattle.table.specs.Cleared.{cleared}
+use Rattle.sweep.specs.Sweep.{freedAt, freedMap, inTurn, clearRecord, clearSlots}
 
 -- ---- the test
 
@@ -82,26 +83,20 @@ module _ (x : ℕ) (recs : List ℕ) where
   unfolding clearSlots
   slots-none e = rw e refl
 
-  pub slots-in : x ≢ 0 → zeroEight (8 * (x - 1)) recs ≡ clearSlots x recs
-  slots-in = go x
+  pub slots-in : (a : ℕ) → a ≡ slotsLen (x - 1) → x ≢ 0 → cleared a (a + 8) recs ≡ clearSlots x recs
+  unfolding slotsLen
+  slots-in a e h = ap (λ (b : ℕ). cleared b (b + 8) recs) e ∙ go x h
     where
-      go : (y : ℕ) → y ≢ 0 → zeroEight (8 * (y - 1)) recs ≡ clearSlots y recs
+      go : (y : ℕ) → y ≢ 0 → cleared (8 * (y - 1)) (8 * (y - 1) + 8) recs ≡ clearSlots y recs
       go zero h = absurd (h refl)
       go (suc y) h = let z : suc y - 1 ≡ y = omega arith in rw z (unfold clearSlots in refl)
 
 -- the eight words, as a pass
-any-number : (i j k : ℕ) (l : List ℕ) → eachFrom i k (λ x w. 0) l ≡ eachFrom j k (λ x w. 0) l
-unfolding eachFrom
-any-number i j zero l = refl
-any-number i j (suc k) [] = refl
-any-number i j (suc k) (w ∷ l) = ap (λ r. 0 ∷ r) (any-number (suc i) (suc j) k l)
-
-pub eight-pass : (a : ℕ) (slots : List ℕ) → passFrom 0 a 8 (λ x w. 0) slots ≡ zeroEight a slots
-unfolding passFrom zeroEight zeros
-eight-pass a slots = ap (λ l. take a slots ++ l) (any-number (0 + a) 0 8 (drop a slots))
-
-pub eight-start : (a : ℕ) (slots : List ℕ) → Passing 0 (λ x w. 0) (a + 8) (zeroEight a slots) slots slots a
-eight-start a slots = record { same = let z : a + 8 - a ≡ 8 = omega arith in rw z (eight-pass a slots); long = refl }
+pub eight-pass : (a : ℕ) (slots : List ℕ) → passFrom 0 a 8 (λ x w. 0) slots ≡ cleared a (a + 8) slots
+unfolding passFrom cleared
+eight-pass a slots =
+    let z : 8 ≡ a + 8 - a = omega arith in
+    ap (λ l. take a slots ++ l) (zeros-from (0 + a) 8 (drop a slots)) ∙ ap (λ (k : ℕ). take a slots ++ zeros k (drop a slots)) z
 
 -- ---- one object after the other
 

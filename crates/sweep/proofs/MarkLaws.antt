@@ -10,32 +10,17 @@ use lib.Dec.{eqb}
 use lib.ListN.{length, getD}
 use borrow.Author.Tests.{eq-eqb, ne-eqb}
 use Rattle.layout.specs.Field.{field, flag}
-use Rattle.layout.specs.Record.{isMarked, isReached, withMarked, withPostponed, withReached, cluster, loose}
+use Rattle.records.specs.Record.{isMarked, isReached, withMarked, withPostponed, withReached, cluster, loose}
 use Rattle.layout.proofs.FieldLaws.{flag-put-other, flag-put-same, flag-put-put}
-use Rattle.layout.proofs.RecordLaws.{loose-flag, cluster-put-flag}
+use Rattle.records.proofs.RecordLaws.{loose-flag, cluster-put-flag}
 use Rattle.graph.specs.Numbers.{Obj, bit, sum, count}
 use Rattle.rules.specs.Buffers.{recOf, eachFrom, eachRecord}
-use Rattle.rules.proofs.ListLaws.{recOf-above, recOf-each, each-same}
+use Rattle.rules.proofs.ListLaws.{recOf-each, each-same}
 use Rattle.rules.proofs.BufferLaws.{recOf-get}
-use Rattle.rules.proofs.StoreLaws.{recOf-past, recOf-zero}
+use Rattle.rules.proofs.StoreLaws.{recOf-past}
 use Rattle.sweep.specs.Sweep.{markedAt, markedCount, memberMarked, membersMarked, headKept, bareWord, bare}
 use Rattle.rules.proofs.ListLaws.{each-each}
 use Rattle.sweep.proofs.PassingLaws.{Keeps}
-
--- ---- the record of an object
-
-module _ (n x : ℕ) (recs : List ℕ) where
-  pub record-none : x ≡ 0 → 0 ≡ recOf n recs x
-  record-none e = rw e (sym (recOf-zero n recs))
-
-  pub record-above : n < x → 0 ≡ recOf n recs x
-  record-above l = sym (recOf-above n recs x l)
-
-  pub record-in : x ≢ 0 → x ≤ n → getD recs (x - 1) 0 ≡ recOf n recs x
-  record-in h l = sym (recOf-get n recs x (omega (arith, h)) l)
-
-  pub record-past : x ≢ 0 → length recs ≤ x - 1 → 0 ≡ recOf n recs x
-  record-past h l = sym (recOf-past n recs x (omega (arith, h)))
 
 -- ---- the count
 

@@ -12,10 +12,10 @@ use borrow.Author.Tests.{eq-eqb, ne-eqb, eqb-false}
 use Rattle.layout.specs.declared.answers.Control.{Control}
 use Rattle.layout.specs.Limits.{slotsLen, mapLen}
 use Rattle.layout.specs.Field.{field, flag, put, putFlag}
-use Rattle.layout.specs.Record.{inUse, isMarked, cluster, loose, withOut}
-use Rattle.layout.specs.Bits.{wordOf}
+use Rattle.records.specs.Record.{inUse, isMarked, cluster, loose, withOut}
+use Rattle.bitmap.specs.Bits.{wordOf}
 use Rattle.layout.proofs.FieldLaws.{apart, flag-put-other, flags-comm, put-flag-comm}
-use Rattle.layout.proofs.RecordLaws.{cluster-put-flag}
+use Rattle.records.proofs.RecordLaws.{cluster-put-flag}
 use Rattle.graph.specs.Numbers.{Obj, count}
 use Rattle.graph.proofs.NumberLaws.{count-ext}
 use Rattle.rules.specs.Buffers.{recOf, eachFrom, eachRecord, eachSlot}

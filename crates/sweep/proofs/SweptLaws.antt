@@ -9,14 +9,15 @@ use lib.Seq.{length-take-le, take-all}
 use borrow.Author.Tests.{le-leb, lt-leb, lt-ltb, le-ltb}
 use Rattle.layout.specs.Limits.{slotsLen, mapLen}
 use Rattle.layout.specs.Field.{field, flag, putFlag, put, digit}
-use Rattle.layout.specs.Bits.{numbersIn, wordOf, mapMax}
-use Rattle.layout.proofs.BitLaws.{passers, passers-add, numbersIn-words}
+use Rattle.bitmap.specs.Bits.{numbersIn, wordOf, mapMax}
+use Rattle.bitmap.proofs.BitLaws.{passers, passers-add, numbersIn-words}
 use Rattle.graph.specs.Numbers.{bit, sum, count}
 use Rattle.rules.specs.Buffers.{short, recOf, eachFrom, eachRecord, eachSlot}
 use Rattle.rules.proofs.ListLaws.{length-each, get-each, take-each, each-same, each-id, recOf-above}
 use Rattle.rules.proofs.PassLaws.{passFrom, pass-begin, pass-turn, pass-skip, pass-end}
 use Rattle.rules.proofs.StoreLaws.{recOf-zero}
-use Rattle.sweep.specs.Sweep.{bareWord, bare, freedAt, freedCount, headKept, keptRecord, sweptRecords, sweptSlots, freedMap, fits, Swept, inTurn, clearRecord, zeroEight, clearSlots}
+use Rattle.table.specs.Cleared.{cleared}
+use Rattle.sweep.specs.Sweep.{bareWord, bare, freedAt, freedCount, headKept, keptRecord, sweptRecords, sweptSlots, freedMap, fits, Swept, inTurn, clearRecord, clearSlots}
 use Rattle.sweep.proofs.FreedLaws.{eight-pass}
 use Rattle.rules.proofs.ListLaws.{each-each}
 
@@ -104,7 +105,7 @@ module _ (t : ℕ → Bool) where
   abbrev clearedAt : ℕ → ℕ → ℕ
   clearedAt j w = cond (t (j / 8 + 1)) 0 w
 
-  eight-words : (i : ℕ) (d : Bool) (slots : List ℕ) → t (suc i) ≡ d → passFrom 0 (8 * i) 8 clearedAt slots ≡ cond d (zeroEight (8 * i) slots) slots
+  eight-words : (i : ℕ) (d : Bool) (slots : List ℕ) → t (suc i) ≡ d → passFrom 0 (8 * i) 8 clearedAt slots ≡ cond d (cleared (8 * i) (8 * i + 8) slots) slots
   eight-words i true slots e =
       pass-same 0 (8 * i) 8 clearedAt (λ x w. 0) slots (λ j w a b. ap (λ (d : Bool). cond d 0 w) (ap t (omega arith) ∙ e)) ∙ eight-pass (8 * i) slots
   eight-words i false slots e =
@@ -118,12 +119,12 @@ module _ (t : ℕ → Bool) where
       let y : 8 * i + 8 ≡ 8 * suc i = omega arith in
       let n = ap length (eight-pass (8 * i) slots) in
       let m = pass-length 0 (8 * i) 8 (λ x w. 0) slots in
-      go (t (suc i)) refl (slots-cleared k (suc i) (zeroEight (8 * i) slots) (omega (arith, n, m))) (slots-cleared k (suc i) slots (omega arith))
+      go (t (suc i)) refl (slots-cleared k (suc i) (cleared (8 * i) (8 * i + 8) slots) (omega (arith, n, m))) (slots-cleared k (suc i) slots (omega arith))
       ∙ sym (ap (λ (j : ℕ). passFrom 0 (8 * i) j clearedAt slots) z ∙ pass-split 0 8 (8 * k) (8 * i) clearedAt slots (omega arith)
       ∙ ap (λ (j : ℕ). passFrom 0 j (8 * k) clearedAt (passFrom 0 (8 * i) 8 clearedAt slots)) y)
     where
       go : (d : Bool) → t (suc i) ≡ d
-          → inTurn clearSlots (passers t (suc (suc i)) k) (zeroEight (8 * i) slots) ≡ passFrom 0 (8 * suc i) (8 * k) clearedAt (zeroEight (8 * i) slots)
+          → inTurn clearSlots (passers t (suc (suc i)) k) (cleared (8 * i) (8 * i + 8) slots) ≡ passFrom 0 (8 * suc i) (8 * k) clearedAt (cleared (8 * i) (8 * i + 8) slots)
           → inTurn clearSlots (passers t (suc (suc i)) k) slots ≡ passFrom 0 (8 * suc i) (8 * k) clearedAt slots
           → inTurn clearSlots (cond d (suc i ∷ passers t (suc (suc i)) k) (passers t (suc (suc i)) k)) slots
           ≡ passFrom 0 (8 * suc i) (8 * k) clearedAt (passFrom 0 (8 * i) 8 clearedAt slots)

@@ -1,15 +1,16 @@
 -- The sweep ("Collection"), from the records alone: after a walk the mark of a record says that its object is kept.
-use Prim.Native.Nat.{ℕ, zero, suc, _*_}
+use Prim.Native.Nat.{ℕ, zero, suc, _+_, _*_}
 use mathlib.Core.Path.{_≡_}
 use mathlib.Core.Bool.{Bool, true, false, not, cond, _&&_, _||_}
-use mathlib.Core.List.{List, [], _∷_, _++_}
+use mathlib.Core.List.{List, [], _∷_}
 use lib.Dec.{eqb, leb}
-use lib.ListN.{take, drop, set}
+use lib.ListN.{set}
 use Rattle.layout.specs.Limits.{objectMax, widthMax, slotsLen, mapLen}
-use Rattle.layout.specs.Record.{inUse, isMarked, isReached, withMarked, withPostponed, withReached, cluster, loose}
-use Rattle.layout.specs.Bits.{wordOf}
+use Rattle.records.specs.Record.{inUse, isMarked, isReached, withMarked, withPostponed, withReached, cluster, loose}
+use Rattle.bitmap.specs.Bits.{wordOf}
 use Rattle.graph.specs.Numbers.{count}
-use Rattle.rules.specs.Buffers.{short, recOf, eachFrom, eachRecord, eachSlot, zeros}
+use Rattle.rules.specs.Buffers.{short, recOf, eachFrom, eachRecord, eachSlot}
+use Rattle.table.specs.Cleared.{cleared}
 
 -- bits 4 to 6 cleared
 unfoldable pub bareWord : ℕ → ℕ
@@ -80,10 +81,6 @@ unfoldable pub clearRecord : ℕ → List ℕ → List ℕ
 clearRecord zero recs = recs
 clearRecord (suc i) recs = set recs i 0
 
--- the eight words from place a on become 0
-unfoldable pub zeroEight : ℕ → List ℕ → List ℕ
-zeroEight a slots = take a slots ++ zeros widthMax (drop a slots)
-
 unfoldable pub clearSlots : ℕ → List ℕ → List ℕ
 clearSlots zero slots = slots
-clearSlots (suc i) slots = zeroEight (widthMax * i) slots
+clearSlots (suc i) slots = cleared (widthMax * i) (widthMax * i + widthMax) slots

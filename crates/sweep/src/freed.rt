@@ -4,15 +4,16 @@ ghost use mathlib.Core.Bool.{cond};
 ghost use Prim.Native.Nat.{_≤_};
 ghost use lib.ListN.{length};
 ghost use Rattle.layout.specs.Limits.{objectMax, mapLen};
-ghost use Rattle.layout.specs.Bits.{wordOf, setBits, numbersIn};
+ghost use Rattle.bitmap.specs.Bits.{wordOf, setBits, numbersIn};
 ghost use Rattle.sweep.specs.Sweep as S;
-use super::record_of;
-use layout::bitmap::lowest_bit;
-use layout::bitmap::without_lowest;
-use layout::limits::WIDTH_MAX;
+use bitmap::lowest_bit;
+use bitmap::without_lowest;
 use layout::limits::map_len;
-use layout::records::in_use;
-use layout::records::is_marked;
+use layout::limits::slots_len;
+use records::in_use;
+use records::is_marked;
+use table::buffers::clear_eight;
+use table::clusters::record_of;
 
 // Whether object x is in use and not marked.
 fn is_freed(n: u32, x: u32, records: &[u32]) -> bool
@@ -56,19 +57,6 @@ pub(crate) fn fill_map(n: u32, records: &[u32], map: &mut [u64])
     }
 }
 
-// The eight words from place `at` on become 0, as far as they are there.
-fn zero_eight(at: usize, slots: &mut [u32])
-    requires { ⌜ at ≤ 0xFFFFFFFFFFFF ⌝ }
-    ensures { λ _. ⌜ now (slots .exit) ≡ S.zeroEight at (now (slots .entry)) ⌝ }
-{
-    let end = at + WIDTH_MAX as usize;
-    let mut i = at;
-    while i < end && i < slots.len() {
-        slots[i] = 0;
-        i += 1;
-    }
-}
-
 // The record of object x becomes 0.
 fn clear_record(x: u32, records: &mut [u32])
     ensures { λ _. ⌜ now (records .exit) ≡ S.clearRecord x (now (records .entry)) ⌝ }
@@ -89,7 +77,7 @@ fn clear_slots(x: u32, slots: &mut [u32])
     if x == 0 {
         return;
     }
-    zero_eight(WIDTH_MAX as usize * (x - 1) as usize, slots);
+    clear_eight(slots, slots_len(x - 1));
 }
 
 // Frees the objects whose bits are set in a word of the map: object base + b for bit b.

@@ -1,37 +1,24 @@
 // The sweep of every collection. After a walk the mark of a record says that its object is kept; the sweep needs nothing else of the walk.
 ghost use mathlib.Core.Path.{_≡_};
-ghost use Rattle.rules.specs.Buffers.{recOf, eachRecord};
+ghost use Rattle.rules.specs.Buffers.{eachRecord};
 ghost use Rattle.sweep.specs.Sweep as S;
-use layout::bitmap::ones;
+use bitmap::ones;
 use layout::limits::OBJECT_MAX;
 use layout::limits::map_len;
 use layout::limits::slots_len;
-use layout::records::cluster_of;
-use layout::records::is_marked;
-use layout::records::is_reached;
-use layout::records::loose;
-use layout::records::with_marked;
-use layout::records::with_postponed;
-use layout::records::with_reached;
+use records::cluster_of;
+use records::is_marked;
+use records::is_reached;
+use records::loose;
+use records::with_marked;
+use records::with_postponed;
+use records::with_reached;
+use table::clusters::record_of;
 
 mod freed;
 
 use freed::fill_map;
 use freed::free_all;
-
-// The record of object x: 0 for 0, above n and past the end.
-fn record_of(n: u32, x: u32, records: &[u32]) -> u32
-    ensures { λ r. ⌜ r ≡ recOf n (now (records .entry)) x ⌝ }
-{
-    if x == 0 {
-        return 0;
-    }
-    if n < x {
-        return 0;
-    }
-    let at = (x - 1) as usize;
-    if at < records.len() { records[at] } else { 0 }
-}
 
 // ---- marks
 

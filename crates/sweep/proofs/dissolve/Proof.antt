@@ -1,7 +1,7 @@
 -- `sweep::dissolve` is a pass over the records that leaves what it reads of them. Assumes nothing.
 use Prim.Native.Nat.{_-_}
 use borrow.Author.Tests.{ltb-true, ltb-false}
-use Rattle.layout.specs.Record.{isMarked}
+use Rattle.records.specs.Record.{isMarked}
 use Rattle.sweep.specs.Sweep.{headKept}
 use Rattle.sweep.proofs.PassingLaws.{InPlace, in-place-start, in-place-turn, passing-end, passing-past}
 use Rattle.sweep.proofs.MarkLaws.{head-same, head-mark}

@@ -1,7 +1,7 @@
 -- `sweep::head_kept` meets its contract. Assumes nothing.
 use Rattle.sweep.proofs.MarkLaws.{head-none, head-marked, head-freed}
 use mathlib.Core.Path.{ap, _∙_}
-use Rattle.layout.specs.Record.{isMarked}
+use Rattle.records.specs.Record.{isMarked}
 use borrow.Author.Needs.{needs}
 use Rattle.sweep.proofs.head_kept.Statement.{statement}
 use Rattle.sweep.proofs.head_kept.Tie as tie

@@ -1,7 +1,7 @@
 -- `sweep::mark_members` is a pass over the records that leaves what it reads of them. Assumes nothing.
 use Prim.Native.Nat.{_-_}
 use borrow.Author.Tests.{ltb-true, ltb-false}
-use Rattle.layout.specs.Record.{isReached}
+use Rattle.records.specs.Record.{isReached}
 use Rattle.sweep.specs.Sweep.{memberMarked}
 use Rattle.sweep.proofs.PassingLaws.{InPlace, in-place-start, in-place-turn, passing-end, passing-past}
 use Rattle.sweep.proofs.MarkLaws.{members-all, member-same, member-reach}

@@ -1,7 +1,7 @@
 -- `sweep::member_marked` meets its contract. Assumes nothing.
 use Rattle.sweep.proofs.MarkLaws.{member-none, member-reached, member-left}
 use mathlib.Core.Path.{ap, _∙_}
-use Rattle.layout.specs.Record.{isReached}
+use Rattle.records.specs.Record.{isReached}
 use borrow.Author.Needs.{needs}
 use Rattle.sweep.proofs.member_marked.Statement.{statement}
 use Rattle.sweep.proofs.member_marked.Tie as tie

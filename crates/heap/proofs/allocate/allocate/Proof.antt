@@ -34,16 +34,13 @@ slice-write-records : tie.Need-slice-write-records
 slice-write-records c = omega (arith, given-at (c .before .before))
 
 sub-slots-len : tie.Need-sub-slots-len
-sub-slots-len c = given-at (c .before .before .before) .low
+sub-slots-len c = omega (arith, given-at (c .before .before .before) .low)
 
 slots-len-requires : tie.Need-slots-len-requires
 slots-len-requires c κs = search needs
 
-slots-len-requires-2 : tie.Need-slots-len-requires-2
-slots-len-requires-2 c κs = search needs
-
-clear-requires : tie.Need-clear-requires
-clear-requires c κs = search needs
+clear-eight-requires : tie.Need-clear-eight-requires
+clear-eight-requires c κs = search needs
 
 with-last-requires : tie.Need-with-last-requires
 with-last-requires c κs = search needs
@@ -65,9 +62,9 @@ same-length-4 c = search needs
 
 returns-2 : tie.Need-returns-2
 returns-2 c =
-    let x = c .before .before .before .before .before .before .before .before .before in
-    accepted _ _ _ _ _ (sym (x .x .given .1) ∙ x .before .before .choose .ensures) _ _ _ _ _
-    (c .before .before .before .before .before .before .before .new-record .ensures) (c .before .before .before .before .before .slots-len .ensures) (c .before .before .before .before .slots-len2 .ensures) (c .before .before .before .clear .ensures) (c .with-last .ensures)
+    let x = c .before .before .before .before .before .before .before .before in
+    accepted _ _ _ _ _ (sym (x .x .given .1) ∙ x .before .before .choose .ensures) _ _ _ _
+    (c .before .before .before .before .before .before .new-record .ensures) (c .before .before .before .before .slots-len .ensures) (c .before .before .before .clear-eight .ensures) (c .with-last .ensures)
 
 pub allocate-spec : {M : Type 1} → statement M
 allocate-spec =
@@ -83,8 +80,7 @@ allocate-spec =
     slice-write-records
     sub-slots-len
     slots-len-requires
-    slots-len-requires-2
-    clear-requires
+    clear-eight-requires
     with-last-requires
     same-length
     same-length-2

@@ -3,7 +3,7 @@ use borrow.Author.Needs.{needs}
 use mathlib.Core.Path.{_≡_, refl, _∙_}
 use Prim.Native.Nat.{suc, _-_}
 use native.Mathlib.Omega.{arith}
-use Rattle.layout.specs.Record.{free}
+use Rattle.records.specs.Record.{free}
 use Rattle.rules.specs.Buffers.{recOf, numbers}
 use Rattle.rules.specs.Allocate.{firstOf}
 use Rattle.heap.proofs.AllocateLaws.{found, more, none}

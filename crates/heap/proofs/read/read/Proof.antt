@@ -6,7 +6,7 @@ use Prim.Native.Nat.{_+_, _-_, _<_}
 use lib.ListN.{length}
 use Rattle.layout.specs.Refusal.{first}
 use Rattle.rules.specs.Show.{showTests}
-use Rattle.heap.proofs.NamedLaws.{named, start-is}
+use Rattle.table.proofs.NamedLaws.{named, start-is}
 use Rattle.heap.proofs.ReadLaws.{refused, no-slot, place, got}
 use Rattle.heap.proofs.read.read.Statement.{statement}
 use Rattle.heap.proofs.read.read.Tie as tie

@@ -7,7 +7,7 @@ use lib.ListN.{length}
 use Rattle.layout.specs.Refusal.{first}
 use Rattle.rules.specs.Show.{showTests}
 use Rattle.rules.specs.Show as Show
-use Rattle.heap.proofs.NamedLaws.{named, start-is}
+use Rattle.table.proofs.NamedLaws.{named, start-is}
 use Rattle.heap.proofs.ShowLaws.{part-refused, part-shown}
 use Rattle.heap.proofs.show.show.Statement.{statement}
 use Rattle.heap.proofs.show.show.Tie as tie

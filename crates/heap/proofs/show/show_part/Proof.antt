@@ -6,7 +6,7 @@ use Prim.Native.Nat.{_-_}
 use Rattle.layout.specs.Refusal.{first}
 use Rattle.rules.specs.Show.{showTests}
 use Rattle.rules.specs.Show as Show
-use Rattle.heap.proofs.NamedLaws.{named, start-is}
+use Rattle.table.proofs.NamedLaws.{named, start-is}
 use Rattle.heap.proofs.ShowLaws.{refused, shown}
 use Rattle.heap.proofs.show.show_part.Statement.{statement}
 use Rattle.heap.proofs.show.show_part.Tie as tie

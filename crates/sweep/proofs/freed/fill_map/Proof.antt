@@ -2,7 +2,7 @@
 use Prim.Native.Nat.{_+_, _-_, _≤_}
 use mathlib.Core.Path.{_≡_, ap, _∙_}
 use Rattle.layout.specs.Limits.{mapLen}
-use Rattle.layout.specs.Bits.{wordOf}
+use Rattle.bitmap.specs.Bits.{wordOf}
 use Rattle.sweep.specs.Sweep.{freedAt, freedMap}
 use Rattle.sweep.proofs.PassingLaws.{Passing, passing-start, passing-turn, passing-end}
 use Rattle.sweep.proofs.FreedLaws.{map-start, map-most}

@@ -1,7 +1,7 @@
 -- `sweep::freed::free_word` goes from set bit to set bit. Assumes nothing.
 use Prim.Native.Nat.{ℕ, _+_, _<_, _^_}
 use mathlib.Core.Path.{ap}
-use Rattle.layout.proofs.BitLaws.{rest-lt, trailing-lt}
+use Rattle.bitmap.proofs.BitLaws.{rest-lt, trailing-lt}
 use Rattle.sweep.specs.Sweep.{clearRecord, clearSlots}
 use Rattle.sweep.proofs.FreedLaws.{Freeing, freeing-start, freeing-turn, freeing-end}
 use borrow.Author.Needs.{needs}

@@ -2,7 +2,7 @@
 use Prim.Native.Nat.{_≤_, _<_, _+_, _-_, _*_, _^_}
 use mathlib.Core.Path.{_≡_, refl}
 use denote.Ref.{now}
-use Rattle.layout.specs.Bits.{bitsOf, wordOf}
+use Rattle.bitmap.specs.Bits.{bitsOf, wordOf}
 use Rattle.sweep.specs.Sweep.{freedAt}
 use Rattle.sweep.proofs.FreedLaws.{bits-room, bits-down, one-most}
 use borrow.Author.Needs.{needs}

@@ -1,0 +1,2 @@
+-- Laws of that word.
+pub mod RecordLaws

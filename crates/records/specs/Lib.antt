@@ -1,0 +1,2 @@
+-- The word of an object: its bits and fields.
+pub mod Record

@@ -1,0 +1,4 @@
+-- What the functions below the calls are held to.
+pub mod Cleared
+pub mod Clusters
+pub mod Check

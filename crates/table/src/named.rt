@@ -1,0 +1,34 @@
+// The tests that every call on a named object begins with.
+ghost use mathlib.Core.Path.{_≡_};
+ghost use Rattle.layout.specs.Refusal.{first};
+ghost use Rattle.rules.specs.Show.{showTests};
+use layout::answers::Control;
+use layout::limits::slots_len;
+use layout::limits::within;
+use layout::refusals::BAD_CONTROL;
+use layout::refusals::DAMAGED;
+use layout::refusals::IS_FREE;
+use layout::refusals::NO_OBJECT;
+use layout::refusals::TOO_SHORT;
+use layout::refusals::bad_control;
+use records::legal;
+
+// The number of the first of those tests that holds, 0 where none does.
+pub fn object_refusal(c: Control, object: u32, records: &[u32], slots: &[u32]) -> u32
+    ensures { λ k. ⌜ k ≡ first (showTests c object (now (records .entry)) (now (slots .entry))) ⌝ }
+{
+    if bad_control(c) {
+        return BAD_CONTROL;
+    }
+    if records.len() < c.n as usize || slots.len() < slots_len(c.n) {
+        return TOO_SHORT;
+    }
+    if !within(1, c.n, object) {
+        return NO_OBJECT;
+    }
+    let r = records[(object - 1) as usize];
+    if r == 0 {
+        return IS_FREE;
+    }
+    if legal(c.n, r) { 0 } else { DAMAGED }
+}

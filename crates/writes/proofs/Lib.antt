@@ -1,0 +1,3 @@
+-- Laws of the functions between the calls, and of the calls' ends.
+pub mod WriteLaws
+pub mod SinkLaws

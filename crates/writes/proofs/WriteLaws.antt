@@ -1,0 +1,288 @@
+-- What write answers and leaves at each of its ends. Assumes nothing.
+use Prim.Native.Nat.{ℕ, _+_, _-_, _*_, _^_, _≤_, _<_}
+use mathlib.Core.Path.{_≡_, refl, sym, ap, ap₂, _∙_, subst}
+use mathlib.Core.Bool.{Bool, true, false, not, cond, _||_}
+use mathlib.Core.List.{List, [], _∷_, _++_}
+use mathlib.Core.Logic.{_≢_}
+use native.Mathlib.Decide.{ℕ-discrete}
+use native.Mathlib.Omega.{arith}
+use lib.Dec.{leb, ltb, eqb, lit<}
+use lib.ListN.{length, getD, set}
+use lib.Seq.{set-set}
+use borrow.Author.Tests.{le-leb, lt-leb, leb-true, leb-false, lt-ltb, le-ltb, eqb-true, not-true, not-false}
+use Rattle.layout.specs.declared.answers.Control.{Control}
+use Rattle.layout.specs.declared.words.Word.{Word}
+use Rattle.layout.specs.declared.words.Word.the-variants.{Nil, Object, Immediate, Illegal}
+use Rattle.layout.specs.Limits.{objectMax, widthMax, slotsLen}
+use Rattle.records.specs.Record.{width, cluster, legal, withOut, withWritten, loose}
+use Rattle.layout.specs.Word.{isNil, isPointer, isImmediate, legalWord, sortOf}
+use Rattle.layout.specs.ControlRecord.{withWriteLoss}
+use Rattle.layout.specs.Refusal.{Test, first}
+use Rattle.layout.proofs.LimitLaws.{below-within, above-within}
+use Rattle.layout.proofs.WordLaws.{Says, sort-says, pointer-legal}
+use Rattle.layout.proofs.RefusalLaws.{Numbered, nil, cons, first-passed, first-front, first-skip, first-zero, first-holds, first-fails, outcome-zero, outcome-number}
+use Rattle.graph.specs.Writes.{dissolves, storeBy, store, lossBy, lossOf}
+use Rattle.graph.specs.Clusters.{size, outBit}
+use Rattle.graph.proofs.NumberLaws.{count-le}
+use Rattle.rules.specs.Buffers.{recOf, eachRecord}
+use Rattle.rules.specs.View.{target, view, exactOut, laid}
+use Rattle.rules.specs.Show.{showTests}
+use Rattle.rules.specs.Write as Write
+use Rattle.rules.proofs.BufferLaws.{recOf-get}
+use Rattle.rules.proofs.StoreLaws.{recOf-set-same, store-staying, store-dissolving, exact-stored, dissolves-loose, dissolves-member}
+use Rattle.table.specs.Clusters.{clusterOf, membersOf, dissolvedRecord, dissolved}
+use Rattle.writes.specs.declared.write.Stored.{Stored}
+use Rattle.writes.specs.Writes.{wordTests, frontTests, Slot, after}
+use Rattle.table.proofs.NamedLaws.{named, named-rest}
+
+-- ---- the tests of the word
+
+module _ (n w : ℕ) (recs : List ℕ) (h : n ≤ objectMax) where
+  says : (s : Word) → s ≡ sortOf n w → Says n w s
+  says s e = subst (Says n w) (sym e) (sort-says n w h)
+
+  pub word-nil : Nil ≡ sortOf n w → 0 ≡ first (wordTests n w recs)
+  unfolding wordTests first legalWord Says isPointer isNil
+  word-nil e =
+      let z : w ≡ 0 = eqb-true w 0 (says Nil e) in
+      rw (says Nil e, below-within 1 n w (omega arith)) refl
+
+  pub word-immediate : Immediate ≡ sortOf n w → 0 ≡ first (wordTests n w recs)
+  unfolding wordTests first legalWord Says isPointer isImmediate
+  word-immediate e =
+      let z : 2 ^ 31 ≤ w = leb-true (2 ^ 31) w (says Immediate e) in
+      rw (says Immediate e, above-within 1 n w (omega arith)) (go (isNil w))
+    where
+      go : (b : Bool) → _≡_ {A = ℕ} 0 (cond (not (b || false || true)) 6 (cond false 23 0))
+      go true = refl
+      go false = refl
+
+  pub word-illegal : Illegal ≡ sortOf n w → 6 ≡ first (wordTests n w recs)
+  unfolding wordTests first Says
+  word-illegal e = rw (says Illegal e) refl
+
+  module _ (x : ℕ) (e : Object x ≡ sortOf n w) (r : ℕ) (f : r ≡ recOf n recs x) (b : Bool) (g : b ≡ legal n r) where
+    at : b ≡ legal n (recOf n recs w)
+    unfolding Says
+    at = g ∙ ap (legal n) (f ∙ ap (recOf n recs) (says (Object x) e .0))
+
+    pub word-object : b ≡ true → 0 ≡ first (wordTests n w recs)
+    unfolding wordTests first Says
+    word-object t = let p = says (Object x) e .1 in rw (pointer-legal n w h p, p, ← at, t) refl
+
+    pub word-none : b ≡ false → 23 ≡ first (wordTests n w recs)
+    unfolding wordTests first Says
+    word-none t = let p = says (Object x) e .1 in rw (pointer-legal n w h p, p, ← at, t) refl
+
+-- ---- all tests but the last
+
+-- n is in its range once the object's tests are passed
+pub named-most : (c : Control) (i : ℕ) (recs slots : List ℕ) (m : ℕ) → m ≡ first (showTests c i recs slots) → m ≡ 0 → c .n ≤ objectMax
+named-most c i recs slots m e z = named c i recs slots (sym e ∙ z) .sound .sizes .most
+
+module _ (c : Control) (i k w : ℕ) (recs slots : List ℕ) where
+  abbrev rest : List Test
+  rest = (5, leb (width (recOf (c .n) recs i)) k) ∷ wordTests (c .n) w recs
+
+  pub front-object : (m : ℕ) → m ≡ first (showTests c i recs slots) → m ≢ 0 → m ≡ first (frontTests c i k w recs slots)
+  unfolding frontTests
+  front-object m e d = e ∙ sym (first-front (showTests c i recs slots) rest (λ z. d (e ∙ z)))
+
+  module _ (m : ℕ) (e : m ≡ first (showTests c i recs slots)) (z : m ≡ 0) (r : ℕ) (f : r ≡ recOf (c .n) recs i) (u : ℕ) (g : u ≡ width r) where
+    follows : first (frontTests c i k w recs slots) ≡ first rest
+    unfolding frontTests
+    follows = named-rest c i recs slots rest (sym e ∙ z)
+
+    width-is : width (recOf (c .n) recs i) ≡ u
+    width-is = sym (g ∙ ap width f)
+
+    pub front-slot : u ≤ k → 5 ≡ first (frontTests c i k w recs slots)
+    front-slot l = sym (follows ∙ first-holds 5 (wordTests (c .n) w recs) _ (rw width-is (le-leb u k l)))
+
+    pub front-word : k < u → (v : ℕ) → v ≡ first (wordTests (c .n) w recs) → v ≡ first (frontTests c i k w recs slots)
+    front-word l v q = q ∙ sym (follows ∙ first-fails 5 (wordTests (c .n) w recs) _ (rw width-is (lt-leb u k l)))
+
+  module _ (m : ℕ) (e : m ≡ first (frontTests c i k w recs slots)) (z : m ≡ 0) where
+    shown : first (showTests c i recs slots) ≡ 0
+    unfolding frontTests
+    shown = go (ℕ-discrete (first (showTests c i recs slots)) 0)
+      where
+        go : Dec (first (showTests c i recs slots) ≡ 0) → first (showTests c i recs slots) ≡ 0
+        go (yes e) = e
+        go (no d) = absurd (d (sym (first-front (showTests c i recs slots) rest d) ∙ sym e ∙ z))
+
+    pub slot-there : Slot (c .n) i k recs slots
+    unfolding frontTests
+    slot-there =
+        let N = named c i recs slots shown in
+        record {
+          most = N .sound .sizes .most;
+          low = N .low;
+          high = N .high;
+          records-long = N .recs-long;
+          slots-long = N .slots-long;
+          used = leb-false _ _ (first-passed 4 _ _ (sym (named-rest c i recs slots rest shown) ∙ sym e ∙ z) .0);
+          narrow = N .legal .narrow;
+        }
+
+    pub losses : (c .n ≤ objectMax) × (c .«write_loss» ≤ c .n)
+    losses = let N = named c i recs slots shown in (N .sound .sizes .most, N .sound .writes)
+
+-- the loss fits a word
+pub loss-low : (n m : ℕ) (recs : List ℕ) (d l : ℕ) → n ≤ objectMax → l ≤ n → m ≡ membersOf n recs d → l + m < 2 ^ 32
+unfolding membersOf size
+loss-low n m recs d l a b e = let c = count-le n (λ x. eqb (clusterOf n recs x) d) in omega arith
+
+pub loss-is : (n i : ℕ) (recs : List ℕ) (r d m l : ℕ) → r ≡ recOf n recs i → d ≡ cluster r → m ≡ membersOf n recs d → l + m ≡ l + membersOf n recs (clusterOf n recs i)
+loss-is n i recs r d m l e f g = ap (λ (x : ℕ). l + x) (g ∙ ap (membersOf n recs) (f ∙ ap cluster e))
+
+-- ---- the slot's place
+
+module _ (n i k : ℕ) (recs slots : List ℕ) (s : Slot n i k recs slots) (at : ℕ) (e : at ≡ slotsLen (i - 1)) where
+  pub place-low : at + k < widthMax * objectMax
+  unfolding slotsLen
+  place-low =
+      let a = s .most in
+      let b = s .low in
+      let d = s .high in
+      let f = s .used in
+      let g = s .narrow in
+      omega arith
+
+  pub place-there : at + k < length slots
+  unfolding slotsLen
+  place-there =
+      let a = s .slots-long in
+      let b = s .low in
+      let d = s .high in
+      let f = s .used in
+      let g = s .narrow in
+      omega arith
+
+-- ---- whether the write dissolves
+
+module _ (n i k : ℕ) (recs slots : List ℕ) (s : Slot n i k recs slots) where
+  module _ (r d : ℕ) (e : r ≡ recOf n recs i) (f : d ≡ cluster r) where
+    pub dissolves-none : d ≡ 0 → false ≡ dissolves (view n recs slots) i k 0
+    dissolves-none z = dissolves-loose n recs slots i k (s .low) (s .used) (s .narrow) 0 (sym (f ∙ ap cluster e) ∙ z)
+
+    pub dissolves-by : d ≢ 0 → (at : ℕ) → at ≡ slotsLen (i - 1) → (q m : ℕ) → q ≡ recOf n recs (getD slots (at + k) 0) → m ≡ cluster q
+        → eqb m d ≡ dissolves (view n recs slots) i k 0
+    unfolding slotsLen
+    dissolves-by h at a q m g j =
+        let y : cluster (recOf n recs i) ≡ d = sym (f ∙ ap cluster e) in
+        let x : m ≡ cluster (recOf n recs (getD slots (8 * (i - 1) + k) 0)) = j ∙ ap cluster (g ∙ ap (λ (p : ℕ). recOf n recs (getD slots (p + k) 0)) a) in
+        ap₂ eqb x (sym y) ∙ dissolves-member n recs slots i k (s .low) (s .used) (s .narrow) 0 (λ o. h (sym y ∙ o))
+
+-- ---- the stores
+
+pub written-set : (n i k : ℕ) (recs slots : List ℕ) → Slot n i k recs slots → (v : ℕ) → v ≡ withWritten true (getD recs (i - 1) 0)
+    → set recs (i - 1) v ≡ set recs (i - 1) (withWritten true (recOf n recs i))
+written-set n i k recs slots s v e = ap (set recs (i - 1)) (e ∙ ap (withWritten true) (sym (recOf-get n recs i (s .low) (s .high))))
+
+pub word-stored : (i k w : ℕ) (slots : List ℕ) (at : ℕ) → at ≡ slotsLen (i - 1) → set slots (at + k) w ≡ set slots (8 * (i - 1) + k) w
+unfolding slotsLen
+word-stored i k w slots at e = ap (λ (p : ℕ). set slots (p + k) w) e
+
+module _ (n i k w : ℕ) (recs slots : List ℕ) (s : Slot n i k recs slots) where
+  abbrev new : List ℕ
+  new = set recs (i - 1) (withWritten true (recOf n recs i))
+
+  abbrev changed : List ℕ
+  changed = set slots (8 * (i - 1) + k) w
+
+  -- out made exact in the record that the store left
+  pub stays : (rs ss : List ℕ) → rs ≡ new → ss ≡ changed → (o : Bool) → o ≡ exactOut (view n rs ss) i → (v : ℕ) → v ≡ withOut o (getD rs (i - 1) 0)
+      → set rs (i - 1) v ≡ laid (storeBy false (view n recs slots) i k (target n w)) recs
+  stays rs ss a b o e v f =
+      let y : o ≡ outBit _ _ _ i = e ∙ ap₂ (λ (x y : List ℕ). exactOut (view n x y) i) a b ∙ exact-stored n recs slots i k (s .low) (s .used) (s .narrow) w (s .high) (s .records-long) in
+      let g : getD rs (i - 1) 0 ≡ withWritten true (recOf n recs i)
+      = ap (λ (l : List ℕ). getD l (i - 1) 0) a ∙ sym (recOf-get n new i (s .low) (s .high)) ∙ recOf-set-same n recs i _ (s .low) (s .high) (s .records-long) in
+      ap₂ (λ (l : List ℕ) (x : ℕ). set l (i - 1) x) a (f ∙ ap₂ withOut y g)
+      ∙ set-set recs (i - 1) _ _
+      ∙ sym (store-staying n recs slots i k (target n w) (s .low) (s .high) (s .records-long))
+
+  -- the members made loose after the store
+  pub gone : (r d : ℕ) → r ≡ recOf n recs i → d ≡ cluster r → (rs ts : List ℕ) → rs ≡ new → ts ≡ dissolved n d rs
+      → ts ≡ laid (storeBy true (view n recs slots) i k (target n w)) recs
+  unfolding dissolved dissolvedRecord
+  gone r d e f rs ts a b =
+      b ∙ ap₂ (λ (x : ℕ) (l : List ℕ). eachRecord n (λ y q. cond (eqb (cluster q) x) (loose q) q) l) (f ∙ ap cluster e) a
+      ∙ sym (store-dissolving n recs slots i k (target n w) (s .low) (s .high) (s .records-long))
+
+-- ---- the ends of the call
+
+module _ (c : Control) (i k w : ℕ) (recs slots : List ℕ) where
+  abbrev last-test : List Test
+  last-test = (25, ltb (c .n) (Write.lossAfter c i k w recs slots)) ∷ []
+
+  tests-parts : Write.writeTests c i k w recs slots ≡ frontTests c i k w recs slots ++ last-test
+  unfolding Write.writeTests frontTests showTests wordTests
+  tests-parts = refl
+
+  numbered : Numbered (frontTests c i k w recs slots)
+  unfolding frontTests showTests wordTests
+  numbered = cons (lit< tt) (cons (lit< tt) (cons (lit< tt) (cons (lit< tt) (cons (lit< tt) (cons (lit< tt) (cons (lit< tt) (cons (lit< tt) nil)))))))
+
+  pub refused : (m : ℕ) → m ≡ first (frontTests c i k w recs slots) → m ≢ 0
+      → Write.gives (record { refusal = m; control = c }) recs slots ≡ Write.write c i k w recs slots
+  unfolding Write.write
+  refused m e d =
+      sym (outcome-number _ _ (Write.writeTests c i k w recs slots) m
+      (ap first tests-parts ∙ first-front (frontTests c i k w recs slots) last-test (λ z. d (e ∙ z)) ∙ sym e) d)
+
+  module _ (m : ℕ) (e : m ≡ first (frontTests c i k w recs slots)) (z : m ≡ 0) where
+    only-last : first (Write.writeTests c i k w recs slots) ≡ first last-test
+    only-last = ap first tests-parts ∙ first-skip (frontTests c i k w recs slots) last-test (first-zero (frontTests c i k w recs slots) numbered (sym e ∙ z))
+
+    module _ (b : Bool) (f : dissolves (view (c .n) recs slots) i k (target (c .n) w) ≡ b) where
+      loss-by : Write.lossAfter c i k w recs slots ≡ c .«write_loss» + lossBy b (view (c .n) recs slots) i
+      unfolding Write.lossAfter lossOf
+      loss-by = rw f refl
+
+      done : Write.lossAfter c i k w recs slots ≤ c .n → (d : Control) → d ≡ withWriteLoss (Write.lossAfter c i k w recs slots) c → (rs ss : List ℕ)
+          → rs ≡ laid (storeBy b (view (c .n) recs slots) i k (target (c .n) w)) recs → ss ≡ set slots (8 * (i - 1) + k) w
+          → Write.gives (record { refusal = 0; control = d }) rs ss ≡ Write.write c i k w recs slots
+      unfolding Write.write store first
+      done h d q rs ss x y =
+          let v : rs ≡ laid (storeBy (dissolves (view (c .n) recs slots) i k (target (c .n) w)) (view (c .n) recs slots) i k (target (c .n) w)) recs = rw f x in
+          (λ j. Write.gives (record { refusal = 0; control = q j }) (v j) (y j))
+          ∙ sym (outcome-zero _ _ (Write.writeTests c i k w recs slots) (only-last ∙ first-fails 25 [] _ (le-ltb _ _ h)))
+
+    pub stayed : (b : Bool) → b ≡ dissolves (view (c .n) recs slots) i k 0 → not b ≡ true → (rs ss : List ℕ)
+        → rs ≡ laid (storeBy false (view (c .n) recs slots) i k (target (c .n) w)) recs → ss ≡ set slots (8 * (i - 1) + k) w
+        → Write.gives (record { refusal = 0; control = c }) rs ss ≡ Write.write c i k w recs slots
+    unfolding dissolves lossBy withWriteLoss
+    stayed b f t rs ss x y =
+        let g = sym f ∙ not-true b t in
+        let l : Write.lossAfter c i k w recs slots ≡ c .«write_loss» + 0 = loss-by false g in
+        let h = losses c i k w recs slots m e z .1 in
+        let same : c .«write_loss» ≡ Write.lossAfter c i k w recs slots = omega arith in
+        done false g (omega arith) c (ap (λ (q : ℕ). withWriteLoss q c) same) rs ss x y
+
+    module _ (b : Bool) (f : b ≡ dissolves (view (c .n) recs slots) i k 0) (t : not b ≡ false)
+        (l : ℕ) (g : l ≡ c .«write_loss» + membersOf (c .n) recs (clusterOf (c .n) recs i)) where
+      dissolving : dissolves (view (c .n) recs slots) i k (target (c .n) w) ≡ true
+      unfolding dissolves
+      dissolving = sym f ∙ not-false b t
+
+      grown : Write.lossAfter c i k w recs slots ≡ l
+      unfolding lossBy membersOf view
+      grown = loss-by true dissolving ∙ sym g
+
+      pub too-many : c .n < l → Write.gives (record { refusal = 25; control = c }) recs slots ≡ Write.write c i k w recs slots
+      unfolding Write.write
+      too-many h =
+          sym (outcome-number _ _ (Write.writeTests c i k w recs slots) 25
+          (only-last ∙ first-holds 25 [] _ (rw grown (lt-ltb _ _ h))) (λ (q : 25 ≡ 0). omega arith))
+
+      pub dissolved-all : l ≤ c .n → (d : Control) → d ≡ withWriteLoss l c → (rs ss : List ℕ)
+          → rs ≡ laid (storeBy true (view (c .n) recs slots) i k (target (c .n) w)) recs → ss ≡ set slots (8 * (i - 1) + k) w
+          → Write.gives (record { refusal = 0; control = d }) rs ss ≡ Write.write c i k w recs slots
+      dissolved-all h d q rs ss x y = done true dissolving (rw grown h) d (q ∙ ap (λ (v : ℕ). withWriteLoss v c) (sym grown)) rs ss x y
+
+-- the control record of the answer may be built apart
+pub with-record : (c d : Control) (a : Stored) (rs ss : List ℕ) (o : Write.Outcome) → d ≡ withWriteLoss (a .«write_loss») c
+    → Write.gives (after c a) rs ss ≡ o → Write.gives (record { refusal = a .refusal; control = d }) rs ss ≡ o
+unfolding after
+with-record c d a rs ss o q e = ap (λ (x : Control). Write.gives (record { refusal = a .refusal; control = x }) rs ss) q ∙ e

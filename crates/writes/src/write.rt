@@ -1,0 +1,223 @@
+// Write: a word is stored in a slot; the object's cluster is dissolved, or its out bit made exact.
+ghost use mathlib.Core.Path.{_≡_};
+ghost use mathlib.Core.Bool.{true, false};
+ghost use Prim.Native.Nat.{_+_, _-_, _*_, _≤_};
+ghost use lib.ListN.{set};
+ghost use Rattle.layout.specs.Limits.{widthMax, objectMax};
+ghost use Rattle.records.specs.Record.{cluster, withWritten};
+ghost use Rattle.layout.specs.ControlRecord.{withWriteLoss};
+ghost use Rattle.layout.specs.Refusal.{first};
+ghost use Rattle.graph.specs.Writes.{dissolves, storeBy};
+ghost use Rattle.rules.specs.Buffers.{recOf};
+ghost use Rattle.rules.specs.View.{target, view, laid};
+ghost use Rattle.rules.specs.Write as Write;
+ghost use Rattle.table.specs.Clusters.{clusterOf, membersOf};
+ghost use Rattle.writes.specs.Writes.{wordTests, frontTests, Slot, after};
+use layout::answers::Control;
+use layout::answers::Done;
+use layout::limits::slots_len;
+use layout::refusals::BAD_WORD;
+use layout::refusals::LOSS_FULL;
+use layout::refusals::NAMES_NONE;
+use layout::refusals::NO_SLOT;
+use layout::words::Word;
+use layout::words::sort_word;
+use records::cluster_of;
+use records::legal;
+use records::width_of;
+use records::with_out;
+use records::with_written;
+use table::clusters::dissolve;
+use table::clusters::exact_out;
+use table::clusters::members;
+use table::clusters::record_of;
+use table::named::object_refusal;
+
+// ---- the tests
+
+// The first of the word's tests that holds, 0 where none does.
+fn word_refusal(n: u32, word: u32, records: &[u32]) -> u32
+    requires { ⌜ n ≤ objectMax ⌝ }
+    ensures { λ k. ⌜ k ≡ first (wordTests n word (now (records .entry))) ⌝ }
+{
+    match sort_word(n, word) {
+        Word::Nil => 0,
+        Word::Object(x) => {
+            if legal(n, record_of(n, x, records)) {
+                0
+            } else {
+                NAMES_NONE
+            }
+        }
+        Word::Immediate => 0,
+        Word::Illegal => BAD_WORD,
+    }
+}
+
+// The first test of a write that holds, but for the last test; 0 where none does.
+fn write_refusal(
+    c: Control,
+    object: u32,
+    slot: u32,
+    word: u32,
+    records: &[u32],
+    slots: &[u32],
+) -> u32
+    ensures { λ k. ⌜ k ≡ first (frontTests c object slot word (now (records .entry)) (now (slots .entry))) ⌝ }
+{
+    let k = object_refusal(c, object, records, slots);
+    if k != 0 {
+        return k;
+    }
+    if width_of(record_of(c.n, object, records)) <= slot {
+        return NO_SLOT;
+    }
+    word_refusal(c.n, word, records)
+}
+
+// Whether the old word points into the object's own cluster.
+fn does_dissolve(n: u32, object: u32, slot: u32, records: &[u32], slots: &[u32]) -> bool
+    requires { ⌜ Slot n object slot (now records) (now slots) ⌝ }
+    ensures { λ b. ⌜ b ≡ dissolves (view n (now (records .entry)) (now (slots .entry))) object slot 0 ⌝ }
+{
+    let c = cluster_of(record_of(n, object, records));
+    if c == 0 {
+        return false;
+    }
+    let old = slots[slots_len(object - 1) + slot as usize];
+    cluster_of(record_of(n, old, records)) == c
+}
+
+// Write loss after the object's cluster is dissolved.
+fn loss_after(c: Control, object: u32, records: &[u32]) -> u32
+    requires { ⌜ (c .n ≤ objectMax) × (c .«write_loss» ≤ c .n) ⌝ }
+    ensures { λ k. ⌜ k ≡ c .«write_loss» + membersOf (c .n) (now (records .entry)) (clusterOf (c .n) (now (records .entry)) object) ⌝ }
+{
+    c.write_loss + members(c.n, cluster_of(record_of(c.n, object, records)), records)
+}
+
+// ---- the stores
+
+// The word is stored and the object's written bit set.
+fn store_word(n: u32, object: u32, slot: u32, word: u32, records: &mut [u32], slots: &mut [u32])
+    requires { ⌜ Slot n object slot (now records) (now slots) ⌝ }
+    ensures { λ _. ⌜ (now (records .exit) ≡ set (now (records .entry)) (object - 1) (withWritten true (recOf n (now (records .entry)) object)))
+        × (now (slots .exit) ≡ set (now (slots .entry)) (widthMax * (object - 1) + slot) word) ⌝ }
+{
+    let at = (object - 1) as usize;
+    records[at] = with_written(records[at], true);
+    slots[slots_len(object - 1) + slot as usize] = word;
+}
+
+// A store that leaves the clusters: the object's out bit is made exact.
+fn store_staying(n: u32, object: u32, slot: u32, word: u32, records: &mut [u32], slots: &mut [u32])
+    requires { ⌜ Slot n object slot (now records) (now slots) ⌝ }
+    ensures { λ _. ⌜ (now (records .exit)
+        ≡ laid (storeBy false (view n (now (records .entry)) (now (slots .entry))) object slot (target n word)) (now (records .entry)))
+        × (now (slots .exit) ≡ set (now (slots .entry)) (widthMax * (object - 1) + slot) word) ⌝ }
+{
+    store_word(n, object, slot, word, records, slots);
+    let out = exact_out(n, object, records, slots);
+    let at = (object - 1) as usize;
+    records[at] = with_out(records[at], out);
+}
+
+// A store that dissolves the object's cluster: every member becomes loose.
+fn store_dissolving(
+    n: u32,
+    object: u32,
+    slot: u32,
+    word: u32,
+    records: &mut [u32],
+    slots: &mut [u32],
+)
+    requires { ⌜ Slot n object slot (now records) (now slots) ⌝ }
+    ensures { λ _. ⌜ (now (records .exit)
+        ≡ laid (storeBy true (view n (now (records .entry)) (now (slots .entry))) object slot (target n word)) (now (records .entry)))
+        × (now (slots .exit) ≡ set (now (slots .entry)) (widthMax * (object - 1) + slot) word) ⌝ }
+{
+    let c = cluster_of(record_of(n, object, records));
+    store_word(n, object, slot, word, records, slots);
+    dissolve(n, c, records);
+}
+
+// ---- the call
+
+fn with_write_loss(c: Control, k: u32) -> Control
+    ensures { λ d. ⌜ d ≡ withWriteLoss k c ⌝ }
+{
+    Control {
+        n: c.n,
+        r: c.r,
+        last: c.last,
+        limit: c.limit,
+        write_loss: k,
+        out_loss: c.out_loss,
+    }
+}
+
+// The refusal, 0 where the word was stored, and the write loss after the call.
+pub struct Stored {
+    pub refusal: u32,
+    pub write_loss: u32,
+}
+
+// All of a write but the control record, so that no caller has to take one apart that was copied whole.
+// The members are counted before any store, and only where the cluster is dissolved.
+pub fn store(
+    c: Control,
+    object: u32,
+    slot: u32,
+    word: u32,
+    records: &mut [u32],
+    slots: &mut [u32],
+) -> Stored
+    ensures { λ a. ⌜ Write.gives (after c a) (now (records .exit)) (now (slots .exit))
+        ≡ Write.write c object slot word (now (records .entry)) (now (slots .entry)) ⌝ }
+{
+    let refusal = write_refusal(c, object, slot, word, records, slots);
+    if refusal != 0 {
+        return Stored {
+            refusal: refusal,
+            write_loss: c.write_loss,
+        };
+    }
+    if !does_dissolve(c.n, object, slot, records, slots) {
+        store_staying(c.n, object, slot, word, records, slots);
+        return Stored {
+            refusal: 0,
+            write_loss: c.write_loss,
+        };
+    }
+    let loss = loss_after(c, object, records);
+    if c.n < loss {
+        return Stored {
+            refusal: LOSS_FULL,
+            write_loss: c.write_loss,
+        };
+    }
+    store_dissolving(c.n, object, slot, word, records, slots);
+    Stored {
+        refusal: 0,
+        write_loss: loss,
+    }
+}
+
+// The same with the control record in the answer.
+pub fn write(
+    c: Control,
+    object: u32,
+    slot: u32,
+    word: u32,
+    records: &mut [u32],
+    slots: &mut [u32],
+) -> Done
+    ensures { λ a. ⌜ Write.gives a (now (records .exit)) (now (slots .exit))
+        ≡ Write.write c object slot word (now (records .entry)) (now (slots .entry)) ⌝ }
+{
+    let a = store(c, object, slot, word, records, slots);
+    Done {
+        refusal: a.refusal,
+        control: with_write_loss(c, a.write_loss),
+    }
+}
