@@ -9,14 +9,23 @@ use native.Mathlib.Omega.{arith}
 use lib.Dec.{eqb}
 use lib.ListN.{getD}
 use borrow.Author.Tests.{eq-eqb, ne-eqb}
-use Rattle.layout.specs.Record.{cluster}
+use Rattle.records.specs.Record.{cluster}
 use Rattle.graph.specs.Numbers.{bit, sum, count}
 use Rattle.graph.proofs.NumberLaws.{count-le}
 use Rattle.rules.specs.Buffers.{recOf}
 use Rattle.rules.proofs.PlaceLaws.{rec-at}
 use Rattle.links.specs.Links.{clOf}
+use Rattle.choices.specs.Choices.{overBy, lossBy}
 use Rattle.analyse.specs.Memory.{area, sizeIn}
-use Rattle.analyse.specs.Judge.{overBy, lossAt, headAt, memberAt}
+use Rattle.analyse.specs.Judge.{lossAt, headAt, memberAt}
+
+loss-le : (s p : ℕ) → lossBy s p ≤ s
+unfolding lossBy
+loss-le s p = go (overBy s p)
+  where
+    go : (b : Bool) → cond b s 0 ≤ s
+    go true = omega arith
+    go false = omega arith
 
 module _ (n : ℕ) (recs work : List ℕ) (h : ℕ) (low : 1 ≤ h) (fits : h ≤ n) (d : ℕ) (is : d ≡ cluster (getD recs (h - 1) 0)) where
   old-is : clOf n recs h ≡ d
@@ -47,18 +56,13 @@ module _ (n : ℕ) (recs work : List ℕ) (h : ℕ) (low : 1 ≤ h) (fits : h �
     unfolding lossAt
     loss-other e p = (rw (old-is, z, ← e, ne-eqb (w % 4096) h p) refl, omega arith)
 
-    module _ (e : w ≡ area n (9 * n) work h) (own : w % 4096 ≡ h) (s p : ℕ) (ss : s ≡ area n (8 * n) work h) (ps : p ≡ area n 0 work h)
-        (b : Bool) (o : b ≡ overBy (s / 4096) p) where
-      head-is : eqb (area n (9 * n) work h % 4096) h ≡ true
-      head-is = rw (← e) (eq-eqb (w % 4096) h own)
-
-      pub loss-over : b ≡ true → s / 4096 ≤ 4095 → (s / 4096 ≡ lossAt n recs work h) × (s / 4096 ≤ 4095)
-      unfolding lossAt
-      loss-over t m = (rw (old-is, z, head-is, ← ss, ← ps, ← o, t) refl, m)
-
-      pub loss-none : b ≡ false → (0 ≡ lossAt n recs work h) × (0 ≤ 4095)
-      unfolding lossAt
-      loss-none t = (rw (old-is, z, head-is, ← ss, ← ps, ← o, t) refl, omega arith)
+    pub loss-new : w ≡ area n (9 * n) work h → w % 4096 ≡ h → (s p : ℕ) → s ≡ area n (8 * n) work h → p ≡ area n 0 work h → s / 4096 ≤ 4095
+        → (m : ℕ) → m ≡ lossBy (s / 4096) p → (m ≡ lossAt n recs work h) × (m ≤ 4095)
+    unfolding lossAt lossBy
+    loss-new e own s p ss ps few m is = (is ∙ rw (old-is, z, head-is, ← ss, ← ps) refl, omega (arith, is, loss-le (s / 4096) p, few))
+      where
+        head-is : eqb (area n (9 * n) work h % 4096) h ≡ true
+        head-is = rw (← e) (eq-eqb (w % 4096) h own)
 
 -- ---- sums up to k
 

@@ -10,7 +10,7 @@ use native.Mathlib.Omega.{arith}
 use lib.Dec.{eqb, ltb, leb}
 use lib.ListN.{length}
 use borrow.Author.Tests.{eqb-true, eq-eqb, ne-eqb, le-leb, lt-leb}
-use Rattle.layout.specs.Record.{isSink}
+use Rattle.records.specs.Record.{isSink}
 use Rattle.graph.specs.Numbers.{bit, sum, count}
 use Rattle.graph.specs.Heap.{Heap}
 use Rattle.graph.specs.Clusters.{size, keep, outBit, outsOf}
@@ -25,7 +25,8 @@ use Rattle.links.specs.Links.{clOf}
 use Rattle.analyse.specs.Memory.{area, clusterIn, sizeIn}
 use Rattle.analyse.specs.Contracts.{Sized}
 use Rattle.analyse.specs.Filling.{Filling}
-use Rattle.analyse.specs.Judge.{formed, Tallying, Judging, Judgeable, Judged, leftOf, overBy, staysBy, staysIn, leftWord, lossAt, headAt, memberAt, settled}
+use Rattle.choices.specs.Choices.{overBy, lasts, settled}
+use Rattle.analyse.specs.Judge.{formed, Tallying, Judging, Judgeable, Judged, leftOf, staysBy, staysIn, leftWord, lossAt, headAt, memberAt}
 use Rattle.analyse.proofs.JudgeLaws.{tally-start, judging-now}
 use Rattle.analyse.proofs.FillLaws.{area-zero, area-over}
 
@@ -79,7 +80,6 @@ module _ (n : ℕ) (recs slots work₀ work₁ : List ℕ) (J : Judgeable n recs
         widths = J .sized .widths;
       };
       small = λ x. rw (ap (λ (g : ℕ → ℕ). sizeIn g x) links-two) (J .small x);
-      few = λ c. omega (arith, T .most c, J .sized .most);
       fits = λ x. rw (ap (λ (g : ℕ → ℕ). clusterIn g x) states-two) (J .fits x);
     }
 
@@ -95,7 +95,7 @@ module _ (n : ℕ) (recs slots work₀ work₁ : List ℕ) (J : Judgeable n recs
     over-is c p q e = rw (size-is c (λ z. absurd (omega arith)) e, outs-is c p q) refl
 
     stays-new : (c : ℕ) → 1 ≤ c → c ≤ n → eqb (clOf n recs c) 0 ≡ true → staysIn n recs work₂ c ≡ stays rule H cl c
-    unfolding staysIn staysBy stays isNew few view
+    unfolding staysIn staysBy lasts stays isNew few view
     stays-new c p q e =
         let z : clOf n recs c ≡ 0 = eqb-true _ _ e in
         rw e (ap₂ (λ (a : Bool) (s : ℕ). not (a || ltb s least)) (over-is c p q z) (size-is c (λ z. absurd (omega arith)) z))

@@ -16,11 +16,11 @@ use Rattle.layout.specs.declared.answers.Control.{Control}
 use Rattle.layout.specs.declared.answers.Analysed.{Analysed}
 use Rattle.layout.specs.Limits.{objectMax, slotsLen, workLen}
 use Rattle.layout.specs.Field.{field}
-use Rattle.layout.specs.Record.{isSink, width, cluster}
+use Rattle.records.specs.Record.{isSink, width, cluster}
 use Rattle.layout.specs.ControlRecord.{badControl, withAnalysis}
 use Rattle.layout.specs.Refusal.{first}
 use Rattle.layout.proofs.ControlLaws.{control-facts}
-use Rattle.layout.proofs.RecordLaws.{Legal}
+use Rattle.records.proofs.RecordLaws.{Legal}
 use Rattle.layout.proofs.RefusalLaws.{outcome-zero, outcome-number}
 use Rattle.graph.specs.Heap.{Heap, starts}
 use Rattle.graph.specs.Analysis.{Work, begin, finish, walked, leftClusters}
@@ -130,13 +130,6 @@ module _ (c : Control) (recs slots roots work : List ℕ) where
   module _ (A : Accepted) where
     pub most : c .n ≤ 4095
     most = control-facts c (A .control) .sizes .most
-
-    pub limit-low : c .limit ≤ 4095
-    limit-low = go (control-facts c (A .control) .limit)
-      where
-        go : (c .limit ≡ 0) ⊎ ((8 ≤ c .limit) × (c .limit ≤ 4095)) → c .limit ≤ 4095
-        go (inl e) = omega arith
-        go (inr p) = p .1
 
     abbrev limit : ℕ
     limit = nextLimit c (usedCount (c .n) recs)

@@ -7,7 +7,7 @@ use mathlib.Core.Logic.{_⊎_, inl, inr}
 use native.Mathlib.Decide.{ℕ-discrete}
 use native.Mathlib.Omega.{arith}
 use lib.ListN.{length, getD, set, length-set}
-use Rattle.layout.specs.Record.{cluster}
+use Rattle.records.specs.Record.{cluster}
 use Rattle.graph.specs.Numbers.{upd}
 use Rattle.graph.proofs.NumberLaws.{upd-same, upd-other}
 use Rattle.rules.specs.Buffers.{recOf}

@@ -11,23 +11,22 @@ use lib.Dec.{eqb, ltb, leb}
 use lib.ListN.{length, getD, take, drop, set, length-set, length-drop, drop-of-length-le}
 use lib.Seq.{drop-cons, getD-take, getD-drop, length-take-le}
 use borrow.Author.Tests.{eq-eqb, ne-eqb, le-ltb, lt-ltb, le-leb, lt-leb}
-use Rattle.layout.specs.Record.{isSink, cluster, width, withCluster, withOut, withSink, withWritten}
-use Rattle.layout.proofs.FieldLaws.{flag-stays, flag-put-other, field-lt}
+use Rattle.records.specs.Record.{isSink, cluster, width}
 use Rattle.graph.specs.Numbers.{bit, sum, upd}
 use Rattle.graph.specs.Heap.{Heap}
 use Rattle.graph.specs.Clusters.{keep, leaves, outCount, outBit, outsOf}
 use Rattle.graph.proofs.NumberLaws.{bit-le, upd-same, upd-other}
 use Rattle.graph.proofs.OutLaws.{outBit-keep, outBit-none}
 use Rattle.rules.specs.Buffers.{recOf}
-use Rattle.rules.specs.View.{view, target, laidRecord}
-use Rattle.rules.specs.Analyse.{least}
+use Rattle.rules.specs.View.{view, target}
 use Rattle.rules.proofs.PlaceLaws.{rec-at}
 use Rattle.rules.proofs.ViewLaws.{target-low}
 use Rattle.links.specs.Links.{clOf}
+use Rattle.choices.specs.Choices.{lasts}
 use Rattle.analyse.specs.Memory.{area, clusterIn, sizeIn}
 use Rattle.analyse.specs.Contracts.{Sized}
 use Rattle.analyse.specs.Filling.{Filling}
-use Rattle.analyse.specs.Judge.{formed, outsAt, Tallying, Judging, overBy, staysBy, staysIn, leftWord, settled}
+use Rattle.analyse.specs.Judge.{formed, outsAt, Tallying, Judging, staysBy, staysIn, leftWord}
 use Rattle.analyse.proofs.MemoryLaws.{area-put, area-below}
 use Rattle.analyse.proofs.SlotLaws.{kids-at}
 
@@ -216,18 +215,9 @@ module _ (n : ℕ) (recs work : List ℕ) (c : ℕ) (low : 1 ≤ c) (fits : c �
   unfolding staysIn staysBy
   stays-old p = rw (old-is, ne-eqb d 0 p) refl
 
-  module _ (z : d ≡ 0) (w p : ℕ) (ws : w ≡ area n (8 * n) work c) (ps : p ≡ area n 0 work c) (b : Bool) (o : b ≡ overBy (w / 4096) p) where
-    pub stays-over : b ≡ true → false ≡ staysIn n recs work c
-    unfolding staysIn staysBy
-    stays-over t = rw (old-is, z, ← ws, ← ps, ← o, t) refl
-
-    pub stays-least : b ≡ false → leb 4 (w / 4096) ≡ staysIn n recs work c
-    unfolding staysIn staysBy
-    stays-least t = rw (old-is, z, ← ws, ← ps, ← o, t) (go (decLe 4 (w / 4096)))
-      where
-        go : Dec (4 ≤ w / 4096) → leb 4 (w / 4096) ≡ not (ltb (w / 4096) 4)
-        go (yes l) = rw (le-leb 4 (w / 4096) l, le-ltb (w / 4096) 4 l) refl
-        go (no l) = rw (lt-leb 4 (w / 4096) (omega (arith, l)), lt-ltb (w / 4096) 4 (omega (arith, l))) refl
+  pub stays-new : d ≡ 0 → (w p : ℕ) → w ≡ area n (8 * n) work c → p ≡ area n 0 work c → (b : Bool) → b ≡ lasts (w / 4096) p → b ≡ staysIn n recs work c
+  unfolding staysIn staysBy
+  stays-new z w p ws ps b o = o ∙ rw (old-is, z, ← ws, ← ps) refl
 
 -- ---- what an object is left with
 
@@ -271,17 +261,6 @@ module _ (n : ℕ) (recs slots work : List ℕ) (x c w : ℕ) (ws : w ≡ area n
     pub left-out : m ≢ 0 → c + 4096 ≡ leftWord n recs slots work x
     left-out z = sym (word-is ∙ rw (← e, f, out-by, lt-ltb 0 m (omega (arith, z))) (omega arith))
 
--- ---- the record of an object when the analysis is over
-
-pub settled-is : (w r : ℕ) → withCluster (w % 4096) (withOut (leb 4096 w) (withWritten false r)) ≡ settled w r
-unfolding settled laidRecord
-settled-is w r =
-    ap (λ (v : ℕ). withCluster (w % 4096) (withOut (leb 4096 w) v))
-    (sym (flag-stays 2 (isSink r) (withWritten false r) (flag-put-other 1 false r 2 (λ e. absurd (ne-two e)))))
-  where
-    ne-two : _≡_ {A = ℕ} 1 2 → ⊥
-    ne-two e = omega arith
-
 -- ---- the pass that notes what each object is left with
 
 module _ (n : ℕ) (recs slots work₀ work : List ℕ) (f : ℕ → ℕ) (k : ℕ) (F : Filling n n f work₀ work k) where
@@ -304,7 +283,6 @@ module _ (n : ℕ) (recs slots work₀ work : List ℕ) (f : ℕ → ℕ) (k : �
       widths = J .sized .widths;
     };
     small = λ x. rw (ap (λ (g : ℕ → ℕ). sizeIn g x) links-same) (J .small x);
-    few = λ x. rw (ap (λ (g : ℕ → ℕ). g x) counts-same) (J .few x);
     fits = λ x. rw (ap (λ (g : ℕ → ℕ). clusterIn g x) states-same) (J .fits x);
   }
 

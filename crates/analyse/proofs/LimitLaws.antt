@@ -1,35 +1,18 @@
--- The next limit, each way, and the count of the objects in use.
+-- The count of the objects in use.
 -- Assumes nothing.
-use Prim.Native.Nat.{ℕ, _+_, _-_, _*_, _/_, _≤_, _<_, min, max}
+use Prim.Native.Nat.{ℕ, _+_, _-_, _≤_, _<_}
 use mathlib.Core.Path.{_≡_, refl, sym, ap, ap₂, _∙_}
 use mathlib.Core.Bool.{Bool}
 use mathlib.Core.List.{List}
-use mathlib.Core.Logic.{_≢_}
 use native.Mathlib.Omega.{arith}
-use lib.Dec.{eqb}
 use lib.ListN.{length, getD}
-use borrow.Author.Tests.{lt-ltb, le-ltb, ne-eqb}
-use Rattle.layout.specs.declared.answers.Control.{Control}
-use Rattle.layout.specs.Record.{inUse}
+use Rattle.records.specs.Record.{inUse}
 use Rattle.graph.specs.Numbers.{bit, sum, count}
 use Rattle.graph.proofs.NumberLaws.{count-le}
 use Rattle.rules.specs.Buffers.{recOf}
-use Rattle.rules.specs.Analyse.{nextLimit, usedCount}
+use Rattle.rules.specs.Analyse.{usedCount}
 use Rattle.rules.proofs.PlaceLaws.{rec-at}
 use Rattle.analyse.proofs.AnswerLaws.{sum-more}
-
-module _ (c : Control) (used m : ℕ) where
-  pub limit-first : c .limit ≡ 0 → m ≡ max 8 (min 4095 (used / 16)) → m ≡ nextLimit c used
-  unfolding nextLimit
-  limit-first z e = e ∙ rw z refl
-
-  pub limit-halved : c .limit ≢ 0 → c .«out_loss» < c .«write_loss» → m ≡ max 8 (min 4095 (c .limit / 2)) → m ≡ nextLimit c used
-  unfolding nextLimit
-  limit-halved p h e = e ∙ rw (ne-eqb (c .limit) 0 p, lt-ltb (c .«out_loss») (c .«write_loss») h) refl
-
-  pub limit-doubled : c .limit ≢ 0 → c .«write_loss» ≤ c .«out_loss» → m ≡ max 8 (min 4095 (2 * c .limit)) → m ≡ nextLimit c used
-  unfolding nextLimit
-  limit-doubled p h e = e ∙ rw (ne-eqb (c .limit) 0 p, le-ltb (c .«out_loss») (c .«write_loss») h) refl
 
 -- the objects in use among 1 to k are counted
 abbrev pub Used : ℕ → List ℕ → ℕ → ℕ → Type 0

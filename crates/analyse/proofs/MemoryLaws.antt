@@ -27,6 +27,10 @@ area-read n base work x p q =
     let e : base + x - 1 ≡ base + (x - 1) = omega arith in
     rw e (sym (getD-drop base work (x - 1) 0) ∙ rec-at n (drop base work) x p q)
 
+pub area-none : (n base : ℕ) (work : List ℕ) (x : ℕ) → x ≡ 0 → area n base work x ≡ 0
+unfolding area recOf
+area-none n base work x z = rw z refl
+
 pub area-put : (n base : ℕ) (work : List ℕ) (x v : ℕ) → 1 ≤ x → x ≤ n → base + n ≤ length work → (y : ℕ)
     → area n base (set work (base + x - 1) v) y ≡ upd (area n base work) x v y
 unfolding area

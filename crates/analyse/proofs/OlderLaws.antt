@@ -11,7 +11,7 @@ use lib.Dec.{eqb, ltb}
 use lib.ListN.{length, getD, take, drop, set, length-set, length-append}
 use borrow.Author.Tests.{eqb-true, eqb-false, eq-eqb, ne-eqb, lt-ltb, le-ltb, ltb-true, ltb-false}
 use Rattle.layout.specs.Field.{field}
-use Rattle.layout.specs.Record.{width, isOut, cluster}
+use Rattle.records.specs.Record.{width, isOut, cluster}
 use Rattle.graph.specs.Numbers.{upd, gather}
 use Rattle.graph.specs.Heap.{Heap}
 use Rattle.graph.proofs.NumberLaws.{upd-same, upd-other}

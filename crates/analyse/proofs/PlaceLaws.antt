@@ -7,20 +7,21 @@ use mathlib.Core.List.{List, map}
 use native.Mathlib.Omega.{arith}
 use lib.Dec.{eqb, leb}
 use lib.ListN.{length, getD, take, drop, set, length-set}
-use Rattle.layout.specs.Record.{width}
+use Rattle.records.specs.Record.{width}
 use Rattle.graph.specs.Numbers.{upd}
 use Rattle.graph.specs.Heap.{Heap}
 use Rattle.rules.specs.Buffers.{recOf}
 use Rattle.rules.specs.View.{view, target}
 use Rattle.rules.proofs.PlaceLaws.{rec-at}
-use Rattle.analyse.specs.Memory.{area, Memory, memOf, visitWords, inFront, withState, withLink, counting, given}
+use Rattle.analyse.specs.Memory.{area, Memory, memOf, visitWords, inFront, withState, withLink, counting}
+use Rattle.choices.specs.Choices.{goesBy}
 use Rattle.analyse.specs.Contracts.{Sized, goesTo, placed}
 use Rattle.analyse.proofs.MemoryLaws.{put-state}
 use Rattle.analyse.proofs.PushLaws.{given-fits}
 use Rattle.analyse.proofs.SlotLaws.{kids-at, kids-length}
 
 pub goes-fits : (limit r : ℕ) (link : ℕ → ℕ) (o c n : ℕ) → o ≤ n → c ≤ n → goesTo limit r link o c ≤ n
-unfolding goesTo
+unfolding goesTo goesBy
 goes-fits limit r link o c n p q = given-fits _ _ o c n p q
 
 module _ (n limit : ℕ) (recs slots work : List ℕ) (z : Sized n recs slots work) (o c top : ℕ) (p : 1 ≤ o) (q : o ≤ n) (e : ℕ)

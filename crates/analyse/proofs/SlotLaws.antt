@@ -7,7 +7,7 @@ use mathlib.Core.List.{List, [], map, List·Memᴰ, List·Memᴰ·head, List·Me
 use native.Mathlib.Omega.{arith}
 use lib.ListN.{length, getD, take, drop, length-drop, length-map}
 use lib.Seq.{getD-drop, length-take-le}
-use Rattle.layout.specs.Record.{width}
+use Rattle.records.specs.Record.{width}
 use Rattle.rules.specs.Buffers.{recOf, eight, usedWords}
 use Rattle.rules.specs.View.{view, target}
 use Rattle.analyse.specs.Contracts.{Sized}
@@ -15,9 +15,9 @@ use Rattle.analyse.specs.Contracts.{Sized}
 pub words-fit : (from k : ℕ) (slots : List ℕ) → from + k ≤ length slots → k ≤ length (drop from slots)
 words-fit from k slots h = let e = length-drop from slots in omega arith
 
--- the word that the code reads
-pub word-there : (n from : ℕ) (slots : List ℕ) (j : ℕ) → target n (getD slots (from + j) 0) ≡ target n (getD (drop from slots) j 0)
-word-there n from slots j = ap (target n) (sym (getD-drop from slots j 0))
+-- what the word that the code reads at i points at
+pub word-there : (n from : ℕ) (slots : List ℕ) (j t i : ℕ) → t ≡ target n (getD slots i 0) → i ≡ from + j → t ≡ target n (getD (drop from slots) j 0)
+word-there n from slots j t i e f = e ∙ ap (λ (a : ℕ). target n (getD slots a 0)) f ∙ ap (target n) (sym (getD-drop from slots j 0))
 
 take-take : (a b : ℕ) (l : List ℕ) → a ≤ b → take a (take b l) ≡ take a l
 take-take zero b l h = refl

@@ -13,7 +13,7 @@ use lib.Seq.{take-suc}
 use borrow.Author.Tests.{lt-leb}
 use Rattle.layout.specs.Limits.{within}
 use Rattle.layout.specs.Field.{field}
-use Rattle.layout.specs.Record.{cluster, isSink}
+use Rattle.records.specs.Record.{cluster, isSink}
 use Rattle.layout.proofs.FieldLaws.{field-lt}
 use Rattle.graph.specs.Numbers.{gather}
 use Rattle.graph.specs.Heap.{Heap, starts}

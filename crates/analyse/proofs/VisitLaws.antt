@@ -10,7 +10,7 @@ use native.Mathlib.Omega.{arith}
 use lib.Dec.{eqb, leb}
 use lib.ListN.{length, length-append, length-map}
 use borrow.Author.Tests.{eqb-true, eqb-false, eq-eqb, ne-eqb, le-leb, lt-leb}
-use Rattle.layout.specs.Record.{isWritten, isSink}
+use Rattle.records.specs.Record.{isWritten, isSink}
 use Rattle.graph.specs.Numbers.{upd, gather}
 use Rattle.graph.specs.Heap.{Heap}
 use Rattle.graph.specs.Analysis.{Item, Work, items, bars, Visit, skip, older, alone, join, head, pick, kind, visitsOfCluster, pushed, seenBy, clBy, act, step, needed, finish}
@@ -25,7 +25,8 @@ use Rattle.rules.specs.View.{view}
 use Rattle.rules.proofs.PlaceLaws.{upd-map}
 use Rattle.rules.proofs.ViewLaws.{view-closed}
 use Rattle.links.specs.Links.{topMember, clOf}
-use Rattle.analyse.specs.Memory.{area, Memory, memOf, itemOf, visitWords, seenIn, clusterIn, sizeIn, walkOf, inFront, withState, withLink, given, counting}
+use Rattle.choices.specs.Choices.{given, goesBy}
+use Rattle.analyse.specs.Memory.{area, Memory, memOf, itemOf, visitWords, seenIn, clusterIn, sizeIn, walkOf, inFront, withState, withLink, counting}
 use Rattle.analyse.specs.Contracts.{Sized, outsBelow, Chained, handledState, handled, goesTo, placed, Ground, visiting, Visiting, Walking, Visited}
 use Rattle.analyse.proofs.MemoryLaws.{todo-length, words-items, counting-some, counting-none}
 use Rattle.analyse.proofs.PlaceLaws.{goes-fits}
@@ -318,7 +319,7 @@ module _ (n : ℕ) (recs slots : List ℕ) (limit : ℕ) (work : List ℕ) (o c 
 
       -- the cluster that it gets was none before the walk
       to-new : to ≢ 0 → H .cluster to ≡ 0
-      unfolding given goesTo
+      unfolding given goesTo goesBy
       to-new p = go barred roomy p
         where
           go : (b t : Bool) → given b t o c ≢ 0 → H .cluster (given b t o c) ≡ 0
@@ -338,7 +339,7 @@ module _ (n : ℕ) (recs slots : List ℕ) (limit : ℕ) (work : List ℕ) (o c 
 
       -- the table holds the sizes after the visit
       table-is : (x : ℕ) → sizeIn (counting to lk) x ≡ tableBy (sizeIn lk) o c kd x
-      unfolding pick given tableBy Sizes goesTo counting
+      unfolding pick given tableBy Sizes goesTo goesBy counting
       table-is x = go barred roomy known
         where
           empty : sizeIn lk o ≡ 0
@@ -409,7 +410,7 @@ module _ (n : ℕ) (recs slots : List ℕ) (limit : ℕ) (work : List ℕ) (o c 
             ∙ ap (λ (t : List Item). t ++ rest) (words-items n to (H .kids o) (sized .most) (λ k b. view-closed n recs slots o k b))
 
         given-to : act H seen cl o c rest what ≡ record { todo = items to (H .kids o) ++ rest; seen = upd seen o true; cl = upd cl o to }
-        unfolding goesTo
+        unfolding goesTo goesBy
         given-to = ap (act H seen cl o c rest) kind-is ∙ act-given H seen cl o c rest barred roomy none
 
         sizes-then : Sizes H (clusterIn (area n (9 * n) work′)) (sizeIn (area n (8 * n) work′))

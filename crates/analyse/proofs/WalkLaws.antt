@@ -6,7 +6,7 @@ use mathlib.Core.List.{List, [], _∷_, map}
 use mathlib.Core.Logic.{_≢_}
 use native.Mathlib.Omega.{arith}
 use lib.ListN.{length, getD}
-use Rattle.layout.specs.Record.{width}
+use Rattle.records.specs.Record.{width}
 use Rattle.graph.specs.Heap.{Heap}
 use Rattle.graph.specs.Analysis.{Item, Work, needed, finish}
 use Rattle.graph.proofs.AnalysisInv.{Ok, All, both, Inv}

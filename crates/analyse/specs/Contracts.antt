@@ -1,12 +1,12 @@
 -- What the functions of the walk ask of the lent buffers and leave in them.
 use Prim.Native.Nat.{ℕ, _+_, _-_, _*_, _/_, _%_, _≤_, _<_}
 use mathlib.Core.Path.{_≡_}
-use mathlib.Core.Bool.{Bool, not, cond, _&&_, _||_}
+use mathlib.Core.Bool.{cond, _&&_}
 use mathlib.Core.List.{List, [], _∷_, map, List·Memᴰ}
 use mathlib.Core.Logic.{_≢_}
-use lib.Dec.{eqb, leb}
+use lib.Dec.{eqb}
 use lib.ListN.{length, take}
-use Rattle.layout.specs.Record.{isWritten, isSink, isOut, width, cluster}
+use Rattle.records.specs.Record.{width}
 use Rattle.graph.specs.Numbers.{upd, gather}
 use Rattle.graph.specs.Heap.{Heap}
 use Rattle.graph.specs.Analysis.{Item, Work, visitsOfCluster, needed, finish}
@@ -16,7 +16,8 @@ use Rattle.graph.proofs.SizeTable.{Sizes}
 use Rattle.rules.specs.Buffers.{recOf}
 use Rattle.rules.specs.View.{view}
 use Rattle.links.specs.Links.{topMember, clOf}
-use Rattle.analyse.specs.Memory.{area, Memory, memOf, itemOf, visitWords, seenIn, clusterIn, sizeIn, walkOf, inFront, withState, withLink, given, counting}
+use Rattle.choices.specs.Choices.{goesBy}
+use Rattle.analyse.specs.Memory.{area, Memory, memOf, itemOf, visitWords, seenIn, clusterIn, sizeIn, walkOf, inFront, withState, withLink, counting}
 
 -- The lent words are long enough, and no object is wider than its slots.
 pub record Sized (n : ℕ) (recs slots work : List ℕ) : Type 0 where
@@ -49,7 +50,7 @@ handled H d m = inFront (visitWords 0 (outsBelow H d (H .n))) (withState (handle
 
 -- the cluster that object o, in none, gets when c is passed to it
 unfoldable pub goesTo : ℕ → ℕ → (ℕ → ℕ) → ℕ → ℕ → ℕ
-goesTo limit r link o c = given (isWritten r || isSink r) (not (eqb c 0) && leb (sizeIn link c + 1) limit) o c
+goesTo limit r link o c = goesBy limit r (sizeIn link c) o c
 
 -- object o, in no cluster, is seen and gets cluster e; what it points at is visited next, with e
 unfoldable pub placed : Heap → ℕ → ℕ → Memory → Memory

@@ -2,12 +2,12 @@
 -- new head the members, and word x of n to 2n tells what object x is left with.
 use Prim.Native.Nat.{ℕ, _+_, _*_, _/_, _%_, _≤_}
 use mathlib.Core.Path.{_≡_}
-use mathlib.Core.Bool.{Bool, true, false, not, cond, _&&_, _||_}
+use mathlib.Core.Bool.{Bool, false, not, cond, _&&_, _||_}
 use mathlib.Core.List.{List}
 use mathlib.Core.Logic.{_≢_}
-use lib.Dec.{eqb, ltb, leb}
+use lib.Dec.{eqb}
 use lib.ListN.{length}
-use Rattle.layout.specs.Record.{isSink, cluster}
+use Rattle.records.specs.Record.{isSink, cluster}
 use Rattle.graph.specs.Numbers.{bit, sum, count}
 use Rattle.graph.specs.Heap.{Heap}
 use Rattle.graph.specs.Clusters.{keep, outCount, outBit, outsOf}
@@ -15,8 +15,9 @@ use Rattle.graph.specs.Analysis.{stays, outLossOf}
 use Rattle.graph.proofs.SizeTable.{Sizes}
 use Rattle.rules.specs.Buffers.{recOf, eachFrom}
 use Rattle.rules.specs.View.{view, laidRecord}
-use Rattle.rules.specs.Analyse.{least, outPerTen, rule}
+use Rattle.rules.specs.Analyse.{rule}
 use Rattle.links.specs.Links.{clOf}
+use Rattle.choices.specs.Choices.{overBy, lasts}
 use Rattle.analyse.specs.Memory.{area, clusterIn, sizeIn}
 use Rattle.analyse.specs.Contracts.{Sized}
 
@@ -35,20 +36,15 @@ pub record Tallying (n : ℕ) (recs slots work₀ work : List ℕ) (k : ℕ) : T
   pub others : (b : ℕ) → n ≤ b → area n b work ≡ area n b work₀
   pub long : length work ≡ length work₀
 
--- What the judging asks: the words are long enough, and the numbers in the tables small enough.
+-- What the judging asks: the words are long enough, the sizes small enough, and every cluster has a number of an object.
 pub record Judging (n : ℕ) (recs slots work : List ℕ) : Type 0 where
   pub sized : Sized n recs slots work
   pub small : (x : ℕ) → sizeIn (area n (8 * n) work) x ≤ 4095
-  pub few : (c : ℕ) → area n 0 work c ≤ 32760
   pub fits : (x : ℕ) → formed n work x ≤ n
-
--- s members have p out pointers: too many
-unfoldable pub overBy : ℕ → ℕ → Bool
-overBy s p = ltb (outPerTen * s) (10 * p)
 
 -- cluster c, where `old` is its number in the records: does it stay with s members and p out pointers?
 unfoldable pub staysBy : ℕ → ℕ → ℕ → Bool
-staysBy old s p = not (eqb old 0 && (overBy s p || ltb s least))
+staysBy old s p = not (eqb old 0) || lasts s p
 
 unfoldable pub staysIn : ℕ → List ℕ → List ℕ → ℕ → Bool
 staysIn n recs work c = staysBy (clOf n recs c) (sizeIn (area n (8 * n) work) c) (area n 0 work c)
@@ -71,10 +67,6 @@ headAt n recs work h = eqb (clOf n recs h) 0 && eqb (area n n work h % 4096) h
 
 unfoldable pub memberAt : ℕ → List ℕ → List ℕ → ℕ → Bool
 memberAt n recs work x = eqb (clOf n recs x) 0 && not (eqb (area n n work x % 4096) 0)
-
--- record r of an object that is left with w
-unfoldable pub settled : ℕ → ℕ → ℕ
-settled w r = laidRecord (w % 4096) (leb 4096 w) (isSink r) false r
 
 -- What the second half asks of the walk's end.
 pub record Judgeable (n : ℕ) (recs slots work : List ℕ) : Type 0 where

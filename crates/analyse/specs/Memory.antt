@@ -1,7 +1,7 @@
 -- The work words of the walk. Words 0 to 8n hold the visits to make, from the next one at `top` on, growing down; then each object has a
 -- link word at 8n and a state word at 9n.
 use Prim.Native.Nat.{ℕ, _+_, _*_, _/_, _%_}
-use mathlib.Core.Bool.{Bool, true, false, cond}
+use mathlib.Core.Bool.{Bool, cond}
 use mathlib.Core.List.{List, map, _++_}
 use lib.Dec.{eqb, leb}
 use lib.ListN.{take, drop}
@@ -52,12 +52,6 @@ withState f m = record { todo = m .todo; link = m .link; state = f }
 
 unfoldable pub withLink : (ℕ → ℕ) → Memory → Memory
 withLink f m = record { todo = m .todo; link = f; state = m .state }
-
--- the cluster that an object in none gets: none where it is barred, the one passed on where that has room, else its own
-unfoldable pub given : Bool → Bool → ℕ → ℕ → ℕ
-given true room o c = 0
-given false true o c = c
-given false false o c = o
 
 -- one more member of cluster e is counted
 unfoldable pub counting : ℕ → (ℕ → ℕ) → ℕ → ℕ

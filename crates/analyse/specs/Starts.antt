@@ -4,7 +4,7 @@ use mathlib.Core.Path.{_≡_}
 use mathlib.Core.Bool.{cond}
 use mathlib.Core.List.{List, [], _∷_, _++_, List·Memᴰ}
 use lib.ListN.{length, take}
-use Rattle.layout.specs.Record.{width}
+use Rattle.records.specs.Record.{width}
 use Rattle.graph.specs.Numbers.{gather}
 use Rattle.graph.specs.Analysis.{begin}
 use Rattle.graph.proofs.Paths.{Heads}

@@ -11,9 +11,9 @@ ghost use Rattle.analyse.specs.Contracts.{Walking};
 ghost use Rattle.analyse.specs.Starts.{Formable, From, Fit, sinksBelow, sinkAt};
 use crate::memory::put_word;
 use crate::walk::start;
-use layout::records::cluster_of;
-use layout::records::is_sink;
 use links::link;
+use records::cluster_of;
+use records::is_sink;
 
 // Each object is not seen, and in its older cluster.
 fn put_states(n: u32, records: &[u32], work: &mut [u32])

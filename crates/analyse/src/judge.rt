@@ -6,28 +6,22 @@ ghost use lib.ListN.{length};
 ghost use Rattle.graph.specs.Numbers.{sum, count};
 ghost use Rattle.graph.specs.Clusters.{leaves};
 ghost use Rattle.rules.specs.Buffers.{eachFrom, recOf};
-ghost use Rattle.layout.specs.Record.{isSink};
+ghost use Rattle.records.specs.Record.{isSink};
 ghost use Rattle.rules.specs.View.{view, target};
+ghost use Rattle.choices.specs.Choices.{settled};
 ghost use Rattle.analyse.specs.Memory.{area};
 ghost use Rattle.analyse.specs.Contracts.{Sized};
 ghost use Rattle.analyse.specs.Filling.{Filling};
-ghost use Rattle.analyse.specs.Judge.{formed, outsAt, Tallying, Judging, overBy, staysIn, leftWord, lossAt, headAt, memberAt, settled, Judgeable, Judged};
+ghost use Rattle.analyse.specs.Judge.{formed, outsAt, Tallying, Judging, staysIn, leftWord, lossAt, headAt, memberAt, Judgeable, Judged};
 use crate::memory::one_if;
 use crate::memory::put_word;
 use crate::memory::word_of;
 use crate::walk::target_of;
-use layout::records::cluster_of;
-use layout::records::is_sink;
-use layout::records::width_of;
-use layout::records::with_cluster;
-use layout::records::with_out;
-use layout::records::with_written;
-
-// A new cluster with fewer members is deleted.
-const LEAST: u32 = 4;
-
-// And one with more out pointers than this for ten members.
-const OUT_PER_TEN: u32 = 25;
+use choices::loss;
+use choices::settled_record;
+use records::cluster_of;
+use records::is_sink;
+use records::width_of;
 
 // The out loss, and the clusters formed and left, with their members.
 pub(crate) struct Found {
@@ -103,14 +97,6 @@ fn tally(n: u32, records: &[u32], slots: &[u32], work: &mut [u32])
     }
 }
 
-// Whether s members have too many out pointers.
-fn is_over(s: u32, p: u32) -> bool
-    requires { ⌜ (s ≤ 4095) × (p ≤ 32760) ⌝ }
-    ensures { λ b. ⌜ b ≡ overBy s p ⌝ }
-{
-    OUT_PER_TEN * s < 10 * p
-}
-
 // Whether cluster c stays.
 fn stays(n: u32, records: &[u32], slots: &[u32], work: &[u32], c: u32) -> bool
     requires { ⌜ Judging n (now records) (now slots) (now work) × (1 ≤ c) × (c ≤ n) ⌝ }
@@ -120,10 +106,7 @@ fn stays(n: u32, records: &[u32], slots: &[u32], work: &[u32], c: u32) -> bool
         return true;
     }
     let s = word_of(n, work, 8 * n as usize, c) / 4096;
-    if is_over(s, word_of(n, work, 0, c)) {
-        return false;
-    }
-    LEAST <= s
+    choices::stays(s, word_of(n, work, 0, c))
 }
 
 // What object x is left with.
@@ -157,13 +140,6 @@ fn decide(n: u32, records: &[u32], slots: &[u32], work: &mut [u32])
     }
 }
 
-// The record r of an object that is left with w.
-fn settled_record(w: u32, r: u32) -> u32
-    ensures { λ x. ⌜ x ≡ settled w r ⌝ }
-{
-    with_cluster(with_out(with_written(r, false), 4096 <= w), w % 4096)
-}
-
 // Writes what each object is left with into its record.
 fn settle(n: u32, records: &mut [u32], work: &[u32])
     requires { ⌜ (n ≤ length (now records)) × (2 * n ≤ length (now work)) × (n ≤ 4095) ⌝ }
@@ -189,10 +165,7 @@ fn loss_of(n: u32, records: &[u32], slots: &[u32], work: &[u32], h: u32) -> u32
         return 0;
     }
     let s = word_of(n, work, 8 * n as usize, h) / 4096;
-    if is_over(s, word_of(n, work, 0, h)) {
-        return s;
-    }
-    0
+    loss(s, word_of(n, work, 0, h))
 }
 
 // Whether h heads a new cluster that is left.

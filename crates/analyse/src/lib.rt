@@ -17,10 +17,8 @@ ghost use Rattle.analyse.specs.Judge.{Judged};
 use crate::form::form;
 use crate::judge::Found;
 use crate::judge::judge;
-use crate::limit::next_limit;
 use crate::limit::used_count;
-use heap::buffers::zero;
-use heap::check::well_formed;
+use choices::next_limit;
 use layout::answers::Analysed;
 use layout::answers::Control;
 use layout::limits::slots_len;
@@ -29,6 +27,8 @@ use layout::refusals::BAD_CONTROL;
 use layout::refusals::DAMAGED;
 use layout::refusals::TOO_SHORT;
 use layout::refusals::bad_control;
+use table::buffers::zero;
+use table::check::well_formed;
 
 // The number of the first test that holds, 0 where none does.
 fn analyse_refusal(c: Control, records: &[u32], slots: &[u32], roots: &[u32], work: &[u32]) -> u32

@@ -1,40 +1,10 @@
-// The next size limit.
+// What the first size limit is a share of.
 ghost use mathlib.Core.Path.{_≡_};
-ghost use Prim.Native.Nat.{_≤_, min, max};
+ghost use Prim.Native.Nat.{_≤_};
 ghost use lib.ListN.{length};
-ghost use Rattle.layout.specs.Limits.{limitMin, limitMax};
-ghost use Rattle.rules.specs.Analyse.{nextLimit, usedCount};
+ghost use Rattle.rules.specs.Analyse.{usedCount};
 use crate::memory::one_if;
-use layout::answers::Control;
-use layout::limits::LIMIT_MAX;
-use layout::limits::LIMIT_MIN;
-use layout::records::in_use;
-
-// x, held to the range of limits.
-fn held(x: u32) -> u32
-    ensures { λ m. ⌜ m ≡ max limitMin (min limitMax x) ⌝ }
-{
-    if x < LIMIT_MIN {
-        return LIMIT_MIN;
-    }
-    if LIMIT_MAX < x {
-        return LIMIT_MAX;
-    }
-    x
-}
-
-pub(crate) fn next_limit(c: Control, used: u32) -> u32
-    requires { ⌜ c .limit ≤ 4095 ⌝ }
-    ensures { λ m. ⌜ m ≡ nextLimit c used ⌝ }
-{
-    if c.limit == 0 {
-        return held(used / 16);
-    }
-    if c.out_loss < c.write_loss {
-        return held(c.limit / 2);
-    }
-    held(2 * c.limit)
-}
+use records::in_use;
 
 // How many objects are in use.
 pub(crate) fn used_count(n: u32, records: &[u32]) -> u32

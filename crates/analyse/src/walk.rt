@@ -12,13 +12,11 @@ ghost use Rattle.analyse.specs.Memory.{area, memOf, visitWords, sizeIn, 
 ghost use Rattle.analyse.specs.Contracts.{Sized, outKids, outsBelow, Chained, handled, goesTo, placed, Visiting, Walking, Visited, Walked, visiting};
 use crate::memory::put_word;
 use crate::memory::word_of;
-use layout::records::cluster_of;
-use layout::records::is_out;
-use layout::records::is_sink;
-use layout::records::is_written;
-use layout::records::width_of;
 use links::next_member;
 use links::top_member;
+use records::cluster_of;
+use records::is_out;
+use records::width_of;
 
 // The object that the word w points at, 0 where it is no pointer.
 pub(crate) fn target_of(n: u32, w: u32) -> u32
@@ -50,11 +48,13 @@ fn push_words(
     requires { ⌜ (n ≤ 4095) × (length (now work) ≡ 10 * n + 64) × (c ≤ n) × (k ≤ top) × (top ≤ 8 * n) × (from + k ≤ length (now slots)) ⌝ }
     ensures { λ r. ⌜ (memOf n (now (work .exit)) r ≡ inFront (visitWords c (map (target n) (take k (drop from (now (slots .entry)))))) (memOf n (now (work .entry)) top)) × (r + k ≡ top) ⌝ }
 {
-    let mut j = k as usize;
+    let w = k as usize;
+    let mut j: usize = 0;
     let mut at = top;
-    while 0 < j {
-        j -= 1;
-        at = push(n, work, at, target_of(n, slots[from + j]), c);
+    // What is put in front last is visited first: the words are taken from the last down.
+    while j < w {
+        j += 1;
+        at = push(n, work, at, target_of(n, slots[from + w - j]), c);
     }
     at
 }
@@ -98,24 +98,23 @@ fn older(n: u32, records: &[u32], slots: &[u32], work: &mut [u32], d: u32, top: 
     at
 }
 
+// How many members the new cluster c has, 0 where c is none.
+fn size_of(n: u32, work: &[u32], c: u32) -> u32
+    requires { ⌜ (9 * n ≤ length (now work)) × (c ≤ n) × (n ≤ 4095) ⌝ }
+    ensures { λ s. ⌜ s ≡ sizeIn (area n (8 * n) (now (work .entry))) c ⌝ }
+{
+    if c == 0 {
+        return 0;
+    }
+    word_of(n, work, 8 * n as usize, c) / 4096
+}
+
 // The cluster that object o, with the record r and in no cluster, gets when c is passed to it; 0 for none.
 fn choose(n: u32, limit: u32, work: &[u32], r: u32, o: u32, c: u32) -> u32
     requires { ⌜ (9 * n ≤ length (now work)) × (c ≤ n) × (n ≤ 4095) ⌝ }
     ensures { λ e. ⌜ e ≡ goesTo limit r (area n (8 * n) (now (work .entry))) o c ⌝ }
 {
-    if is_written(r) {
-        return 0;
-    }
-    if is_sink(r) {
-        return 0;
-    }
-    if c == 0 {
-        return o;
-    }
-    if word_of(n, work, 8 * n as usize, c) / 4096 < limit {
-        return c;
-    }
-    o
+    choices::choose(limit, r, size_of(n, work, c), o, c)
 }
 
 // Counts one more member of cluster e.

@@ -12,11 +12,11 @@ use lib.ListN.{length, take}
 use Rattle.layout.specs.declared.answers.Control.{Control}
 use Rattle.layout.specs.Field.{flag, field}
 use Rattle.layout.specs.Limits.{slotsLen, workLen, mapLen}
-use Rattle.layout.specs.Record.{width}
+use Rattle.records.specs.Record.{width}
 use Rattle.layout.specs.ControlRecord.{badControl}
 use Rattle.layout.specs.Refusal.{first}
 use Rattle.layout.proofs.ControlLaws.{control-facts}
-use Rattle.layout.proofs.RecordLaws.{Legal, clear-marked, clear-postponed, clear-reached}
+use Rattle.records.proofs.RecordLaws.{Legal, clear-marked, clear-postponed, clear-reached}
 use Rattle.layout.proofs.RefusalLaws.{first-passed}
 use Rattle.graph.specs.Numbers.{Obj}
 use Rattle.graph.specs.Heap.{pointers}

@@ -13,9 +13,9 @@ use borrow.Rule.Slice.PartMut.{midOf, putMid, mid-len}
 use Rattle.layout.specs.declared.answers.Control.{Control}
 use Rattle.layout.specs.Field.{field}
 use Rattle.layout.specs.Limits.{workLen}
-use Rattle.layout.specs.Record.{isMarked, isReached, cluster}
+use Rattle.records.specs.Record.{isMarked, isReached, cluster}
 use Rattle.layout.specs.Refusal.{first}
-use Rattle.layout.proofs.RecordLaws.{Legal}
+use Rattle.records.proofs.RecordLaws.{Legal}
 use Rattle.layout.proofs.RefusalLaws.{outcome-zero, outcome-number}
 use Rattle.graph.specs.Numbers.{Obj}
 use Rattle.graph.specs.Heap.{Heap, starts}

@@ -16,7 +16,7 @@ use lib.Pow.{shr-shr, shr-lt}
 use lib.Count.{trailingZeros, under}
 use Rattle.layout.specs.Field.{field, flag, putFlag}
 use Rattle.layout.proofs.FieldLaws.{flag-put-same, flag-put-other}
-use Rattle.layout.proofs.BitLaws.{trailing-lt}
+use Rattle.bitmap.proofs.BitLaws.{trailing-lt}
 use Rattle.graph.specs.Numbers.{Obj, lowest}
 use Rattle.graph.proofs.LowestLaws.{lowest-passes, lowest-least, none-lowest}
 use Rattle.collect.specs.Later.{bitAt, putBit, sumAt, Mapped, MapPut, MapRoom}

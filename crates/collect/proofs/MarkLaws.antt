@@ -10,9 +10,9 @@ use native.Mathlib.Omega.{arith}
 use borrow.Author.Tests.{eqb-false}
 use lib.ListN.{length, getD, set, take, length-set}
 use Rattle.layout.specs.Field.{flag, putFlag, field}
-use Rattle.layout.specs.Record.{isSink, isOut, isWritten, width, cluster, withMarked, withPostponed, withReached}
+use Rattle.records.specs.Record.{isSink, isOut, isWritten, width, cluster, withMarked, withPostponed, withReached}
 use Rattle.layout.proofs.FieldLaws.{flag-put-same, flag-put-other, flag-put-put, flags-comm, flag-stays}
-use Rattle.layout.proofs.RecordLaws.{width-put-flag}
+use Rattle.records.proofs.RecordLaws.{width-put-flag}
 use Rattle.graph.specs.Numbers.{Obj, upd}
 use Rattle.graph.specs.Heap.{Heap}
 use Rattle.graph.specs.Trace.{Flag, marked, postponed, reached, Flag-discrete, setFlag, noFlags}

@@ -8,7 +8,7 @@ use mathlib.Core.List.{List, [], _++_, append-assoc, List·Memᴰ, List·Memᴰ�
 use native.Mathlib.Omega.{arith}
 use lib.ListN.{length, getD, take, drop}
 use lib.Seq.{getD-drop}
-use Rattle.layout.specs.Record.{width}
+use Rattle.records.specs.Record.{width}
 use Rattle.graph.specs.Numbers.{Obj, sum, count}
 use Rattle.graph.specs.Heap.{Heap, targets}
 use Rattle.graph.specs.Trace.{Flag, marked, postponed, reached, Flags, setFlag, Walk, scan, postpone, unpostpone, arrive}

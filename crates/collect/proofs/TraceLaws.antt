@@ -11,7 +11,7 @@ use borrow.Rule.Slice.PartMut.{midOf, postOf, putMid, mid-len}
 use lib.ListN.{length, getD, take, drop, length-take, length-drop}
 use lib.Seq.{getD-append-add, getD-drop, getD-take, take-at, drop-at, take-add, length-take-le}
 use Rattle.layout.specs.Limits.{workLen}
-use Rattle.layout.specs.Record.{isSink, width}
+use Rattle.records.specs.Record.{isSink, width}
 use Rattle.graph.specs.Numbers.{Obj, count, gather}
 use Rattle.graph.specs.Heap.{Heap, pointers, targets, starts}
 use Rattle.graph.specs.Trace.{Flags, marked, postponed, Walk, noFlags, begin, finish, traced}
@@ -22,7 +22,7 @@ use Rattle.rules.specs.View.{view}
 use Rattle.rules.proofs.ListLaws.{length-each, get-each}
 use Rattle.links.specs.Links.{linkWord, links, linkable}
 use Rattle.links.proofs.LinkLaws.{linked}
-use Rattle.heap.specs.Cleared.{cleared}
+use Rattle.table.specs.Cleared.{cleared}
 use Rattle.collect.specs.Marks.{flagsOf}
 use Rattle.collect.specs.State.{seen, walkAt, ends, Objects, linkAt, Linkable, Linked, Ready, Followed, Finished, Traceable, TracedIn}
 use Rattle.collect.proofs.MarkLaws.{bare-flags, sink-same, view-same}

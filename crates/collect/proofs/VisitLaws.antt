@@ -3,17 +3,18 @@
 use Prim.Native.Nat.{ℕ, zero, suc, _+_, _-_, _*_, _/_, _%_, _<_, _≤_}
 use mathlib.Core.Path.{_≡_, refl, sym, ap, _∙_, subst, fun-ext}
 use mathlib.Core.Logic.{_≢_}
-use mathlib.Core.Bool.{Bool, true, false, cond, _||_, true≢false}
+use mathlib.Core.Bool.{Bool, true, false, cond, _||_, _&&_, true≢false}
 use mathlib.Core.List.{List, _++_}
 use native.Mathlib.Omega.{arith}
-use borrow.Author.Tests.{eq-eqb, ne-eqb}
+use borrow.Author.Tests.{eqb-true, eq-eqb, ne-eqb}
 use lib.Dec.{eqb}
 use lib.ListN.{length}
 use Rattle.layout.specs.Limits.{within}
-use Rattle.layout.specs.Record.{isOut, cluster}
+use Rattle.records.specs.Record.{isOut, cluster}
 use Rattle.graph.specs.Numbers.{Obj}
 use Rattle.graph.specs.Heap.{Heap}
 use Rattle.graph.specs.Trace.{marked, postponed, reached, Flags, Walk, scan, unpostpone, arrive, scanIf, scanOuts, visitBy, visit, takeBy, take}
+use Rattle.graph.proofs.AnalysisInv.{and-split}
 use Rattle.graph.proofs.FlagLaws.{postponed≢marked, setFlag-apart}
 use Rattle.rules.specs.Buffers.{recOf}
 use Rattle.rules.specs.View.{view}
@@ -293,6 +294,17 @@ module _ (by : Bool) (n : ℕ) (recs slots work : List ℕ) (top : ℕ) (o : ℕ
         let k : c ≡ cluster (recOf n recs o) = is ∙ ap (λ (b : Bool). cond b (cluster (recOf n recs o)) 0) walks-clusters in
         moved-as n slots recs work top _ _ recs′ work′ top′
         (λ todo. rw (walks-clusters, ne-eqb (cluster (recOf n recs o)) 0 (λ z. some (k ∙ z)), ne-eqb (cluster (recOf n recs o)) o (λ z. d (k ∙ z))) refl) v
+
+-- ---- a visit that does nothing
+
+pub in-cluster : (x c : ℕ) (b : Bool) → c ≡ x → c ≢ 0 → false ≡ (eqb x 0 && b)
+in-cluster x c b e d = sym (ap (λ (t : Bool). t && b) (ne-eqb x 0 (λ z. d (e ∙ z))))
+
+pub in-none : (x c : ℕ) (m b : Bool) → c ≡ x → c ≡ 0 → m ≡ b → m ≡ (eqb x 0 && b)
+in-none x c m b e z f = f ∙ sym (ap (λ (t : Bool). t && b) (eq-eqb x 0 (sym e ∙ z)))
+
+pub none-and : (x : ℕ) (b : Bool) → (eqb x 0 && b) ≡ true → (x ≡ 0) × (b ≡ true)
+none-and x b e = let d = and-split (eqb x 0) b e in (eqb-true x 0 (d .0), d .1)
 
 -- ---- the lowest postponed object
 

@@ -4,7 +4,7 @@ use mathlib.Core.Path.{_≡_}
 use mathlib.Core.Bool.{Bool, true, false, cond, _&&_}
 use mathlib.Core.List.{List, [], _++_, map, List·Memᴰ}
 use lib.ListN.{length, getD, take, drop}
-use Rattle.layout.specs.Record.{width, cluster}
+use Rattle.records.specs.Record.{width, cluster}
 use Rattle.graph.specs.Numbers.{Obj, sum, count, lowest}
 use Rattle.graph.specs.Heap.{Heap, pointers, targets, starts}
 use Rattle.graph.specs.Trace.{marked, postponed, reached, Walk, visitBy, needed, finish, traced}

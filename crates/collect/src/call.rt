@@ -8,8 +8,6 @@ ghost use Rattle.sweep.specs.Sweep.{membersMarked};
 ghost use Rattle.collect.specs.State.{Traceable};
 ghost use Rattle.collect.specs.Call.{kindOf, tooShort, Accepted, walked, Kept};
 use crate::walk::trace;
-use heap::buffers::zero;
-use heap::check::well_formed;
 use layout::answers::Collected;
 use layout::answers::Control;
 use layout::limits::map_len;
@@ -22,6 +20,8 @@ use layout::refusals::bad_control;
 use sweep::count_marked;
 use sweep::mark_members;
 use sweep::sweep;
+use table::buffers::zero;
+use table::check::well_formed;
 
 // ---- the tests
 

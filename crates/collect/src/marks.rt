@@ -5,9 +5,9 @@ ghost use Prim.Native.Nat.{_≤_};
 ghost use lib.ListN.{length};
 ghost use Rattle.graph.specs.Trace.{marked, postponed, reached};
 ghost use Rattle.collect.specs.Marks.{putMark};
-use layout::records::with_marked;
-use layout::records::with_postponed;
-use layout::records::with_reached;
+use records::with_marked;
+use records::with_postponed;
+use records::with_reached;
 
 pub(crate) fn mark(records: &mut [u32], x: u32)
     requires { ⌜ (1 ≤ x) × (x ≤ length (now records)) ⌝ }

@@ -2,7 +2,7 @@
 ghost use mathlib.Core.Path.{_≡_};
 ghost use mathlib.Core.Bool.{true, false};
 ghost use lib.ListN.{take, drop};
-ghost use Rattle.layout.specs.Record.{isOut};
+ghost use Rattle.records.specs.Record.{isOut};
 ghost use Rattle.graph.specs.Numbers.{Obj};
 ghost use Rattle.graph.specs.Trace as T;
 ghost use Rattle.rules.specs.Buffers.{recOf};
@@ -10,13 +10,13 @@ ghost use Rattle.rules.specs.View.{view};
 ghost use Rattle.collect.specs.Marks.{flagsOf};
 ghost use Rattle.collect.specs.State.{named, linkAt, Pushable, Pushed, HasLink, State, Ready, Moved};
 use crate::marks::mark;
-use heap::clusters::record_of;
 use layout::limits::within;
-use layout::records::is_marked;
-use layout::records::is_out;
-use layout::records::width_of;
 use links::next_member;
 use links::top_member;
+use records::is_marked;
+use records::is_out;
+use records::width_of;
+use table::clusters::record_of;
 
 // Puts the pointers among the k words of `slots` from `from` in front of the pending objects.
 fn push_pointers(

@@ -1,9 +1,10 @@
 // The visit of an object by its case, and a postponed object taken up again. `by` tells whether clusters are walked.
 ghost use mathlib.Core.Path.{_≡_};
-ghost use mathlib.Core.Bool.{true, false, cond, _||_};
+ghost use mathlib.Core.Bool.{true, false, cond, _||_, _&&_};
 ghost use Prim.Native.Nat.{_*_, _≤_};
+ghost use lib.Dec.{eqb};
 ghost use lib.ListN.{length};
-ghost use Rattle.layout.specs.Record.{cluster};
+ghost use Rattle.records.specs.Record.{cluster};
 ghost use Rattle.graph.specs.Numbers.{Obj};
 ghost use Rattle.graph.specs.Trace as T;
 ghost use Rattle.rules.specs.Buffers.{recOf};
@@ -17,10 +18,10 @@ use crate::marks::reach;
 use crate::scan::scan;
 use crate::scan::scan_outs;
 use crate::scan::scan_unmarked;
-use heap::clusters::record_of;
-use layout::records::cluster_of;
-use layout::records::is_marked;
-use layout::records::is_reached;
+use records::cluster_of;
+use records::is_marked;
+use records::is_reached;
+use table::clusters::record_of;
 
 // The cluster of object x, 0 where clusters are not walked.
 fn cluster_seen(by: bool, n: u32, x: u32, records: &[u32]) -> u32
@@ -97,6 +98,38 @@ pub(crate) fn visit(
     }
     visit_member(n, records, work, x);
     top
+}
+
+// Whether object x is marked and in no cluster that is walked: then a visit does nothing.
+fn is_scanned(by: bool, n: u32, x: u32, records: &[u32]) -> bool
+    ensures { λ t. ⌜ t ≡ (eqb (cond by (cluster (recOf n (now (records .entry)) x)) 0) 0 && flagsOf n (now (records .entry)) T.marked x) ⌝ }
+{
+    if cluster_seen(by, n, x, records) != 0 {
+        return false;
+    }
+    is_marked(record_of(n, x, records))
+}
+
+// Visits the pending object x. Most visits of a dense heap are to objects scanned before, so these are passed over without a call.
+pub(crate) fn visit_pending(
+    by: bool,
+    n: u32,
+    records: &mut [u32],
+    slots: &[u32],
+    work: &mut [u32],
+    top: usize,
+    x: u32,
+) -> usize
+    requires { ⌜ Ready by n (now records) (now slots) (now work) top ⌝ }
+    requires { ⌜ Obj n x ⌝ }
+    ensures { λ r. ⌜ Moved n (now (slots .entry)) (now (records .entry)) (now (work .entry)) top
+        (T.visit (seen by n (now (records .entry)) (now (slots .entry))) x)
+        (now (records .exit)) (now (work .exit)) r ⌝ }
+{
+    if is_scanned(by, n, x, records) {
+        return top;
+    }
+    visit(by, n, records, slots, work, top, x)
 }
 
 // Whether the postponed object x is marked by now, or its cluster reached.

@@ -4,7 +4,7 @@ ghost use mathlib.Core.Bool.{cond};
 ghost use mathlib.Core.List.{[], _∷_};
 ghost use Prim.Native.Nat.{_*_, _≤_};
 ghost use lib.ListN.{length, take};
-ghost use Rattle.layout.specs.Record.{isSink};
+ghost use Rattle.records.specs.Record.{isSink};
 ghost use Rattle.graph.specs.Numbers.{Obj, gather};
 ghost use Rattle.graph.specs.Heap.{pointers};
 ghost use Rattle.rules.specs.Buffers.{recOf};
@@ -13,11 +13,12 @@ ghost use Rattle.collect.specs.State.{pending, Objects, Linkable, Linked
 use crate::later::lowest;
 use crate::visit::take_up;
 use crate::visit::visit;
-use heap::buffers::clear;
-use heap::clusters::record_of;
+use crate::visit::visit_pending;
 use layout::limits::work_len;
-use layout::records::is_sink;
 use links::link;
+use records::is_sink;
+use table::buffers::clear;
+use table::clusters::record_of;
 
 // Visits the pending objects, and what they lead to, until none is left.
 fn drain(by: bool, n: u32, records: &mut [u32], slots: &[u32], work: &mut [u32], top: usize)
@@ -29,7 +30,7 @@ fn drain(by: bool, n: u32, records: &mut [u32], slots: &[u32], work: &mut [u32],
     let mut at = top;
     while at < end {
         let x = work[at];
-        at = visit(by, n, records, slots, work, at + 1, x);
+        at = visit_pending(by, n, records, slots, work, at + 1, x);
     }
 }
 

@@ -1,7 +1,7 @@
 -- `analyse` meets its contract. Assumes nothing.
 use mathlib.Core.Path.{sym, ap, _∙_}
 use Rattle.rules.specs.Analyse.{nextLimit}
-use Rattle.analyse.proofs.CallLaws.{refused, accepted, most, limit-low, cap-fits, cap-length, formable, zeroed, outcome}
+use Rattle.analyse.proofs.CallLaws.{refused, accepted, most, cap-fits, cap-length, formable, zeroed, outcome}
 use borrow.Author.Needs.{needs}
 use Rattle.analyse.proofs.analyse.Statement.{statement}
 use Rattle.analyse.proofs.analyse.Tie as tie
@@ -22,7 +22,7 @@ used-count-requires : tie.Need-used-count-requires
 used-count-requires c κs = let a = (accepted _ _ _ _ _ (sym (c .before .before .analyse-refusal .ensures) ∙ c .before .if1 .left)) in (a .recs-long, most _ _ _ _ _ a)
 
 next-limit-requires : tie.Need-next-limit-requires
-next-limit-requires c κs = limit-low _ _ _ _ _ (accepted _ _ _ _ _ (sym (c .before .before .before .analyse-refusal .ensures) ∙ c .before .before .if1 .left))
+next-limit-requires c κs = search needs
 
 work-len-requires : tie.Need-work-len-requires
 work-len-requires c κs = search needs

@@ -1,6 +1,6 @@
 -- `loss_of` meets its contract. Assumes nothing.
 use native.Mathlib.Omega.{arith}
-use Rattle.analyse.proofs.AnswerLaws.{loss-old, loss-other, loss-over, loss-none}
+use Rattle.analyse.proofs.AnswerLaws.{loss-old, loss-other, loss-new}
 use borrow.Author.Needs.{needs}
 use Rattle.analyse.proofs.judge.loss_of.Statement.{statement}
 use Rattle.analyse.proofs.judge.loss_of.Tie as tie
@@ -38,14 +38,11 @@ word-of-requires-2 c κs = let s = c .before .before .before .before .before .be
 word-of-requires-3 : tie.Need-word-of-requires-3
 word-of-requires-3 c κs = let s = c .before .before .before .before .before .before .before .before .before .pre in (s .1, s .2, omega (arith, s .0 .sized .work-long))
 
-is-over-requires : tie.Need-is-over-requires
-is-over-requires c κs = let s = c .before .before .before .before .before .before .before .before .before .before .pre in (rw (c .before .word-of2 .ensures) (s .0 .small _), rw (c .word-of3 .ensures) (s .0 .few _))
+loss-requires : tie.Need-loss-requires
+loss-requires c κs = search needs
 
 returns-3 : tie.Need-returns-3
-returns-3 c = let s = c .before .before .before .before .before .before .before .before .before .before .before .before .pre in loss-over _ _ _ _ (s .1) (s .2) _ (c .before .before .before .before .before .before .before .cluster-of .ensures) (c .before .before .before .before .before .before .if1 .left) _ (c .before .before .before .before .before .word-of .ensures) (c .before .before .before .before .if2 .left) _ _ (c .before .before .before .word-of2 .ensures) (c .before .before .word-of3 .ensures) _ (c .before .is-over .ensures) (c .if3 .taken) (rw (c .before .before .before .word-of2 .ensures) (s .0 .small _))
-
-returns-4 : tie.Need-returns-4
-returns-4 c = let s = c .before .before .before .before .before .before .before .before .before .before .before .before .pre in loss-none _ _ _ _ (s .1) (s .2) _ (c .before .before .before .before .before .before .before .cluster-of .ensures) (c .before .before .before .before .before .before .if1 .left) _ (c .before .before .before .before .before .word-of .ensures) (c .before .before .before .before .if2 .left) _ _ (c .before .before .before .word-of2 .ensures) (c .before .before .word-of3 .ensures) _ (c .before .is-over .ensures) (c .if3 .left)
+returns-3 c = let s = c .before .before .before .before .before .before .before .before .before .before .before .pre in loss-new _ _ _ _ (s .1) (s .2) _ (c .before .before .before .before .before .before .cluster-of .ensures) (c .before .before .before .before .before .if1 .left) _ (c .before .before .before .before .word-of .ensures) (c .before .before .before .if2 .left) _ _ (c .before .before .word-of2 .ensures) (c .before .word-of3 .ensures) (rw (c .before .before .word-of2 .ensures) (s .0 .small _)) _ (c .loss .ensures)
 
 pub loss-of-spec : {M : Type 1} → statement M
 loss-of-spec =
@@ -62,6 +59,5 @@ loss-of-spec =
     mul-word-of-2
     word-of-requires-2
     word-of-requires-3
-    is-over-requires
-    returns-3
-    returns-4)
+    loss-requires
+    returns-3)

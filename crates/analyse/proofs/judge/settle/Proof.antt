@@ -4,7 +4,7 @@ use mathlib.Core.Path.{_≡_, ap, _∙_}
 use Prim.Native.Nat.{ℕ, _+_}
 use lib.ListN.{getD}
 use Rattle.analyse.specs.Memory.{area}
-use Rattle.analyse.specs.Judge.{settled}
+use Rattle.choices.specs.Choices.{settled}
 use Rattle.analyse.proofs.SettleLaws.{Left, left-start, left-turn, left-end}
 use borrow.Author.Needs.{needs}
 use native.Mathlib.Omega.{arith}

@@ -1,6 +1,6 @@
 -- `stays` meets its contract. Assumes nothing.
 use native.Mathlib.Omega.{arith}
-use Rattle.analyse.proofs.JudgeLaws.{stays-old, stays-over, stays-least}
+use Rattle.analyse.proofs.JudgeLaws.{stays-old, stays-new}
 use borrow.Author.Needs.{needs}
 use Rattle.analyse.proofs.judge.stays.Statement.{statement}
 use Rattle.analyse.proofs.judge.stays.Tie as tie
@@ -29,14 +29,11 @@ word-of-requires c κs = let s = c .before .before .before .before .before .befo
 word-of-requires-2 : tie.Need-word-of-requires-2
 word-of-requires-2 c κs = let s = c .before .before .before .before .before .before .before .pre in (s .1, s .2, omega (arith, s .0 .sized .work-long))
 
-is-over-requires : tie.Need-is-over-requires
-is-over-requires c κs = let s = c .before .before .before .before .before .before .before .before .pre in (rw (c .before .word-of .ensures) (s .0 .small _), rw (c .word-of2 .ensures) (s .0 .few _))
+stays-requires : tie.Need-stays-requires
+stays-requires c κs = search needs
 
 returns-2 : tie.Need-returns-2
-returns-2 c = let s = c .before .before .before .before .before .before .before .before .before .before .pre in stays-over _ _ _ _ (s .1) (s .2) _ (c .before .before .before .before .before .cluster-of .ensures) (c .before .before .before .before .if1 .left) _ _ (c .before .before .before .word-of .ensures) (c .before .before .word-of2 .ensures) _ (c .before .is-over .ensures) (c .if2 .taken)
-
-returns-3 : tie.Need-returns-3
-returns-3 c = let s = c .before .before .before .before .before .before .before .before .before .before .pre in stays-least _ _ _ _ (s .1) (s .2) _ (c .before .before .before .before .before .cluster-of .ensures) (c .before .before .before .before .if1 .left) _ _ (c .before .before .before .word-of .ensures) (c .before .before .word-of2 .ensures) _ (c .before .is-over .ensures) (c .if2 .left)
+returns-2 c = let s = c .before .before .before .before .before .before .before .before .before .pre in stays-new _ _ _ _ (s .1) (s .2) _ (c .before .before .before .before .cluster-of .ensures) (c .before .before .before .if1 .left) _ _ (c .before .before .word-of .ensures) (c .before .word-of2 .ensures) _ (c .stays .ensures)
 
 pub stays-spec : {M : Type 1} → statement M
 stays-spec =
@@ -50,6 +47,5 @@ stays-spec =
     mul-word-of
     word-of-requires
     word-of-requires-2
-    is-over-requires
-    returns-2
-    returns-3)
+    stays-requires
+    returns-2)

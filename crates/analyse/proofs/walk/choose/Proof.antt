@@ -1,47 +1,23 @@
 -- `choose` meets its contract. Assumes nothing.
-use native.Mathlib.Omega.{arith}
-use Rattle.analyse.proofs.PushLaws.{goes-written, goes-sink, goes-own, goes-passed, goes-new}
+use mathlib.Core.Path.{ap, _∙_}
+use Prim.Native.Nat.{ℕ}
+use Rattle.choices.specs.Choices.{goesBy}
+use Rattle.analyse.specs.Contracts.{goesTo}
 use borrow.Author.Needs.{needs}
 use Rattle.analyse.proofs.walk.choose.Statement.{statement}
 use Rattle.analyse.proofs.walk.choose.Tie as tie
 
-is-written-requires : tie.Need-is-written-requires
-is-written-requires c κs = search needs
+size-of-requires : tie.Need-size-of-requires
+size-of-requires c κs = search needs
+
+choose-requires : tie.Need-choose-requires
+choose-requires c κs = search needs
 
 returns : tie.Need-returns
-returns c = goes-written _ _ _ _ _ _ (c .before .is-written .ensures) (c .if1 .taken)
-
-is-sink-requires : tie.Need-is-sink-requires
-is-sink-requires c κs = search needs
-
-returns-2 : tie.Need-returns-2
-returns-2 c = goes-sink _ _ _ _ _ _ _ (c .before .before .before .is-written .ensures) (c .before .before .if1 .left) (c .before .is-sink .ensures) (c .if2 .taken)
-
-returns-3 : tie.Need-returns-3
-returns-3 c = goes-own _ _ _ _ _ _ _ (c .before .before .before .before .is-written .ensures) (c .before .before .before .if1 .left) (c .before .before .is-sink .ensures) (c .before .if2 .left) (c .if3 .taken)
-
-mul-word-of : tie.Need-mul-word-of
-mul-word-of c = search needs
-
-word-of-requires : tie.Need-word-of-requires
-word-of-requires c κs = (omega (arith, c .if3 .left), c .before .before .before .before .before .before .pre .1, omega (arith, c .before .before .before .before .before .before .pre .0))
-
-returns-4 : tie.Need-returns-4
-returns-4 c = goes-passed _ _ _ _ _ _ _ (c .before .before .before .before .before .before .is-written .ensures) (c .before .before .before .before .before .if1 .left) (c .before .before .before .before .is-sink .ensures) (c .before .before .before .if2 .left) _ (c .before .word-of .ensures) (c .before .before .if3 .left) (c .if4 .taken)
-
-returns-5 : tie.Need-returns-5
-returns-5 c = goes-new _ _ _ _ _ _ _ (c .before .before .before .before .before .before .is-written .ensures) (c .before .before .before .before .before .if1 .left) (c .before .before .before .before .is-sink .ensures) (c .before .before .before .if2 .left) _ (c .before .word-of .ensures) (c .before .before .if3 .left) (c .if4 .left)
+unfolding goesTo
+returns c =
+    let a = c .before .before .before .args in
+    c .choose .ensures ∙ ap (λ (s : ℕ). goesBy (a .limit) (a .r) s (a .o) (a .c)) (c .before .size-of .ensures)
 
 pub choose-spec : {M : Type 1} → statement M
-choose-spec =
-    tie.close
-    (tie.spec
-    is-written-requires
-    returns
-    is-sink-requires
-    returns-2
-    returns-3
-    mul-word-of
-    word-of-requires
-    returns-4
-    returns-5)
+choose-spec = tie.close (tie.spec size-of-requires choose-requires returns)

@@ -1,5 +1,5 @@
 -- `push_words` meets its contract. Assumes nothing.
-use Prim.Native.Nat.{_-_}
+use Prim.Native.Nat.{_+_, _-_}
 use mathlib.Core.Path.{_∙_}
 use lib.ListN.{drop, length-drop}
 use Rattle.rules.proofs.ViewLaws.{target-low}
@@ -11,19 +11,22 @@ use Rattle.analyse.proofs.walk.push_words.Statement.{statement}
 use Rattle.analyse.proofs.walk.push_words.Tie as tie
 
 abbrev Inv-loop : tie.InvT-loop
-Inv-loop n slots work₀ from k c top j₀ at₀ work j at = Pushing n c (drop from slots) k work₀ top work j at
+Inv-loop n slots work₀ from k c top w j₀ at₀ work j at = Pushing n c (drop from slots) k work₀ top work j at
 
 abbrev μ-loop : tie.MeasureT-loop
-μ-loop n slots work₀ from k c top j₀ at₀ work j at = j
+μ-loop n slots work₀ from k c top w j₀ at₀ work j at = k - j
 
 loop-holds : tie.Need-loop-holds Inv-loop μ-loop
 loop-holds c = pushing-start _ _ _ _ _ _ (words-fit _ _ _ (c .before .before .pre .5))
 
-sub-j : tie.Need-sub-j Inv-loop μ-loop
-sub-j c = omega arith
+add-j : tie.Need-add-j Inv-loop μ-loop
+add-j c = omega arith
 
 add-target-of : tie.Need-add-target-of Inv-loop μ-loop
 add-target-of c = omega arith
+
+sub-target-of : tie.Need-sub-target-of Inv-loop μ-loop
+sub-target-of c = omega arith
 
 mul-target-of : tie.Need-mul-target-of Inv-loop μ-loop
 mul-target-of c = omega arith
@@ -38,15 +41,18 @@ push-requires : tie.Need-push-requires Inv-loop μ-loop
 push-requires c κs =
     let p = c .before .before .before .before .before .before .before .pre in
     let g = c .before .before .before .before .loop .inv in
-    (p .0, g .long ∙ p .1, omega (arith, g .spot, p .3, c .before .before .before .loop-test .taken), omega (arith, g .spot, g .most, p .4), rw (c .target-of .ensures) (target-low _ _), p .2)
+    (p .0, g .long ∙ p .1, omega (arith, g .spot, p .3, c .before .before .before .loop-test .taken), omega (arith, g .spot, p .4), rw (c .target-of .ensures) (target-low _ _), p .2)
 
 loop-less : tie.Need-loop-less Inv-loop μ-loop
 loop-less c = omega arith
 
 loop-again : tie.Need-loop-again Inv-loop μ-loop
 loop-again c =
-    let p = c .before .before .before .before .before .before .before .before .before .before .pre in
-    pushing-turn _ _ _ _ _ _ (words-fit _ _ _ (p .5)) _ _ _ _ _ _ (c .before .before .before .before .before .before .before .loop .inv) (c .before .before .before .before .before .before .loop-test .taken) (c .before .before .before .target-of .ensures ∙ word-there (c .before .before .before .before .before .before .before .before .before .before .args .n) (c .before .before .before .before .before .before .before .before .before .before .args .from) (c .before .before .before .before .before .before .before .before .before .before .args .slots .now) (c .before .before .before .before .before .before .before .loop .j - 1)) (c .before .before .push .ensures .0) (c .before .before .push .ensures .1) (c .before .before .push .kept .1 .0) (p .3)
+    let o = c .before .before .before .before .before .before .before .before .before .before in
+    let l = c .before .before .before .before .before .before .before .loop in
+    let more = c .before .before .before .before .before .before .loop-test .taken in
+    let t = word-there (o .args .n) (o .args .from) (o .args .slots .now) (o .args .k - (l .j + 1)) _ _ (c .before .before .before .target-of .ensures) (omega (arith, more)) in
+    pushing-turn _ _ _ _ _ _ (words-fit _ _ _ (o .pre .5)) _ _ _ _ _ _ (l .inv) more t (c .before .before .push .ensures .0) (c .before .before .push .ensures .1) (c .before .before .push .kept .1 .0) (o .pre .3)
 
 same-length : tie.Need-same-length Inv-loop μ-loop
 same-length c = c .before .loop .inv .long
@@ -61,8 +67,9 @@ push-words-spec =
     Inv-loop
     μ-loop
     loop-holds
-    sub-j
+    add-j
     add-target-of
+    sub-target-of
     mul-target-of
     shared-slice-read-target-of
     target-of-requires

@@ -1,6 +1,6 @@
 -- `scan` meets its contract.
 use mathlib.Core.Path.{ap, _∙_}
-use Rattle.layout.specs.Record.{width}
+use Rattle.records.specs.Record.{width}
 use Rattle.collect.proofs.MoveLaws.{scan-pushable, scan-moved}
 use borrow.Author.Needs.{needs}
 use Rattle.collect.proofs.scan.scan.Statement.{statement}

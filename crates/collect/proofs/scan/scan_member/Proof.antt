@@ -1,6 +1,6 @@
 -- `scan_member` meets its contract.
 use mathlib.Core.Path.{sym, ap, _∙_}
-use Rattle.layout.specs.Record.{isOut}
+use Rattle.records.specs.Record.{isOut}
 use Rattle.collect.proofs.VisitLaws.{inner-scanIf, outer-scanIf}
 use borrow.Author.Needs.{needs}
 use Rattle.collect.proofs.scan.scan_member.Statement.{statement}

@@ -1,6 +1,6 @@
 -- `scan_unmarked` meets its contract.
 use mathlib.Core.Path.{sym, ap, _∙_}
-use Rattle.layout.specs.Record.{isMarked}
+use Rattle.records.specs.Record.{isMarked}
 use Rattle.collect.specs.Marks.{flagsOf}
 use Rattle.collect.proofs.VisitLaws.{passed-scanIf, taken-scanIf}
 use borrow.Author.Needs.{needs}

@@ -1,6 +1,6 @@
 -- `cluster_seen` meets its contract.
 use mathlib.Core.Path.{ap, _∙_}
-use Rattle.layout.specs.Record.{cluster}
+use Rattle.records.specs.Record.{cluster}
 use borrow.Author.Needs.{needs}
 use Rattle.collect.proofs.visit.cluster_seen.Statement.{statement}
 use Rattle.collect.proofs.visit.cluster_seen.Tie as tie

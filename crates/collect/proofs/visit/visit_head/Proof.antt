@@ -1,6 +1,6 @@
 -- `visit_head` meets its contract.
 use mathlib.Core.Path.{sym, ap, _∙_}
-use Rattle.layout.specs.Record.{isReached}
+use Rattle.records.specs.Record.{isReached}
 use Rattle.collect.specs.Marks.{flagsOf}
 use Rattle.collect.proofs.VisitLaws.{head-passed, head-reached, ready-reach}
 use borrow.Author.Needs.{needs}

@@ -2,7 +2,7 @@
 use denote.Ref.{now}
 use Prim.Native.Nat.{ℕ}
 use mathlib.Core.Path.{sym, ap, _∙_}
-use Rattle.layout.specs.Record.{isMarked, isReached, cluster}
+use Rattle.records.specs.Record.{isMarked, isReached, cluster}
 use Rattle.rules.specs.Buffers.{recOf}
 use Rattle.collect.specs.Marks.{flagsOf}
 use Rattle.collect.proofs.VisitLaws.{member-marked, member-reached, member-later}

@@ -27,13 +27,13 @@ mul-x c = omega (arith, c .before .loop .inv .ready .state .sized)
 slice-read-x : tie.Need-slice-read-x Inv-loop μ-loop
 slice-read-x c = omega (arith, c .before .before .loop .inv .ready .state .sized)
 
-add-visit : tie.Need-add-visit Inv-loop μ-loop
-add-visit c =
+add-visit-pending : tie.Need-add-visit-pending Inv-loop μ-loop
+add-visit-pending c =
     let l = c .before .before .before .before .loop in
     omega (arith, l .inv .ready .state .sized)
 
-visit-requires : tie.Need-visit-requires Inv-loop μ-loop
-visit-requires c κs =
+visit-pending-requires : tie.Need-visit-pending-requires Inv-loop μ-loop
+visit-pending-requires c κs =
     let l = c .before .before .before .before .loop in
     let test = c .before .before .before .loop-test in
     let r = l .inv .ready in
@@ -44,12 +44,12 @@ loop-less : tie.Need-loop-less Inv-loop μ-loop
 loop-less c =
     let l = c .before .before .before .before .before .before .before .before .before .loop in
     let test = c .before .before .before .before .before .before .before .before .loop-test in
-    let visit-call = c .before .before .before .before .visit in
+    let visit-call = c .before .before .before .before .visit-pending in
     draining-less _ _ _ _ _ _ _ _ _ (l .inv) (test .taken) _ _ _ (visit-call .ensures)
 
 loop-again : tie.Need-loop-again Inv-loop μ-loop
 loop-again c =
-    let visit-call = c .before .before .before .before .visit in
+    let visit-call = c .before .before .before .before .visit-pending in
     let l = c .before .before .before .before .before .before .before .before .before .loop in
     let test = c .before .before .before .before .before .before .before .before .loop-test in
     let k = visit-call .kept in
@@ -74,8 +74,8 @@ drain-spec =
     loop-holds
     mul-x
     slice-read-x
-    add-visit
-    visit-requires
+    add-visit-pending
+    visit-pending-requires
     loop-less
     loop-again
     same-length

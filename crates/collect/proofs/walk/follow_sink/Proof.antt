@@ -1,6 +1,6 @@
 -- `follow_sink` meets its contract.
 use mathlib.Core.Path.{sym, ap, _∙_}
-use Rattle.layout.specs.Record.{isSink}
+use Rattle.records.specs.Record.{isSink}
 use Rattle.collect.proofs.EndLaws.{followed-none, followed-as}
 use Rattle.collect.proofs.TraceLaws.{sink-taken, sink-passed}
 use borrow.Author.Needs.{needs}

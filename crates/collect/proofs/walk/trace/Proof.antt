@@ -2,7 +2,7 @@
 use denote.Ref.{now}
 use Prim.Native.Nat.{ℕ, _*_}
 use mathlib.Core.Path.{ap, _∙_}
-use Rattle.heap.specs.Cleared.{cleared}
+use Rattle.table.specs.Cleared.{cleared}
 use Rattle.collect.proofs.TraceLaws.{trace-ready, trace-done}
 use borrow.Author.Needs.{needs}
 use Rattle.collect.proofs.walk.trace.Statement.{statement}

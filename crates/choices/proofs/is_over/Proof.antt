@@ -1,9 +1,9 @@
 -- `is_over` meets its contract. Assumes nothing.
 use mathlib.Core.Path.{refl}
-use Rattle.analyse.specs.Judge.{overBy}
+use Rattle.choices.specs.Choices.{overBy}
 use borrow.Author.Needs.{needs}
-use Rattle.analyse.proofs.judge.is_over.Statement.{statement}
-use Rattle.analyse.proofs.judge.is_over.Tie as tie
+use Rattle.choices.proofs.is_over.Statement.{statement}
+use Rattle.choices.proofs.is_over.Tie as tie
 
 mul-result : tie.Need-mul-result
 mul-result c = search needs

@@ -2,11 +2,11 @@
 use mathlib.Core.Path.{_≡_, sym, ap, _∙_}
 use Prim.Native.Nat.{ℕ, _%_}
 use lib.Dec.{leb}
-use Rattle.layout.specs.Record.{withCluster, withOut}
-use Rattle.analyse.proofs.JudgeLaws.{settled-is}
+use Rattle.records.specs.Record.{withCluster, withOut}
+use Rattle.choices.proofs.ChoiceLaws.{settled-is}
 use borrow.Author.Needs.{needs}
-use Rattle.analyse.proofs.judge.settled_record.Statement.{statement}
-use Rattle.analyse.proofs.judge.settled_record.Tie as tie
+use Rattle.choices.proofs.settled_record.Statement.{statement}
+use Rattle.choices.proofs.settled_record.Tie as tie
 
 with-written-requires : tie.Need-with-written-requires
 with-written-requires c κs = search needs
@@ -18,7 +18,9 @@ with-cluster-requires : tie.Need-with-cluster-requires
 with-cluster-requires c κs = search needs
 
 returns : tie.Need-returns
-returns c = c .with-cluster .ensures ∙ rw (c .before .with-out .ensures, c .before .before .with-written .ensures) (settled-is _ _)
+returns c =
+    let a = c .before .before .before .args in
+    c .with-cluster .ensures ∙ rw (c .before .with-out .ensures, c .before .before .with-written .ensures) (settled-is (a .w) (a .r))
 
 pub settled-record-spec : {M : Type 1} → statement M
 settled-record-spec =

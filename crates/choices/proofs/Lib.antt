@@ -1,0 +1,2 @@
+-- Laws of the choices.
+pub mod ChoiceLaws

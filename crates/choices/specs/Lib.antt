@@ -1,0 +1,2 @@
+-- What an analysis chooses by a record or a few numbers.
+pub mod Choices

@@ -1,0 +1,33 @@
+-- `visit_pending` meets its contract.
+use mathlib.Core.Path.{refl, sym, _∙_}
+use Rattle.collect.proofs.VisitLaws.{none-and, passed-scanIf, visit-free}
+use borrow.Author.Needs.{needs}
+use Rattle.collect.proofs.visit.visit_pending.Statement.{statement}
+use Rattle.collect.proofs.visit.visit_pending.Tie as tie
+
+is-scanned-requires : tie.Need-is-scanned-requires
+is-scanned-requires c κs = search needs
+
+same-length : tie.Need-same-length
+same-length c = search needs
+
+returns : tie.Need-returns
+returns c =
+    let s = c .before .before .before .before .before .before in
+    let d = none-and _ _ (sym (c .before .is-scanned .ensures) ∙ c .if1 .taken) in
+    visit-free (s .args .by) _ _ _ _ _ _ _ refl (d .0) _ _ _ (passed-scanIf _ _ _ _ _ (s .pre .0 .state) _ (s .pre .1) (d .1))
+
+visit-requires : tie.Need-visit-requires
+visit-requires c κs = search needs
+
+same-length-2 : tie.Need-same-length-2
+same-length-2 c = search needs
+
+same-length-3 : tie.Need-same-length-3
+same-length-3 c = search needs
+
+returns-2 : tie.Need-returns-2
+returns-2 c = search needs
+
+pub visit-pending-spec : {M : Type 1} → statement M
+visit-pending-spec = tie.close (tie.spec is-scanned-requires same-length returns visit-requires same-length-2 same-length-3 returns-2)
