@@ -7,7 +7,7 @@ use mathlib.Core.List.{List, [], _∷_}
 use native.Mathlib.Omega.{arith}
 use lib.ListN.{length, take, drop}
 use Rattle.layout.specs.Limits.{slotsLen, workLen, mapLen}
-use Rattle.layout.specs.Record as R
+use Rattle.records.specs.Record as R
 use Rattle.layout.specs.Field.{field}
 use Rattle.layout.specs.ControlRecord.{newControl}
 use Rattle.rules.specs.Buffers.{recOf, usedWords}

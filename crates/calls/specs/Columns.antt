@@ -5,7 +5,7 @@ use mathlib.Core.Bool.{true}
 use mathlib.Core.List.{List, [], _∷_}
 use lib.ListN.{length, take, drop}
 use Rattle.layout.specs.Limits.{slotsLen, workLen, mapLen}
-use Rattle.layout.specs.Record.{width, free, isSink}
+use Rattle.records.specs.Record.{width, free, isSink}
 use Rattle.rules.specs.Buffers.{recOf}
 use Rattle.lines.specs.declared.Line.{Line}
 use Rattle.lines.specs.declared.Line.the-variants as line

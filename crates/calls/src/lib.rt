@@ -6,13 +6,19 @@ use collect::clusters::collect_clusters;
 use collect::plain::collect_plain;
 use heap::allocate::allocate;
 use heap::create::create;
-use heap::declare_sink::declare_sink;
 use heap::read::read;
 use heap::set_root::set_root;
 use heap::show::show_part;
-use heap::write::write;
+use layout::answers::Allocated;
+use layout::answers::Analysed;
+use layout::answers::Collected;
 use layout::answers::Control;
+use layout::answers::Done;
+use layout::answers::Part;
+use layout::answers::WordRead;
 use lines::Line;
+use writes::declare_sink::declare_sink;
+use writes::write::write;
 
 pub mod compare;
 
@@ -38,6 +44,50 @@ fn answer(refusal: u32, a: u32, b: u32, c: u32, control: Control) -> Ran
     }
 }
 
+// Of a call that changes the control record.
+fn of_changed(a: Done) -> Ran
+    ensures { λ x. ⌜ x ≡ Run.ran (a .refusal) 0 0 0 (a .control) ⌝ }
+{
+    answer(a.refusal, 0, 0, 0, a.control)
+}
+
+// Of a call that leaves the control record c.
+fn of_done(a: Done, c: Control) -> Ran
+    ensures { λ x. ⌜ x ≡ Run.ran (a .refusal) 0 0 0 c ⌝ }
+{
+    answer(a.refusal, 0, 0, 0, c)
+}
+
+fn of_allocated(a: Allocated) -> Ran
+    ensures { λ x. ⌜ x ≡ Run.ran (a .refusal) (a .object) 0 0 (a .control) ⌝ }
+{
+    answer(a.refusal, a.object, 0, 0, a.control)
+}
+
+fn of_read(a: WordRead, c: Control) -> Ran
+    ensures { λ x. ⌜ x ≡ Run.ran (a .refusal) (a .word) 0 0 c ⌝ }
+{
+    answer(a.refusal, a.word, 0, 0, c)
+}
+
+fn of_part(a: Part, c: Control) -> Ran
+    ensures { λ x. ⌜ x ≡ Run.ran (a .refusal) (a .start) (a .length) 0 c ⌝ }
+{
+    answer(a.refusal, a.start, a.length, 0, c)
+}
+
+fn of_analysed(a: Analysed) -> Ran
+    ensures { λ x. ⌜ x ≡ Run.ran (a .refusal) (a .clusters) (a .members) 0 (a .control) ⌝ }
+{
+    answer(a.refusal, a.clusters, a.members, 0, a.control)
+}
+
+fn of_collected(a: Collected, c: Control) -> Ran
+    ensures { λ x. ⌜ x ≡ Run.ran (a .refusal) (a .freed) (a .kept) (a .scanned) c ⌝ }
+{
+    answer(a.refusal, a.freed, a.kept, a.scanned, c)
+}
+
 // The line's call; a line without one does nothing.
 pub fn run(
     line: Line,
@@ -53,45 +103,17 @@ pub fn run(
 {
     match line {
         Line::Nothing => answer(0, 0, 0, 0, c),
-        Line::Create(n, r) => {
-            let a = create(n, r, records, slots, roots);
-            answer(a.refusal, 0, 0, 0, a.control)
-        }
-        Line::Allocate(width) => {
-            let a = allocate(c, width, records, slots);
-            answer(a.refusal, a.object, 0, 0, a.control)
-        }
-        Line::Read(i, k) => {
-            let a = read(c, i, k, records, slots);
-            answer(a.refusal, a.word, 0, 0, c)
-        }
-        Line::Show(i) => {
-            let a = show_part(c, i, records, slots);
-            answer(a.refusal, a.start, a.length, 0, c)
-        }
-        Line::Write(i, k, w) => {
-            let a = write(c, i, k, w, records, slots);
-            answer(a.refusal, 0, 0, 0, a.control)
-        }
-        Line::Root(j, w) => {
-            let a = set_root(c, j, w, records, roots);
-            answer(a.refusal, 0, 0, 0, c)
-        }
-        Line::Sink(i) => {
-            let a = declare_sink(c, i, records, slots, roots);
-            answer(a.refusal, 0, 0, 0, c)
-        }
-        Line::Analyse => {
-            let a = analyse(c, records, slots, roots, work);
-            answer(a.refusal, a.clusters, a.members, 0, a.control)
-        }
-        Line::CollectPlain => {
-            let a = collect_plain(c, records, slots, roots, work, map);
-            answer(a.refusal, a.freed, a.kept, a.scanned, c)
-        }
+        Line::Create(n, r) => of_changed(create(n, r, records, slots, roots)),
+        Line::Allocate(width) => of_allocated(allocate(c, width, records, slots)),
+        Line::Read(i, k) => of_read(read(c, i, k, records, slots), c),
+        Line::Show(i) => of_part(show_part(c, i, records, slots), c),
+        Line::Write(i, k, w) => of_changed(write(c, i, k, w, records, slots)),
+        Line::Root(j, w) => of_done(set_root(c, j, w, records, roots), c),
+        Line::Sink(i) => of_done(declare_sink(c, i, records, slots, roots), c),
+        Line::Analyse => of_analysed(analyse(c, records, slots, roots, work)),
+        Line::CollectPlain => of_collected(collect_plain(c, records, slots, roots, work, map), c),
         Line::CollectClusters => {
-            let a = collect_clusters(c, records, slots, roots, work, map);
-            answer(a.refusal, a.freed, a.kept, a.scanned, c)
+            of_collected(collect_clusters(c, records, slots, roots, work, map), c)
         }
         Line::Wrote(_, _) => answer(0, 0, 0, 0, c),
         Line::Loaded(_, _) => answer(0, 0, 0, 0, c),

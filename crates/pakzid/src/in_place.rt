@@ -26,7 +26,7 @@ pub extern "C" fn pakzid_allocate_in_place(
     }
 }
 
-// Answers the refusal, 0 for an accepted call.
+// Answers the refusal, 0 for an accepted call. Only the write loss is ever stored, and only where it is another: a record that is copied whole would wait for a store to a part of it.
 #[no_mangle]
 pub extern "C" fn pakzid_write_in_place(
     c: &mut Control,
@@ -41,7 +41,9 @@ pub extern "C" fn pakzid_write_in_place(
         × (now (slots .exit) ≡ Write.write (now (c .entry)) object slot word (now (records .entry)) (now (slots .entry)) .slots)
         × (k ≡ Write.write (now (c .entry)) object slot word (now (records .entry)) (now (slots .entry)) .answer .refusal) ⌝ }
 {
-    let a = heap::write::write(*c, object, slot, word, records, slots);
-    *c = a.control;
+    let a = writes::write::store(*c, object, slot, word, records, slots);
+    if a.write_loss != c.write_loss {
+        c.write_loss = a.write_loss;
+    }
     a.refusal
 }

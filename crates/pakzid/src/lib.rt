@@ -67,6 +67,7 @@ pub extern "C" fn pakzid_show(c: Control, object: u32, records: &[u32], slots: &
     heap::show::show_part(c, object, records, slots)
 }
 
+// The record is copied whole and lent, not taken apart and built anew: a caller that copies the answer whole would wait for stores of its pieces.
 #[no_mangle]
 pub extern "C" fn pakzid_write(
     c: Control,
@@ -79,7 +80,12 @@ pub extern "C" fn pakzid_write(
     ensures { λ a. ⌜ Write.gives a (now (records .exit)) (now (slots .exit))
         ≡ Write.write c object slot word (now (records .entry)) (now (slots .entry)) ⌝ }
 {
-    heap::write::write(c, object, slot, word, records, slots)
+    let mut d = c;
+    let k = in_place::pakzid_write_in_place(&mut d, object, slot, word, records, slots);
+    Done {
+        refusal: k,
+        control: d,
+    }
 }
 
 #[no_mangle]
@@ -106,7 +112,7 @@ pub extern "C" fn pakzid_declare_sink(
     ensures { λ a. ⌜ DeclareSink.gives a (now (records .exit))
         ≡ DeclareSink.declareSink c object (now (records .entry)) (now (slots .entry)) (now (roots .entry)) ⌝ }
 {
-    heap::declare_sink::declare_sink(c, object, records, slots, roots)
+    writes::declare_sink::declare_sink(c, object, records, slots, roots)
 }
 
 #[no_mangle]

@@ -4,9 +4,9 @@ use collect::clusters::collect_clusters;
 use collect::plain::collect_plain;
 use heap::allocate::allocate;
 use heap::create::create;
-use heap::write::write;
 use layout::answers::Control;
 use libc::STDOUT_FILENO;
+use writes::write::write;
 
 // ---- lines of output
 
