@@ -1,17 +1,17 @@
 // Runs one call list in two ways, or two call lists, and reports in two columns: replay LIST, or replay LIST LIST.
-use report::memory::MAP;
-use report::memory::PAST;
-use report::memory::RECORDS;
-use report::memory::ROOTS;
-use report::memory::SLOTS;
-use report::memory::WORK;
-use report::text::SHEET;
+use compare::hands::HANDS;
 use report::whole::report;
+use rows::memory::MAP;
+use rows::memory::RECORDS;
+use rows::memory::ROOTS;
+use rows::memory::SLOTS;
+use rows::memory::WORK;
+use sheet::SHEET;
 
 // All the memory of the report: the sheet, and the buffers of both columns.
 fn replay(first: &[u8], second: &[u8], one: bool) {
     let mut s = [0u8; SHEET];
-    let mut past = [0u64; PAST];
+    let mut hands = [0u64; HANDS];
     let mut rec1 = [0u32; RECORDS];
     let mut slot1 = [0u32; SLOTS];
     let mut root1 = [0u32; ROOTS];
@@ -27,7 +27,7 @@ fn replay(first: &[u8], second: &[u8], one: bool) {
         second,
         one,
         &mut s,
-        &mut past,
+        &mut hands,
         &mut rec1,
         &mut slot1,
         &mut root1,

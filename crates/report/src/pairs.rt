@@ -1,118 +1,42 @@
 // Two players beside each other: the k-th call of one with the k-th of the other. Analyses stand alone.
-use crate::columns::Row;
-use crate::columns::put_row;
-use crate::memory::MAP;
-use crate::memory::SLOTS;
-use crate::phrases::COLLECT_PLAIN;
-use crate::phrases::SHOW;
-use crate::phrases::answer_text;
-use crate::phrases::answers;
-use crate::phrases::call_text;
-use crate::phrases::parts_of;
-use crate::phrases::same_call;
-use crate::phrases::same_kind;
-use crate::player::AT_ANALYSIS;
-use crate::player::AT_CALL;
-use crate::player::DONE;
 use crate::player::Player;
-use crate::player::READING;
 use crate::player::standing;
-use crate::text::CALL;
-use crate::text::LEFT;
-use crate::text::RIGHT;
-use crate::text::SHEET;
-use crate::text::decimal;
-use crate::text::text;
-use calls::compare::agree;
-use calls::compare::same_map;
-use calls::compare::same_words;
+use compare::answers::same_answers;
+use compare::kinds::parts_of;
+use compare::kinds::same_call;
+use compare::turns::AT_CALL;
+use compare::turns::READING;
+use compare::turns::Turn;
+use compare::turns::Verdict;
+use compare::turns::is_over;
+use compare::turns::next_turn;
+use compare::turns::noted;
+use files::page::LEFT;
+use files::page::RIGHT;
+use rows::columns::Row;
+use rows::columns::mark_text;
+use rows::columns::put_row;
+use rows::memory::MAP;
+use rows::memory::SLOTS;
+use rows::phrases::answer_text;
+use rows::phrases::answers;
+use rows::phrases::call_text;
+use sheet::SHEET;
+use sheet::decimal;
+use sheet::text;
 
-// How the columns compare: they agree, a pair of calls differs, one list has more calls.
-pub const AGREE: u32 = 0;
-
-pub const DIFFER: u32 = 1;
-
-pub const LEFT_MORE: u32 = 2;
-
-pub const RIGHT_MORE: u32 = 3;
-
-// The first difference, with the numbers of its lines.
-pub struct Verdict {
-    pub kind: u32,
-    pub left: u64,
-    pub right: u64,
-}
-
-// The two players, the place in the page, whether one list is run in both ways, whether only changed hands are told, the first
-// difference, whether something was told, and whether both lists are at their end.
-pub struct Both {
+// The two players, the place in the page, whether one list is run in both ways, the first difference, and whether both lists are
+// at their end.
+pub(crate) struct Both {
     pub left: Player,
     pub right: Player,
     pub at: usize,
     pub one: bool,
-    pub hands: bool,
     pub verdict: Verdict,
-    pub told: bool,
     pub over: bool,
 }
 
-// What comes next: which players are at it, and whether it is a difference.
-pub struct Turn {
-    pub has_left: bool,
-    pub has_right: bool,
-    pub mark: bool,
-}
-
 // ---- comparing
-
-// Whether the slots from start on are the same, `count` of them.
-fn same_part(x: &[u32], y: &[u32], start: usize, count: usize) -> bool {
-    if x.len() < start {
-        return false;
-    }
-    if y.len() < start {
-        return false;
-    }
-    if x.len() - start < count {
-        return false;
-    }
-    if y.len() - start < count {
-        return false;
-    }
-    same_words(&x[start..start + count], &y[start..start + count])
-}
-
-// Whether what the players' calls answered is the same, as far as it counts.
-fn same_answers(
-    l: Player,
-    r: Player,
-    slots1: &[u32; SLOTS],
-    map1: &[u64; MAP],
-    slots2: &[u32; SLOTS],
-    map2: &[u64; MAP],
-) -> bool {
-    let line = l.line;
-    let x = l.ran;
-    let y = r.ran;
-    let other = r.line;
-    let p = parts_of(line);
-    if !same_kind(p, parts_of(other)) {
-        return false;
-    }
-    if !agree(line, x, y) {
-        return false;
-    }
-    if x.refusal != 0 {
-        return true;
-    }
-    if COLLECT_PLAIN <= p.kind {
-        return same_map(map1, map2);
-    }
-    if p.kind == SHOW {
-        return same_part(slots1, slots2, x.a as usize, x.b as usize);
-    }
-    true
-}
 
 // Whether the players stand at a difference, or at the same answers.
 fn is_same(
@@ -129,61 +53,11 @@ fn is_same(
     if r.state != AT_CALL {
         return true;
     }
-    same_answers(l, r, slots1, map1, slots2, map2)
-}
-
-// Which players are next, where `same` says whether the answers of a pair are the same.
-fn next_turn(l: Player, r: Player, same: bool) -> Turn {
-    if l.state == AT_ANALYSIS {
-        return Turn {
-            has_left: true,
-            has_right: false,
-            mark: false,
-        };
-    }
-    if r.state == AT_ANALYSIS {
-        return Turn {
-            has_left: false,
-            has_right: true,
-            mark: false,
-        };
-    }
-    let has_left = l.state != DONE;
-    let has_right = r.state != DONE;
-    Turn {
-        has_left,
-        has_right,
-        mark: if has_left && has_right { !same } else { true },
-    }
-}
-
-// The first difference, after this turn.
-fn noted(v: Verdict, t: Turn, left: u64, right: u64) -> Verdict {
-    if v.kind != AGREE {
-        return v;
-    }
-    if !t.mark || is_over(t) {
-        return v;
-    }
-    if !t.has_right {
-        return Verdict {
-            kind: LEFT_MORE,
-            left,
-            right: 0,
-        };
-    }
-    if !t.has_left {
-        return Verdict {
-            kind: RIGHT_MORE,
-            left: 0,
-            right,
-        };
-    }
-    Verdict {
-        kind: DIFFER,
-        left,
-        right,
-    }
+    let line = l.line;
+    let other = r.line;
+    let x = l.ran;
+    let y = r.ran;
+    same_answers(line, other, x, y, slots1, map1, slots2, map2)
 }
 
 // ---- the cells of a row
@@ -239,15 +113,6 @@ fn pair_text(s: &mut [u8; SHEET], at: usize, one: bool, l: Player, r: Player) ->
         numbered(s, at, b"Line ", r)
     } else {
         twice_numbered(s, at, l, r)
-    }
-}
-
-// A mark where the columns differ.
-pub fn mark_text(s: &mut [u8; SHEET], is_marked: bool) -> usize {
-    if is_marked {
-        text(s, CALL, b"* ")
-    } else {
-        CALL
     }
 }
 
@@ -313,8 +178,8 @@ fn has_row(b: Both, t: Turn) -> bool {
     has_answer(r, t.has_right)
 }
 
-// The row of a turn.
-fn turn_row(
+// The row of a turn, if it has one.
+pub(crate) fn turn_row(
     b: Both,
     t: Turn,
     s: &mut [u8; SHEET],
@@ -323,7 +188,7 @@ fn turn_row(
     slots2: &[u32; SLOTS],
     map2: &[u64; MAP],
 ) -> usize {
-    if !has_row(b, t) {
+    if is_over(t) || !has_row(b, t) {
         return b.at;
     }
     let l = b.left;
@@ -349,7 +214,7 @@ fn onward(p: Player, is_there: bool) -> Player {
     if is_there { standing(p, READING) } else { p }
 }
 
-pub fn with_left(b: Both, left: Player) -> Both {
+pub(crate) fn with_left(b: Both, left: Player) -> Both {
     let right = b.right;
     let verdict = b.verdict;
     Both {
@@ -357,14 +222,12 @@ pub fn with_left(b: Both, left: Player) -> Both {
         right,
         at: b.at,
         one: b.one,
-        hands: b.hands,
         verdict,
-        told: b.told,
         over: b.over,
     }
 }
 
-pub fn with_right(b: Both, right: Player) -> Both {
+pub(crate) fn with_right(b: Both, right: Player) -> Both {
     let left = b.left;
     let verdict = b.verdict;
     Both {
@@ -372,9 +235,7 @@ pub fn with_right(b: Both, right: Player) -> Both {
         right,
         at: b.at,
         one: b.one,
-        hands: b.hands,
         verdict,
-        told: b.told,
         over: b.over,
     }
 }
@@ -389,12 +250,8 @@ fn verdict_after(b: Both, t: Turn) -> Verdict {
     noted(old, t, x.number, y.number)
 }
 
-fn is_over(t: Turn) -> bool {
-    !t.has_left && !t.has_right
-}
-
 // Both after a turn that was told up to the place `at` of the page.
-pub fn after_turn(b: Both, t: Turn, at: usize, told: bool) -> Both {
+pub(crate) fn after_turn(b: Both, t: Turn, at: usize) -> Both {
     let l = b.left;
     let r = b.right;
     Both {
@@ -402,15 +259,13 @@ pub fn after_turn(b: Both, t: Turn, at: usize, told: bool) -> Both {
         right: onward(r, t.has_right),
         at,
         one: b.one,
-        hands: b.hands,
         verdict: verdict_after(b, t),
-        told,
         over: is_over(t),
     }
 }
 
 // What comes next of two players that both wait.
-pub fn turn_of(
+pub(crate) fn turn_of(
     b: Both,
     slots1: &[u32; SLOTS],
     map1: &[u64; MAP],
@@ -419,22 +274,5 @@ pub fn turn_of(
 ) -> Turn {
     let l = b.left;
     let r = b.right;
-    next_turn(l, r, is_same(l, r, slots1, map1, slots2, map2))
-}
-
-// The next turn with its row.
-pub fn told_turn(
-    b: Both,
-    s: &mut [u8; SHEET],
-    slots1: &[u32; SLOTS],
-    map1: &[u64; MAP],
-    slots2: &[u32; SLOTS],
-    map2: &[u64; MAP],
-) -> Both {
-    let t = turn_of(b, slots1, map1, slots2, map2);
-    if is_over(t) {
-        return after_turn(b, t, b.at, b.told);
-    }
-    let at = turn_row(b, t, s, slots1, map1, slots2, map2);
-    after_turn(b, t, at, true)
+    next_turn(l.state, r.state, is_same(l, r, slots1, map1, slots2, map2))
 }

@@ -1,35 +1,30 @@
 // A list that is run on a column's buffers, line by line.
-use crate::memory::MAP;
-use crate::memory::RECORDS;
-use crate::memory::ROOTS;
-use crate::memory::SLOTS;
-use crate::memory::WORK;
-use crate::phrases::ANALYSE;
-use crate::phrases::NO_CALL;
-use crate::phrases::parts_of;
-use crate::reading::FAILED;
-use crate::reading::LINE;
-use crate::reading::Source;
-use crate::reading::next_line;
-use crate::reading::parsed;
-use crate::text::SHEET;
 use calls::Ran;
 use calls::compare::plainly;
 use calls::run;
+use compare::kinds::ANALYSE;
+use compare::kinds::NO_CALL;
+use compare::kinds::parts_of;
+use compare::turns::AT_ANALYSIS;
+use compare::turns::AT_CALL;
+use compare::turns::DONE;
+use compare::turns::READING;
+use files::reading::FAILED;
+use files::reading::LINE;
+use files::reading::Source;
+use files::reading::next_line;
+use files::reading::parsed;
 use layout::answers::Control;
 use lines::Line;
-
-// How a player stands: on its way to the next call, at a call that was run, at an analysis that was run, behind the last line.
-pub const READING: u32 = 0;
-
-pub const AT_CALL: u32 = 1;
-
-pub const AT_ANALYSIS: u32 = 2;
-
-pub const DONE: u32 = 3;
+use rows::memory::MAP;
+use rows::memory::RECORDS;
+use rows::memory::ROOTS;
+use rows::memory::SLOTS;
+use rows::memory::WORK;
+use sheet::SHEET;
 
 // A list that is run, plainly or as it says: the line run last, and what it answered.
-pub struct Player {
+pub(crate) struct Player {
     pub source: Source,
     pub plain: bool,
     pub line: Line,
@@ -48,7 +43,7 @@ fn no_control() -> Control {
     }
 }
 
-pub fn start(source: Source, plain: bool) -> Player {
+pub(crate) fn start(source: Source, plain: bool) -> Player {
     Player {
         source,
         plain,
@@ -65,7 +60,7 @@ pub fn start(source: Source, plain: bool) -> Player {
 }
 
 // The player in another state.
-pub fn standing(p: Player, state: u32) -> Player {
+pub(crate) fn standing(p: Player, state: u32) -> Player {
     let source = p.source;
     let line = p.line;
     let ran = p.ran;
@@ -94,7 +89,7 @@ fn state_after(line: Line) -> u32 {
 }
 
 // Runs the next line.
-pub fn step(
+pub(crate) fn step(
     p: Player,
     sheet: &mut [u8; SHEET],
     records: &mut [u32; RECORDS],

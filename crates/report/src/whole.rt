@@ -1,49 +1,55 @@
 // The whole report: the builds, a row for each answer, the survivors, what changed hands, and the verdict.
-use crate::checking::UNREADABLE;
-use crate::checking::check_list;
-use crate::checking::complain;
-use crate::columns::Row;
-use crate::columns::put_row;
-use crate::hands::hands_turn;
-use crate::memory::MAP;
-use crate::memory::PAST;
-use crate::memory::RECORDS;
-use crate::memory::ROOTS;
-use crate::memory::SLOTS;
-use crate::memory::WORK;
-use crate::pairs::AGREE;
+use crate::hands::keep_turn;
+use crate::hands::note_turn;
+use crate::hands::tell_hands;
 use crate::pairs::Both;
-use crate::pairs::DIFFER;
-use crate::pairs::LEFT_MORE;
-use crate::pairs::Verdict;
-use crate::pairs::told_turn;
+use crate::pairs::after_turn;
+use crate::pairs::turn_of;
+use crate::pairs::turn_row;
 use crate::pairs::with_left;
 use crate::pairs::with_right;
-use crate::player::READING;
 use crate::player::start;
 use crate::player::step;
-use crate::reading::opened;
-use crate::survivors::Tally;
-use crate::survivors::object_rows;
-use crate::survivors::root_rows;
-use crate::text::CALL;
-use crate::text::FIRST;
-use crate::text::LEFT;
-use crate::text::LOADED;
-use crate::text::RIGHT;
-use crate::text::SECOND;
-use crate::text::SHEET;
-use crate::text::WROTE;
-use crate::text::copy;
-use crate::text::decimal;
-use crate::text::end_line;
-use crate::text::flush;
-use crate::text::line;
-use crate::text::text;
+use compare::hands::HANDS;
+use compare::survivors::same_objects;
+use compare::survivors::same_roots;
+use compare::turns::AGREE;
+use compare::turns::DIFFER;
+use compare::turns::LEFT_MORE;
+use compare::turns::READING;
+use compare::turns::Verdict;
+use files::checking::UNREADABLE;
+use files::checking::check_list;
+use files::checking::complain;
+use files::page::CALL;
+use files::page::FIRST;
+use files::page::LEFT;
+use files::page::LOADED;
+use files::page::RIGHT;
+use files::page::SECOND;
+use files::page::WROTE;
+use files::page::end_line;
+use files::page::flush;
+use files::page::line;
+use files::reading::opened;
+use rows::columns::Row;
+use rows::columns::put_row;
+use rows::memory::MAP;
+use rows::memory::RECORDS;
+use rows::memory::ROOTS;
+use rows::memory::SLOTS;
+use rows::memory::WORK;
+use rows::survivors::Tally;
+use rows::survivors::object_rows;
+use rows::survivors::root_rows;
+use sheet::SHEET;
+use sheet::copy;
+use sheet::decimal;
+use sheet::text;
 use std::num::wrapping_add_usize;
 
 // What the first reading found: whether the lists can be run, the lengths of the names, and the lines of both lists.
-pub struct Names {
+pub(crate) struct Names {
     pub good: bool,
     pub wrote: usize,
     pub loaded: usize,
@@ -166,7 +172,7 @@ fn right_reads(b: Both) -> bool {
 fn turn(
     b: Both,
     s: &mut [u8; SHEET],
-    past: &mut [u64; PAST],
+    hands: &mut [u64; HANDS],
     rec1: &mut [u32; RECORDS],
     slot1: &mut [u32; SLOTS],
     root1: &mut [u32; ROOTS],
@@ -184,23 +190,11 @@ fn turn(
     if right_reads(b) {
         return step_right(b, s, rec2, slot2, root2, work2, map2);
     }
-    if b.hands {
-        hands_turn(
-            b,
-            s,
-            past,
-            rec1,
-            slot1,
-            root1,
-            map1,
-            rec2,
-            slot2,
-            root2,
-            map2,
-        )
-    } else {
-        told_turn(b, s, slot1, map1, slot2, map2)
-    }
+    let t = turn_of(b, slot1, map1, slot2, map2);
+    let at = turn_row(b, t, s, slot1, map1, slot2, map2);
+    note_turn(b, t, hands, rec1, slot1, root1, rec2, slot2, root2);
+    keep_turn(b, t, hands, map1, map2);
+    after_turn(b, t, at)
 }
 
 fn going(b: Both) -> bool {
@@ -210,7 +204,7 @@ fn going(b: Both) -> bool {
 fn play(
     from: Both,
     s: &mut [u8; SHEET],
-    past: &mut [u64; PAST],
+    hands: &mut [u64; HANDS],
     rec1: &mut [u32; RECORDS],
     slot1: &mut [u32; SLOTS],
     root1: &mut [u32; ROOTS],
@@ -228,7 +222,7 @@ fn play(
         b = turn(
             b,
             s,
-            past,
+            hands,
             rec1,
             slot1,
             root1,
@@ -246,7 +240,7 @@ fn play(
 }
 
 // Both players before the first lines of their lists.
-fn begin(first: &[u8], second: &[u8], at: usize, one: bool, hands: bool) -> Both {
+fn begin(first: &[u8], second: &[u8], at: usize, one: bool) -> Both {
     let fd1 = open_again(first);
     let fd2 = open_again(second);
     Both {
@@ -254,13 +248,11 @@ fn begin(first: &[u8], second: &[u8], at: usize, one: bool, hands: bool) -> Both
         right: start(opened(fd2, SECOND), false),
         at,
         one,
-        hands,
         verdict: Verdict {
             kind: AGREE,
             left: 0,
             right: 0,
         },
-        told: false,
         over: fd1 < 0 || fd2 < 0,
     }
 }
@@ -342,11 +334,21 @@ fn survivors_part(
     let begun = Tally {
         at: line(s, blank, b"Survivors"),
         any: false,
-        differ: false,
     };
     let t = object_rows(begun, s, c1.n, rec1, slot1, c2.n, rec2, slot2);
     let u = none_before(s, t);
     root_rows(u, s, c1, root1, c2, root2)
+}
+
+// Whether the roots of both columns are the same.
+fn same_heads(b: Both, root1: &[u32; ROOTS], root2: &[u32; ROOTS]) -> bool {
+    let l = b.left;
+    let r = b.right;
+    let x = l.ran;
+    let y = r.ran;
+    let c1 = x.control;
+    let c2 = y.control;
+    same_roots(c1.r, root1, c2.r, root2)
 }
 
 // Says so where there was no row.
@@ -357,14 +359,18 @@ fn none_before(s: &mut [u8; SHEET], t: Tally) -> Tally {
     Tally {
         at: line(s, t.at, b"none"),
         any: false,
-        differ: t.differ,
     }
 }
 
-// The head of the part on what changed hands.
-fn hands_head(s: &mut [u8; SHEET], at: usize) -> usize {
+// What changed hands.
+fn hands_part(s: &mut [u8; SHEET], at: usize, one: bool, hands: &[u64; HANDS]) -> usize {
     let blank = end_line(s, at);
-    line(s, blank, b"Objects that changed hands")
+    let head = line(s, blank, b"Objects that changed hands");
+    let t = tell_hands(s, head, one, hands);
+    if t.any {
+        return t.at;
+    }
+    line(s, t.at, b"none")
 }
 
 // ---- the last line
@@ -440,16 +446,32 @@ fn last_line(s: &mut [u8; SHEET], at: usize, b: Both, n: Names, differ: bool) ->
     }
 }
 
-// The end of the report: whether something changed hands, and the verdict.
-fn ending(s: &mut [u8; SHEET], hands: Both, b: Both, n: Names, differ: bool) {
-    let mut at = hands.at;
-    if !hands.told {
-        at = line(s, at, b"none");
-    }
+// The end of the report: the verdict.
+fn ending(s: &mut [u8; SHEET], at: usize, b: Both, n: Names, differ: bool) {
     let blank = end_line(s, at);
     let last = last_line(s, blank, b, n, differ);
     let end = end_line(s, last);
     flush(libc::STDOUT_FILENO, s, end);
+}
+
+// What stands behind the rows: the survivors, what changed hands, and the verdict.
+fn finish(
+    s: &mut [u8; SHEET],
+    b: Both,
+    n: Names,
+    hands: &[u64; HANDS],
+    rec1: &[u32; RECORDS],
+    slot1: &[u32; SLOTS],
+    root1: &[u32; ROOTS],
+    rec2: &[u32; RECORDS],
+    slot2: &[u32; SLOTS],
+    root2: &[u32; ROOTS],
+) {
+    close_both(b);
+    let t = survivors_part(s, b, rec1, slot1, root1, rec2, slot2, root2);
+    let end = hands_part(s, t.at, b.one, hands);
+    let same = same_objects(rec1, slot1, rec2, slot2) && same_heads(b, root1, root2);
+    ending(s, end, b, n, !same);
 }
 
 // Checks both lists, runs them, and reports. rec1 to map1 are the buffers of the left column, and rec2 to map2 those of the right one.
@@ -458,7 +480,7 @@ pub fn report(
     second: &[u8],
     one: bool,
     s: &mut [u8; SHEET],
-    past: &mut [u64; PAST],
+    hands: &mut [u64; HANDS],
     rec1: &mut [u32; RECORDS],
     slot1: &mut [u32; SLOTS],
     root1: &mut [u32; ROOTS],
@@ -474,12 +496,11 @@ pub fn report(
     if !names.good {
         return;
     }
-    let at = heading(s, one, names);
-    let begun = begin(first, second, at, one, false);
+    let begun = begin(first, second, heading(s, one, names), one);
     let b = play(
         begun,
         s,
-        past,
+        hands,
         rec1,
         slot1,
         root1,
@@ -491,24 +512,5 @@ pub fn report(
         work2,
         map2,
     );
-    close_both(begun);
-    let t = survivors_part(s, b, rec1, slot1, root1, rec2, slot2, root2);
-    let again = begin(first, second, hands_head(s, t.at), one, true);
-    let h = play(
-        again,
-        s,
-        past,
-        rec1,
-        slot1,
-        root1,
-        work1,
-        map1,
-        rec2,
-        slot2,
-        root2,
-        work2,
-        map2,
-    );
-    close_both(again);
-    ending(s, h, b, names, t.differ);
+    finish(s, b, names, hands, rec1, slot1, root1, rec2, slot2, root2);
 }

@@ -1,0 +1,2 @@
+-- Laws of what a report decides, and the proofs of the functions.
+pub mod DecideLaws

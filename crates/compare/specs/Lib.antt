@@ -1,0 +1,6 @@
+-- What a report decides.
+pub mod Kinds
+pub mod Turns
+pub mod Answers
+pub mod Survivors
+pub mod Hands

@@ -1,0 +1,188 @@
+// The first reading of a list: its lines are checked, and the names of the builds are kept.
+use crate::page::LOADED;
+use crate::page::WROTE;
+use crate::page::flush;
+use crate::reading::FAILED;
+use crate::reading::LINE;
+use crate::reading::LONG;
+use crate::reading::Source;
+use crate::reading::next_line;
+use crate::reading::parsed;
+use lines::Line;
+use sheet::SHEET;
+use sheet::copy;
+use sheet::decimal;
+use sheet::less;
+use sheet::text;
+use std::num::wrapping_add_usize;
+
+// What is wrong with a list, besides the numbers of lines::Line::Bad.
+const NOT_CREATE: u32 = 11;
+
+const SECOND_CREATE: u32 = 12;
+
+const NO_CREATE: u32 = 13;
+
+const TOO_LONG: u32 = 14;
+
+pub const UNREADABLE: u32 = 15;
+
+// What is known of a list so far. `problem` is 0 while nothing is wrong; wrote and loaded are the lengths of the names, 0 for none.
+pub struct Check {
+    pub source: Source,
+    pub created: bool,
+    pub problem: u32,
+    pub over: bool,
+    pub wrote: usize,
+    pub loaded: usize,
+}
+
+// What is wrong with a line, after an earlier create or before one.
+fn problem_of(line: Line, created: bool) -> u32 {
+    match line {
+        Line::Nothing => 0,
+        Line::Wrote(_, _) => 0,
+        Line::Loaded(_, _) => 0,
+        Line::Bad(e) => e,
+        Line::Create(_, _) => { if created { SECOND_CREATE } else { 0 } }
+        _ => { if created { 0 } else { NOT_CREATE } }
+    }
+}
+
+fn is_create(line: Line) -> bool {
+    match line {
+        Line::Create(_, _) => true,
+        _ => false,
+    }
+}
+
+// The list's end, or why no line was found.
+fn ended(c: Check, s: Source) -> Check {
+    let state = s.state;
+    let mut problem = 0;
+    if state == LONG {
+        problem = TOO_LONG;
+    } else if state == FAILED {
+        problem = UNREADABLE;
+    } else if !c.created {
+        problem = NO_CREATE;
+    }
+    Check {
+        source: s,
+        created: c.created,
+        problem,
+        over: true,
+        wrote: c.wrote,
+        loaded: c.loaded,
+    }
+}
+
+// Keeps a name at `at`, where none was kept before, and answers its length.
+fn name(s: &mut [u8; SHEET], at: usize, old: usize, start: usize, length: usize) -> usize {
+    if old != 0 {
+        return old;
+    }
+    let end = copy(s, at, start, wrapping_add_usize(start, length));
+    less(end, at)
+}
+
+// The length of the name of the build that wrote, after this line.
+fn wrote_after(s: &mut [u8; SHEET], old: usize, line: Line, from: usize) -> usize {
+    match line {
+        Line::Wrote(start, length) => name(s, WROTE, old, wrapping_add_usize(from, start), length),
+        _ => old,
+    }
+}
+
+// The length of the name of the build that loaded, after this line.
+fn loaded_after(s: &mut [u8; SHEET], old: usize, line: Line, from: usize) -> usize {
+    match line {
+        Line::Loaded(start, length) => name(
+            s,
+            LOADED,
+            old,
+            wrapping_add_usize(from, start),
+            length,
+        ),
+        _ => old,
+    }
+}
+
+// Checks the next line.
+fn check_line(c: Check, s: &mut [u8; SHEET]) -> Check {
+    let old = c.source;
+    let source = next_line(old, s);
+    if source.state != LINE {
+        return ended(c, source);
+    }
+    let line = parsed(source, s);
+    let problem = problem_of(line, c.created);
+    let wrote = wrote_after(s, c.wrote, line, source.start);
+    let loaded = loaded_after(s, c.loaded, line, source.start);
+    Check {
+        source,
+        created: c.created || is_create(line),
+        problem,
+        over: problem != 0,
+        wrote,
+        loaded,
+    }
+}
+
+fn going(c: Check) -> bool {
+    !c.over
+}
+
+// Checks the list of a source. wrote and loaded are the lengths of names that are known already.
+pub fn check_list(source: Source, s: &mut [u8; SHEET], wrote: usize, loaded: usize) -> Check {
+    let mut c = Check {
+        source,
+        created: false,
+        problem: 0,
+        over: false,
+        wrote,
+        loaded,
+    };
+    let mut turns = u64::MAX;
+    while 0 < turns && going(c) {
+        c = check_line(c, s);
+        turns -= 1;
+    }
+    c
+}
+
+// What a line should have had, in words.
+fn expected_text(s: &mut [u8; SHEET], at: usize, problem: u32) -> usize {
+    match problem {
+        lines::A_NUMBER => text(s, at, b"expected a number"),
+        lines::A_SMALL_NUMBER => text(s, at, b"expected a number below 4294967296"),
+        lines::THE_END => text(s, at, b"expected the end of the line"),
+        lines::A_WAY => text(s, at, b"expected plain or clusters"),
+        lines::A_NAME => text(s, at, b"expected a name"),
+        _ => text(s, at, b"expected the name of a call"),
+    }
+}
+
+// What is wrong, in words.
+fn problem_text(s: &mut [u8; SHEET], at: usize, problem: u32) -> usize {
+    match problem {
+        NOT_CREATE => text(s, at, b"expected create, which is the first call of a list"),
+        SECOND_CREATE => text(s, at, b"a second create, and a list has one"),
+        NO_CREATE => text(s, at, b"expected create, and the list has no call"),
+        TOO_LONG => text(s, at, b"the line is longer than 4096 bytes"),
+        _ => expected_text(s, at, problem),
+    }
+}
+
+// Says on standard error which line of the list at path is wrong, and why.
+pub fn complain(s: &mut [u8; SHEET], path: &[u8], number: u64, problem: u32) {
+    let mut at = text(s, 0, path);
+    if problem != NO_CREATE {
+        let after = text(s, at, b", line ");
+        at = decimal(s, after, number);
+    }
+    let colon = text(s, at, b": ");
+    let end = problem_text(s, colon, problem);
+    let last = text(s, end, b"\n");
+    flush(libc::STDERR_FILENO, s, last);
+}

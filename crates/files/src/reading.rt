@@ -1,0 +1,154 @@
+// A list read line by line into a part of the sheet.
+use crate::page::ROOM;
+use lines::Line;
+use lines::words::line_end;
+use sheet::SHEET;
+use sheet::copy;
+use sheet::less;
+use std::num::wrapping_add_u64;
+use std::num::wrapping_add_usize;
+
+// The most bytes of a line.
+const LONGEST: usize = 4096;
+
+// How a source stands: bytes are wanted, a line was found, the file is at its end, a line is too long, a read failed.
+const MORE: u32 = 0;
+
+pub const LINE: u32 = 1;
+
+const END: u32 = 2;
+
+pub(crate) const LONG: u32 = 3;
+
+pub const FAILED: u32 = 4;
+
+// A list whose part of the sheet begins at base. The bytes from `from` to `end` are still to be used; the line found has those from
+// `start` to `stop`.
+pub struct Source {
+    pub fd: i32,
+    pub base: usize,
+    pub from: usize,
+    pub end: usize,
+    pub number: u64,
+    pub start: usize,
+    pub stop: usize,
+    pub state: u32,
+}
+
+pub fn opened(fd: i32, base: usize) -> Source {
+    Source {
+        fd,
+        base,
+        from: base,
+        end: base,
+        number: 0,
+        start: base,
+        stop: base,
+        state: MORE,
+    }
+}
+
+// The source with other bytes to use.
+fn holding(s: Source, from: usize, end: usize, state: u32) -> Source {
+    Source {
+        fd: s.fd,
+        base: s.base,
+        from,
+        end,
+        number: s.number,
+        start: s.start,
+        stop: s.stop,
+        state,
+    }
+}
+
+// The source with a line from `from` to `stop`, and the next one from `next` on.
+fn found(s: Source, stop: usize, next: usize) -> Source {
+    let length = less(stop, s.from);
+    Source {
+        fd: s.fd,
+        base: s.base,
+        from: next,
+        end: s.end,
+        number: wrapping_add_u64(s.number, 1),
+        start: s.from,
+        stop,
+        state: if LONGEST < length { LONG } else { LINE },
+    }
+}
+
+// Looks for a whole line among the bytes at hand.
+fn look(s: Source, sheet: &[u8; SHEET]) -> Source {
+    let from = s.from;
+    let end = s.end;
+    if SHEET < end {
+        return holding(s, from, end, FAILED);
+    }
+    let whole = &sheet[..];
+    let stop = line_end(&whole[0..end], from);
+    if stop < end {
+        return found(s, stop, stop + 1);
+    }
+    if LONGEST < less(end, from) {
+        return found(s, end, end);
+    }
+    holding(s, from, end, MORE)
+}
+
+// Reads once into the bytes from `kept` up to `limit`, and answers what the read did.
+fn read_on(fd: i32, sheet: &mut [u8], kept: usize, limit: usize) -> isize {
+    if sheet.len() < limit {
+        return -1;
+    }
+    if limit <= kept {
+        return -1;
+    }
+    libc::read(fd, &mut sheet[kept..limit])
+}
+
+// Moves the bytes at hand to the front of their part, reads on, and looks again.
+fn fill(s: Source, sheet: &mut [u8; SHEET]) -> Source {
+    let base = s.base;
+    let limit = wrapping_add_usize(base, ROOM);
+    let kept = copy(sheet, base, s.from, s.end);
+    let got = read_on(s.fd, sheet, kept, limit);
+    if got < 0 {
+        return holding(s, base, kept, FAILED);
+    }
+    if got == 0 {
+        if kept == base {
+            return holding(s, base, base, END);
+        }
+        return found(holding(s, base, kept, MORE), kept, kept);
+    }
+    let more = io::count(got, sheet);
+    look(
+        holding(s, base, wrapping_add_usize(kept, more), MORE),
+        sheet,
+    )
+}
+
+// The next line.
+pub fn next_line(s: Source, sheet: &mut [u8; SHEET]) -> Source {
+    let mut t = look(s, sheet);
+    let mut turns = ROOM;
+    while 0 < turns && t.state == MORE {
+        t = fill(t, sheet);
+        turns -= 1;
+    }
+    t
+}
+
+// The call that the line found makes.
+pub fn parsed(s: Source, sheet: &[u8; SHEET]) -> Line {
+    let start = s.start;
+    let stop = s.stop;
+    let whole = &sheet[..];
+    if stop < start {
+        return Line::Nothing;
+    }
+    if SHEET < stop {
+        return Line::Nothing;
+    }
+    lines::parse(&whole[start..stop])
+}

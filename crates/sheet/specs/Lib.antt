@@ -1,0 +1,3 @@
+-- Bytes put on a sheet, and numbers as text.
+pub mod Sheet
+pub mod Numerals

@@ -1,0 +1,2 @@
+-- The words of a report.
+pub mod Words
