@@ -17,15 +17,16 @@ shutil.rmtree(build, ignore_errors=True)
 os.makedirs(f'{build}/crates/sample/src')
 os.makedirs(f'{build}/crates/sample/specs')
 subprocess.run(['gcc', '-shared', '-fPIC', '-O2', '-I', f'{top}/include', '-o', f'{build}/libref.so', f'{top}/tests/reference/reference.c'], check=True)
-for crate in ('layout', 'graph', 'rules'):
+crates = ('layout', 'records', 'bitmap', 'graph', 'rules')
+for crate in crates:
     shutil.copytree(f'{top}/crates/{crate}', f'{build}/crates/{crate}', ignore=shutil.ignore_patterns('must-fail'))
-open(f'{build}/crates.txt', 'w').write('layout:\ngraph:\nrules: layout graph\nsample: layout graph rules\n')
+open(f'{build}/crates.txt', 'w').write('layout:\nrecords: layout\nbitmap: layout\ngraph:\nrules: layout records bitmap graph\nsample: layout records bitmap graph rules\n')
 open(f'{build}/crates/sample/src/lib.rt', 'w').write('pub fn version() -> u32 {\n    1\n}\n')
 open(f'{build}/crates/sample/specs/Lib.antt', 'w').write('pub mod Sample\n')
 
 # Every definition that has to compute: a `use` line for each file of specs/, and one long `unfolding` line.
 uses, names = [], []
-for crate in ('layout', 'graph', 'rules'):
+for crate in crates:
     for file in sorted(os.listdir(f'{top}/crates/{crate}/specs')):
         module = file[:-5]
         if module in ('Lib', 'Trials', 'Demands', 'DepthFirst', 'Calls'):
