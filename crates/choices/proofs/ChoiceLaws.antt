@@ -2,7 +2,7 @@
 -- Assumes nothing.
 use Prim.Native.Nat.{ℕ, _+_, _*_, _/_, _%_, _≤_, _<_, min, max}
 use mathlib.Core.Path.{_≡_, refl, sym, ap, _∙_}
-use mathlib.Core.Bool.{Bool, true, false, not}
+use mathlib.Core.Bool.{Bool, true, false, not, cond}
 use mathlib.Core.Logic.{_≢_}
 use native.Mathlib.Decide.{decLe}
 use native.Mathlib.Omega.{arith}
@@ -73,13 +73,19 @@ module _ (s p : ℕ) (b : Bool) (o : b ≡ overBy s p) where
       go (yes l) = rw (le-leb 4 s l, le-ltb s 4 l) refl
       go (no l) = rw (lt-leb 4 s (omega (arith, l)), lt-ltb s 4 (omega (arith, l))) refl
 
-  pub loss-over : b ≡ true → s ≡ lossBy s p
+  loss-is : lossBy s p ≡ cond (not b) 0 s
   unfolding lossBy
-  loss-over t = rw (← o, t) refl
+  loss-is = rw (← o) (go b)
+    where
+      go : (x : Bool) → cond x s 0 ≡ cond (not x) 0 s
+      go true = refl
+      go false = refl
 
-  pub loss-none : b ≡ false → 0 ≡ lossBy s p
-  unfolding lossBy
-  loss-none t = rw (← o, t) refl
+  pub loss-none : not b ≡ true → 0 ≡ lossBy s p
+  loss-none t = sym (loss-is ∙ rw t refl)
+
+  pub loss-over : not b ≡ false → s ≡ lossBy s p
+  loss-over t = sym (loss-is ∙ rw t refl)
 
 -- ---- the record of an object when the analysis is over
 

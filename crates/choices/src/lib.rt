@@ -94,7 +94,10 @@ pub fn stays(s: u32, p: u32) -> bool
 pub fn loss(s: u32, p: u32) -> u32
     ensures { λ k. ⌜ k ≡ lossBy s p ⌝ }
 {
-    if is_over(s, p) { s } else { 0 }
+    if !is_over(s, p) {
+        return 0;
+    }
+    s
 }
 
 // ---- what is left
