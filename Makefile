@@ -1,6 +1,7 @@
 # make           build/libpakzid.a, build/pakzid.h and build/pakzid.pc
 # make test      the whole gate: C tests, example, proofs, must-fail edits, programs (bash .ci/run)
 # make run       the report of an example level (the program replay)
+# make reports   the reports of replay on random and on wrong lists, compared with a program in C
 # make bench     times against the C reference and a baseline in C, on standard output
 # make install   library, header and pkg-config file to PREFIX (with DESTDIR before it)
 
@@ -35,6 +36,9 @@ run:
 	rt check replay
 	target/bin/replay examples/trials.calls
 
+reports:
+	bash tests/replay/run.sh
+
 build/bench/bench: $(reference)/bench.c $(reference)/reference.c $(reference)/baseline.c build/libpakzid.a | build/bench
 	gcc -std=c11 -O2 -Wall -Wextra -I include -I $(reference) -o $@ $^
 
@@ -49,4 +53,4 @@ install: all
 
 FORCE:
 
-.PHONY: all test run bench install FORCE
+.PHONY: all test run reports bench install FORCE

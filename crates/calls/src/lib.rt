@@ -17,7 +17,7 @@ use layout::answers::Done;
 use layout::answers::Part;
 use layout::answers::WordRead;
 use lines::Line;
-use writes::declare_sink::declare_sink;
+use sinks::declare_sink;
 use writes::write::write;
 
 pub mod compare;

@@ -1,12 +1,12 @@
 // A list read line by line into a part of the sheet.
 use crate::page::ROOM;
 use lines::Line;
-use lines::words::line_end;
 use sheet::SHEET;
 use sheet::copy;
 use sheet::less;
 use std::num::wrapping_add_u64;
 use std::num::wrapping_add_usize;
+use tokens::words::line_end;
 
 // The most bytes of a line.
 const LONGEST: usize = 4096;

@@ -5,18 +5,18 @@ use mathlib.Core.Bool.{true, false}
 use mathlib.Core.List.{List, _∷_}
 use lib.ListN.{take, drop}
 use borrow.Author.Tests.{eq-eqb, ne-eqb}
-use Rattle.lines.specs.declared.words.Span.{Span}
-use Rattle.lines.specs.declared.numbers.Number.{Number}
+use Rattle.tokens.specs.declared.words.Span.{Span}
+use Rattle.tokens.specs.declared.numbers.Number.{Number}
 use Rattle.lines.specs.declared.Next.{Next}
 use Rattle.lines.specs.declared.Next.the-variants as next
 use Rattle.lines.specs.declared.Call.{Call}
 use Rattle.lines.specs.declared.Line.{Line}
 use Rattle.lines.specs.declared.Line.the-variants.{Nothing, CollectPlain, CollectClusters, Bad}
-use Rattle.lines.specs.Text.{bytes}
-use Rattle.lines.specs.Word.{wordAt, none, text, sameBytes}
-use Rattle.lines.specs.Numeral.{numeralOf, isHex, valueOf}
+use Rattle.tokens.specs.Text.{bytes}
+use Rattle.tokens.specs.Word.{wordAt, none, text, sameBytes}
+use Rattle.tokens.specs.Numeral.{numeralOf, isHex, valueOf}
 use Rattle.lines.specs.Line.{aNumber, theEnd, aWay, aName, table, look, ended, nextOf, numberAt, andThen, named, way, follows, parsed}
-use Rattle.lines.proofs.WordLaws.{text-none}
+use Rattle.tokens.proofs.WordLaws.{text-none}
 
 module _ (w : List ℕ) (e : List ℕ × Call) (t : List (List ℕ × Call)) where
   pub look-miss : sameBytes w (e .0) ≡ false → look (e ∷ t) w ≡ look t w

@@ -4,9 +4,9 @@ use Prim.Native.String.{String}
 use mathlib.Core.Path.{_≡_, refl}
 use mathlib.Core.List.{map}
 use Rattle.lines.specs.declared.Line.{Line}
-use Rattle.lines.specs.Text.{bytes}
-use Rattle.lines.specs.Word.{isBlank, inWord, inLine, has, run, runEnd, wordAt, none, text, sameBytes, lineEnd}
-use Rattle.lines.specs.Numeral.{between, digitOf, digits, numeralOf, isHex, valueOf}
+use Rattle.tokens.specs.Text.{bytes}
+use Rattle.tokens.specs.Word.{isBlank, inWord, inLine, has, run, runEnd, wordAt, none, text, sameBytes, lineEnd}
+use Rattle.tokens.specs.Numeral.{between, digitOf, digits, numeralOf, isHex, valueOf}
 use Rattle.lines.specs.Line.{table, look, ended, nextOf, numberAt, andThen, one, two, three, named, way, follows, parsed}
 use Rattle.lines.specs.Examples.{examples, lineEnds}
 

@@ -2,11 +2,11 @@
 use Prim.Native.Nat.{ℕ, _-_}
 use mathlib.Core.Bool.{true, false, cond}
 use mathlib.Core.List.{List, [], _∷_}
-use Rattle.lines.specs.Text.{bytes}
-use Rattle.lines.specs.Word.{wordAt, none, text, sameBytes}
-use Rattle.lines.specs.Numeral.{valueOf}
-use Rattle.lines.specs.declared.numbers.Number.{Number}
-use Rattle.lines.specs.declared.numbers.Number.the-variants as number
+use Rattle.tokens.specs.Text.{bytes}
+use Rattle.tokens.specs.Word.{wordAt, none, text, sameBytes}
+use Rattle.tokens.specs.Numeral.{valueOf}
+use Rattle.tokens.specs.declared.numbers.Number.{Number}
+use Rattle.tokens.specs.declared.numbers.Number.the-variants as number
 use Rattle.lines.specs.declared.Next.{Next}
 use Rattle.lines.specs.declared.Next.the-variants as next
 use Rattle.lines.specs.declared.Call.{Call}

@@ -2,13 +2,10 @@
 ghost use mathlib.Core.Path.{_≡_};
 ghost use Rattle.lines.specs.Line.{table, look, ended as endedAt, numberAt, one as oneOf, two as twoOf, three as threeOf, named as namedAt, way as wayAt, parsed};
 ghost use Rattle.lines.specs.Made.{made as madeOf, naming as namingOf};
-use crate::numbers::Number;
-use crate::numbers::value;
-use crate::words::next_word;
-use crate::words::same;
-
-pub mod numbers;
-pub mod words;
+use tokens::numbers::Number;
+use tokens::numbers::value;
+use tokens::words::next_word;
+use tokens::words::same;
 
 // What Bad says was expected: the name of a call, a number, one below 2^32, no further word, `plain` or `clusters`, a name.
 pub const A_CALL: u32 = 1;

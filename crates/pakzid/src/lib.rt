@@ -112,7 +112,7 @@ pub extern "C" fn pakzid_declare_sink(
     ensures { λ a. ⌜ DeclareSink.gives a (now (records .exit))
         ≡ DeclareSink.declareSink c object (now (records .entry)) (now (slots .entry)) (now (roots .entry)) ⌝ }
 {
-    writes::declare_sink::declare_sink(c, object, records, slots, roots)
+    sinks::declare_sink(c, object, records, slots, roots)
 }
 
 #[no_mangle]

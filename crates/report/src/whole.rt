@@ -475,7 +475,7 @@ fn finish(
 }
 
 // Checks both lists, runs them, and reports. rec1 to map1 are the buffers of the left column, and rec2 to map2 those of the right one.
-pub fn report(
+fn report(
     first: &[u8],
     second: &[u8],
     one: bool,
@@ -513,4 +513,38 @@ pub fn report(
         map2,
     );
     finish(s, b, names, hands, rec1, slot1, root1, rec2, slot2, root2);
+}
+
+// Reports on the list at `first` alone, run in two ways, or on the lists at `first` and `second`. All the memory of a report is here: the
+// sheet, what changed hands, and the buffers of both columns.
+pub fn replay(first: &[u8], second: &[u8], one: bool) {
+    let mut s = [0u8; SHEET];
+    let mut hands = [0u64; HANDS];
+    let mut rec1 = [0u32; RECORDS];
+    let mut slot1 = [0u32; SLOTS];
+    let mut root1 = [0u32; ROOTS];
+    let mut work1 = [0u32; WORK];
+    let mut map1 = [0u64; MAP];
+    let mut rec2 = [0u32; RECORDS];
+    let mut slot2 = [0u32; SLOTS];
+    let mut root2 = [0u32; ROOTS];
+    let mut work2 = [0u32; WORK];
+    let mut map2 = [0u64; MAP];
+    report(
+        first,
+        second,
+        one,
+        &mut s,
+        &mut hands,
+        &mut rec1,
+        &mut slot1,
+        &mut root1,
+        &mut work1,
+        &mut map1,
+        &mut rec2,
+        &mut slot2,
+        &mut root2,
+        &mut work2,
+        &mut map2,
+    );
 }

@@ -3,7 +3,7 @@ use Prim.Native.Nat.{ℕ}
 use mathlib.Core.Bool.{cond}
 use mathlib.Core.List.{List, [], _∷_}
 use lib.Dec.{eqb}
-use Rattle.lines.specs.Text.{bytes}
+use Rattle.tokens.specs.Text.{bytes}
 
 -- the text beside the number n, or else `other`
 abbrev pub look : List (ℕ × List ℕ) → ℕ → List ℕ → List ℕ

@@ -1,3 +1,2 @@
--- Laws of the functions between the calls, and of the calls' ends.
+-- Laws of the call.
 pub mod WriteLaws
-pub mod SinkLaws

@@ -1,3 +1,2 @@
--- What the functions between the calls are held to.
+-- What the functions of the call are held to.
 pub mod Writes
-pub mod Sinks

@@ -1,3 +1,2 @@
-// The game calls that dissolve clusters, one file each.
-pub mod declare_sink;
+// The call that stores a word, and may dissolve a cluster.
 pub mod write;

@@ -2,7 +2,7 @@
 use mathlib.Core.Path.{_∙_}
 use native.Mathlib.Omega.{arith}
 use Rattle.lines.proofs.LineLaws.{named-none, named-some}
-use Rattle.lines.proofs.WordLaws.{word-inside}
+use Rattle.tokens.proofs.WordLaws.{word-inside}
 use borrow.Author.Needs.{needs}
 use Rattle.lines.proofs.named.Statement.{statement}
 use Rattle.lines.proofs.named.Tie as tie

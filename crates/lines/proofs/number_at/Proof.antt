@@ -1,8 +1,8 @@
 -- `lines::number_at` takes a word and its value. Assumes nothing.
 use native.Mathlib.Omega.{arith}
 use Rattle.lines.proofs.LineLaws.{number-none, number-some}
-use Rattle.lines.proofs.WordLaws.{word-inside}
-use Rattle.lines.specs.declared.numbers.Number.the-variants as number
+use Rattle.tokens.proofs.WordLaws.{word-inside}
+use Rattle.tokens.specs.declared.numbers.Number.the-variants as number
 use Rattle.lines.specs.Line.{nextOf}
 use borrow.Author.Needs.{needs}
 use Rattle.lines.proofs.number_at.Statement.{statement}

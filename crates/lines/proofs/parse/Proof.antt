@@ -2,7 +2,7 @@
 use mathlib.Core.Path.{_≡_, _∙_}
 use native.Mathlib.Omega.{arith}
 use Rattle.lines.proofs.LineLaws.{line-none, line-some}
-use Rattle.lines.proofs.WordLaws.{word-inside}
+use Rattle.tokens.proofs.WordLaws.{word-inside}
 use Rattle.lines.specs.declared.Call.{Call}
 use Rattle.lines.specs.declared.Call.the-variants as call
 use Rattle.lines.specs.Line.{follows, parsed}

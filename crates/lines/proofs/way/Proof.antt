@@ -2,7 +2,7 @@
 use mathlib.Core.Path.{sym, _∙_}
 use native.Mathlib.Omega.{arith}
 use Rattle.lines.proofs.LineLaws.{way-none, way-plain, way-clusters, way-other}
-use Rattle.lines.proofs.WordLaws.{word-inside}
+use Rattle.tokens.proofs.WordLaws.{word-inside}
 use borrow.Author.Needs.{needs}
 use Rattle.lines.proofs.way.Statement.{statement}
 use Rattle.lines.proofs.way.Tie as tie

@@ -3,8 +3,8 @@ use Prim.Native.Nat.{_-_, _<_}
 use mathlib.Core.Path.{_≡_, refl, sym, _∙_}
 use native.Mathlib.Omega.{arith}
 use lib.ListN.{length, drop}
-use Rattle.lines.specs.Word.{sameBytes}
-use Rattle.lines.proofs.WordLaws.{same-lengths, same-step, same-differ, same-out}
+use Rattle.tokens.specs.Word.{sameBytes}
+use Rattle.tokens.proofs.WordLaws.{same-lengths, same-step, same-differ, same-out}
 use Rattle.calls.proofs.compare.same_map.Statement.{statement}
 use Rattle.calls.proofs.compare.same_map.Tie as tie
 

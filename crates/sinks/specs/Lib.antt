@@ -1,0 +1,2 @@
+-- What the function between the call and its tests is held to.
+pub mod Sinks

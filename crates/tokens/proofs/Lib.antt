@@ -1,0 +1,3 @@
+-- Laws of these.
+pub mod WordLaws
+pub mod NumeralLaws

@@ -1,0 +1,3 @@
+// The words of a line of text, and the numbers among them.
+pub mod numbers;
+pub mod words;
