@@ -1,6 +1,10 @@
 // A list read line by line into a part of the sheet.
-use crate::page::ROOM;
+ghost use mathlib.Core.Path.{_≡_};
+ghost use Prim.Native.Nat.{_+_, _-_, _≤_};
+ghost use Rattle.libc.specs.Io.{Moved};
+ghost use Rattle.files.specs.Reading.{newSource, held, lineState, taken, looked, lineAt, longest, Found, room, Apart, Searched};
 use lines::Line;
+use page::ROOM;
 use sheet::SHEET;
 use sheet::copy;
 use sheet::less;
@@ -35,7 +39,9 @@ pub struct Source {
     pub state: u32,
 }
 
-pub fn opened(fd: i32, base: usize) -> Source {
+pub fn opened(fd: i32, base: usize) -> Source
+    ensures { λ r. ⌜ r ≡ newSource fd base ⌝ }
+{
     Source {
         fd,
         base,
@@ -49,7 +55,9 @@ pub fn opened(fd: i32, base: usize) -> Source {
 }
 
 // The source with other bytes to use.
-fn holding(s: Source, from: usize, end: usize, state: u32) -> Source {
+fn holding(s: Source, from: usize, end: usize, state: u32) -> Source
+    ensures { λ r. ⌜ r ≡ held s from end state ⌝ }
+{
     Source {
         fd: s.fd,
         base: s.base,
@@ -62,8 +70,17 @@ fn holding(s: Source, from: usize, end: usize, state: u32) -> Source {
     }
 }
 
+// The state of a source whose line has `length` bytes.
+fn line_state(length: usize) -> u32
+    ensures { λ r. ⌜ r ≡ lineState length ⌝ }
+{
+    if LONGEST < length { LONG } else { LINE }
+}
+
 // The source with a line from `from` to `stop`, and the next one from `next` on.
-fn found(s: Source, stop: usize, next: usize) -> Source {
+fn found(s: Source, stop: usize, next: usize) -> Source
+    ensures { λ r. ⌜ r ≡ taken s stop next ⌝ }
+{
     let length = less(stop, s.from);
     Source {
         fd: s.fd,
@@ -73,18 +90,21 @@ fn found(s: Source, stop: usize, next: usize) -> Source {
         number: wrapping_add_u64(s.number, 1),
         start: s.from,
         stop,
-        state: if LONGEST < length { LONG } else { LINE },
+        state: line_state(length),
     }
 }
 
 // Looks for a whole line among the bytes at hand.
-fn look(s: Source, sheet: &[u8; SHEET]) -> Source {
+fn look(s: Source, sheet: &[u8; SHEET]) -> Source
+    ensures { λ r. ⌜ r ≡ looked s (now (sheet .entry)) ⌝ }
+    ensures { λ r. ⌜ Found s r ⌝ }
+{
     let from = s.from;
     let end = s.end;
+    let whole = &sheet[..];
     if SHEET < end {
         return holding(s, from, end, FAILED);
     }
-    let whole = &sheet[..];
     let stop = line_end(&whole[0..end], from);
     if stop < end {
         return found(s, stop, stop + 1);
@@ -96,7 +116,10 @@ fn look(s: Source, sheet: &[u8; SHEET]) -> Source {
 }
 
 // Reads once into the bytes from `kept` up to `limit`, and answers what the read did.
-fn read_on(fd: i32, sheet: &mut [u8], kept: usize, limit: usize) -> isize {
+fn read_on(fd: i32, sheet: &mut [u8], kept: usize, limit: usize) -> isize
+    ensures { λ r. ⌜ Moved (limit - kept) r ⌝ }
+    ensures { λ r. ⌜ Apart kept limit (now (sheet .entry)) (now (sheet .exit)) ⌝ }
+{
     if sheet.len() < limit {
         return -1;
     }
@@ -107,7 +130,10 @@ fn read_on(fd: i32, sheet: &mut [u8], kept: usize, limit: usize) -> isize {
 }
 
 // Moves the bytes at hand to the front of their part, reads on, and looks again.
-fn fill(s: Source, sheet: &mut [u8; SHEET]) -> Source {
+fn fill(s: Source, sheet: &mut [u8; SHEET]) -> Source
+    ensures { λ r. ⌜ Found s r ⌝ }
+    ensures { λ r. ⌜ (s .end - s .from ≤ longest → Apart (s .base) (s .base + room) (now (sheet .entry)) (now (sheet .exit))) ⌝ }
+{
     let base = s.base;
     let limit = wrapping_add_usize(base, ROOM);
     let kept = copy(sheet, base, s.from, s.end);
@@ -129,7 +155,10 @@ fn fill(s: Source, sheet: &mut [u8; SHEET]) -> Source {
 }
 
 // The next line.
-pub fn next_line(s: Source, sheet: &mut [u8; SHEET]) -> Source {
+pub fn next_line(s: Source, sheet: &mut [u8; SHEET]) -> Source
+    ensures { λ r. ⌜ Found s r ⌝ }
+    ensures { λ r. ⌜ Searched s (now (sheet .entry)) r (now (sheet .exit)) ⌝ }
+{
     let mut t = look(s, sheet);
     let mut turns = ROOM;
     while 0 < turns && t.state == MORE {
@@ -140,7 +169,9 @@ pub fn next_line(s: Source, sheet: &mut [u8; SHEET]) -> Source {
 }
 
 // The call that the line found makes.
-pub fn parsed(s: Source, sheet: &[u8; SHEET]) -> Line {
+pub fn parsed(s: Source, sheet: &[u8; SHEET]) -> Line
+    ensures { λ r. ⌜ r ≡ lineAt s (now (sheet .entry)) ⌝ }
+{
     let start = s.start;
     let stop = s.stop;
     let whole = &sheet[..];

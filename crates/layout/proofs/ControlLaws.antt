@@ -7,7 +7,7 @@ use native.Mathlib.Omega.{arith}
 use lib.Dec.{eqb, ltb}
 use borrow.Author.Tests.{ltb-false, le-ltb, eqb-true, eq-eqb}
 use Rattle.layout.specs.Limits.{objectMax, rootMax, limitMin, limitMax, within}
-use Rattle.layout.specs.ControlRecord.{badSizes, badControl, newControl, withLast, withWriteLoss, withAnalysis}
+use Rattle.layout.specs.ControlRecord.{badSizes, badControl, newControl, withLast, withWriteLoss, withAnalysis, badLimit}
 use Rattle.layout.specs.declared.answers.Control.{Control}
 use Rattle.layout.proofs.LimitLaws.{within-true, in-within}
 
@@ -68,7 +68,7 @@ facts-limit m (inr b) = rw (in-within limitMin limitMax m (b .0) (b .1)) (right 
     right false = refl
 
 pub control-facts : (c : Control) → badControl c ≡ false → Sound c
-unfolding badControl
+unfolding badControl badLimit
 control-facts c e =
     let f = none (badSizes (c .n) (c .r)) (ltb (c .n) (c .last)) (eqb (c .limit) 0 || within limitMin limitMax (c .limit)) (ltb (c .n) (c .«write_loss»))
     (ltb (c .n) (c .«out_loss»)) e in
@@ -81,7 +81,7 @@ control-facts c e =
     }
 
 pub facts-control : (c : Control) → Sound c → badControl c ≡ false
-unfolding badControl
+unfolding badControl badLimit
 facts-control c s =
     rw (
       facts-sizes (c .n) (c .r) (s .sizes),

@@ -9,11 +9,14 @@ use Rattle.layout.specs.declared.answers.Control.{Control}
 unfoldable pub badSizes : ℕ → ℕ → Bool
 badSizes n r = not (within 1 objectMax n) || not (within 1 rootMax r)
 
+-- a size limit that is neither 0 nor in its range ("From the state")
+unfoldable pub badLimit : ℕ → Bool
+badLimit k = not (eqb k 0 || within limitMin limitMax k)
+
 -- refusal 20: a field has a value that no call leaves there
 unfoldable pub badControl : Control → Bool
 badControl c =
-    badSizes (c .n) (c .r) || ltb (c .n) (c .last) || not (eqb (c .limit) 0 || within limitMin limitMax (c .limit))
-    || ltb (c .n) (c .«write_loss») || ltb (c .n) (c .«out_loss»)
+    badSizes (c .n) (c .r) || ltb (c .n) (c .last) || badLimit (c .limit) || ltb (c .n) (c .«write_loss») || ltb (c .n) (c .«out_loss»)
 
 -- the control record of a heap just created; with two zeros, that of a refused create
 unfoldable pub newControl : ℕ → ℕ → Control

@@ -1,6 +1,6 @@
 // The numbers of the refusals, and the tests of the control record.
 ghost use mathlib.Core.Path.{_≡_};
-ghost use Rattle.layout.specs.ControlRecord.{badSizes, badControl};
+ghost use Rattle.layout.specs.ControlRecord.{badSizes, badLimit, badControl};
 use crate::answers::Control;
 use crate::limits::LIMIT_MAX;
 use crate::limits::LIMIT_MIN;
@@ -43,18 +43,17 @@ pub fn bad_sizes(n: u32, r: u32) -> bool
     !within(1, OBJECT_MAX, n) || !within(1, ROOT_MAX, r)
 }
 
-// Whether the control record is refused.
+// Whether the size limit is neither 0 nor in its range.
+fn bad_limit(limit: u32) -> bool
+    ensures { λ b. ⌜ b ≡ badLimit limit ⌝ }
+{
+    limit != 0 && !within(LIMIT_MIN, LIMIT_MAX, limit)
+}
+
+// Whether the control record is refused. All tests are made, with no `||`: measured, a read is faster that way.
 pub fn bad_control(c: Control) -> bool
     ensures { λ b. ⌜ b ≡ badControl c ⌝ }
 {
-    if bad_sizes(c.n, c.r) {
-        return true;
-    }
-    if c.n < c.last {
-        return true;
-    }
-    if c.limit != 0 && !within(LIMIT_MIN, LIMIT_MAX, c.limit) {
-        return true;
-    }
-    c.n < c.write_loss || c.n < c.out_loss
+    let past = (c.n < c.last) | (c.n < c.write_loss) | (c.n < c.out_loss);
+    bad_sizes(c.n, c.r) | bad_limit(c.limit) | past
 }

@@ -81,7 +81,7 @@ pub extern "C" fn pakzid_write(
         ≡ Write.write c object slot word (now (records .entry)) (now (slots .entry)) ⌝ }
 {
     let mut d = c;
-    let k = in_place::pakzid_write_in_place(&mut d, object, slot, word, records, slots);
+    let k = in_place::write_lent(&mut d, object, slot, word, slots, records);
     Done {
         refusal: k,
         control: d,

@@ -16,11 +16,11 @@ use files::reading::next_line;
 use files::reading::parsed;
 use layout::answers::Control;
 use lines::Line;
-use rows::memory::MAP;
-use rows::memory::RECORDS;
-use rows::memory::ROOTS;
-use rows::memory::SLOTS;
-use rows::memory::WORK;
+use phrases::memory::MAP;
+use phrases::memory::RECORDS;
+use phrases::memory::ROOTS;
+use phrases::memory::SLOTS;
+use phrases::memory::WORK;
 use sheet::SHEET;
 
 // A list that is run, plainly or as it says: the line run last, and what it answered.

@@ -24,7 +24,7 @@ use Rattle.rules.specs.WellFormed.{names, legalAt, emptyAt, wordsAt, headAt, ou
 use Rattle.rules.proofs.ListLaws.{length-eight}
 use Rattle.rules.proofs.BufferLaws.{recOf-get}
 use Rattle.rules.proofs.WellFormedLaws.{allTo-and, allTo-fails, allTo-more, names-used}
-use Rattle.table.specs.Check.{Room, recordOk, headOk, slotOk, outOk, objectOk, objectsOk, used, rootsOk}
+use Rattle.table.specs.Check.{Room, recordOk, headOk, slotOk, memberLeaves, outOk, objectOk, objectsOk, used, rootsOk}
 use Rattle.table.specs.Clusters.{wordLeaves, anyLeaves}
 use Rattle.table.proofs.ClusterLaws.{any-cons, nil-stays}
 
@@ -181,21 +181,34 @@ module _ (n : ℕ) (recs slots : List ℕ) (i : ℕ) where
       pub bad-slot : fine n recs w words ≡ false → objectOk n recs slots (suc i) ≡ false
       bad-slot h = object-tests ∙ rw (← ew, h, and-false) refl
 
-      pub bad-out : (b : Bool) → b ≡ anyLeaves n recs c (take w words) → outOk r b ≡ false → objectOk n recs slots (suc i) ≡ false
-      bad-out b q h = object-tests ∙ rw (← ew, ← ec, ← q, h, and-false) refl
+      -- the out bit of a member is told by its words; that of an object in no cluster by nothing
+      out-same : (b : Bool) → (c ≢ 0 → b ≡ anyLeaves n recs c (take w words)) → outOk r b ≡ outOk r (anyLeaves n recs c (take w words))
+      unfolding outOk
+      out-same b q = go (eqb c 0) refl
+        where
+          go : (t : Bool) → eqb c 0 ≡ t → outOk r b ≡ outOk r (anyLeaves n recs c (take w words))
+          go true e = rw (← ec, e) refl
+          go false e = ap (outOk r) (q (λ z. true≢false (sym (eq-eqb c 0 z) ∙ e)))
+
+      pub bad-out : (b : Bool) → (c ≢ 0 → b ≡ anyLeaves n recs c (take w words)) → outOk r b ≡ false → objectOk n recs slots (suc i) ≡ false
+      bad-out b q h =
+          let o = sym (out-same b q) ∙ h in
+          object-tests ∙ rw (← ew, ← ec, o, and-false) refl
 
       pub good-object : (b : Bool) → recordOk n r ≡ true → headOk n recs r ≡ true → fine n recs w words ≡ true
-          → b ≡ anyLeaves n recs c (take w words) → outOk r b ≡ true → objectOk n recs slots (suc i) ≡ true
-      good-object b hr hh hf q ho = object-tests ∙ rw (← ew, ← ec, ← q, hr, hh, hf, ho) refl
+          → (c ≢ 0 → b ≡ anyLeaves n recs c (take w words)) → outOk r b ≡ true → objectOk n recs slots (suc i) ≡ true
+      good-object b hr hh hf q ho =
+          let o = sym (out-same b q) ∙ ho in
+          object-tests ∙ rw (← ew, ← ec, hr, hh, hf, o) refl
 
   -- what is known after k slots of an object of width w in cluster c
   module _ (w c : ℕ) where
     pub record Seen (k : ℕ) (leaving : Bool) : Type 0 where
       pub same-fine : fineFrom n recs w k words ≡ fine n recs w words
-      pub same-leave : (leaving || leaveFrom n recs c w k words) ≡ anyLeaves n recs c (take w words)
+      pub same-leave : c ≢ 0 → (leaving || leaveFrom n recs c w k words) ≡ anyLeaves n recs c (take w words)
 
     pub seen-none : Seen 0 false
-    seen-none = record { same-fine = fine-begin n recs w words; same-leave = leave-begin n recs c w words }
+    seen-none = record { same-fine = fine-begin n recs w words; same-leave = λ d. leave-begin n recs c w words }
 
     module _ (R : Room n recs slots) (p : i < n) where
       long : length words ≡ 8
@@ -209,16 +222,21 @@ module _ (n : ℕ) (recs slots : List ℕ) (i : ℕ) where
           room : k < length words
           room = let l = long in omega arith
 
-          pub seen-more : (b : Bool) → b ≡ wordLeaves n recs c v → slotOk n recs w k v ≡ true → Seen (k + 1) (leaving || b)
+          -- a word of a member
+          of-member : c ≢ 0 → memberLeaves n recs c v ≡ wordLeaves n recs c v
+          unfolding memberLeaves
+          of-member d = rw (ne-eqb c 0 d) refl
+
+          pub seen-more : (b : Bool) → b ≡ memberLeaves n recs c v → slotOk n recs w k v ≡ true → Seen (k + 1) (leaving || b)
           seen-more b eb h =
               let s : slotOk n recs w k (getD words k 0) ≡ true = rw at h in
               rw (add-one k) (record {
                 same-fine = sym (fine-turn n recs w k words room ∙ ap (λ (x : Bool). x && fineFrom n recs w (suc k) words) s) ∙ S .same-fine;
-                same-leave =
+                same-leave = λ d.
                     or-assoc leaving b (leaveFrom n recs c w (suc k) words)
-                    ∙ ap (λ (x : Bool). leaving || (x || leaveFrom n recs c w (suc k) words)) (eb ∙ ap (wordLeaves n recs c) (sym at))
+                    ∙ ap (λ (x : Bool). leaving || (x || leaveFrom n recs c w (suc k) words)) (eb ∙ of-member d ∙ ap (wordLeaves n recs c) (sym at))
                     ∙ ap (λ (x : Bool). leaving || x) (sym (leave-turn n recs c w k words room s))
-                    ∙ S .same-leave;
+                    ∙ S .same-leave d;
               })
 
           pub seen-bad : slotOk n recs w k v ≡ false → fine n recs w words ≡ false
@@ -233,8 +251,8 @@ module _ (n : ℕ) (recs slots : List ℕ) (i : ℕ) where
           pub seen-fine : fine n recs w words ≡ true
           seen-fine = sym (S .same-fine) ∙ fine-end n recs w k words full
 
-          pub seen-leave : leaving ≡ anyLeaves n recs c (take w words)
-          seen-leave = sym (or-false leaving) ∙ ap (λ (x : Bool). leaving || x) (sym (leave-end n recs c w k words full)) ∙ S .same-leave
+          pub seen-leave : c ≢ 0 → leaving ≡ anyLeaves n recs c (take w words)
+          seen-leave d = sym (or-false leaving) ∙ ap (λ (x : Bool). leaving || x) (sym (leave-end n recs c w k words full)) ∙ S .same-leave d
 
 -- ---- all objects, and the roots
 

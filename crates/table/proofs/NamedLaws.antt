@@ -4,8 +4,9 @@ use mathlib.Core.Path.{_≡_, refl, sym, _∙_}
 use mathlib.Core.Bool.{Bool, true, false, _||_, true≢false}
 use mathlib.Core.List.{List, _++_}
 use mathlib.Core.Logic.{_≢_}
+use lib.Dec.{ltb}
 use lib.ListN.{length, getD}
-use borrow.Author.Tests.{lt-ltb, le-ltb, ltb-false, not-false}
+use borrow.Author.Tests.{le-ltb, ltb-false, not-false}
 use Rattle.layout.specs.declared.answers.Control.{Control}
 use Rattle.layout.specs.Limits.{slotsLen, within}
 use Rattle.records.specs.Record.{width, legal, damaged}
@@ -43,15 +44,11 @@ module _ (c : Control) (i : ℕ) (recs slots : List ℕ) where
   bad-control b = rw b refl
 
   module _ (b : badControl c ≡ false) where
-    pub short-records : length recs < c .n → 2 ≡ first (showTests c i recs slots)
+    pub too-short : ltb (length recs) (c .n) || ltb (length slots) (slotsLen (c .n)) ≡ true → 2 ≡ first (showTests c i recs slots)
     unfolding showTests first short
-    short-records l = rw (b, lt-ltb _ _ l) refl
+    too-short l = rw (b, l) refl
 
     module _ (l : c .n ≤ length recs) where
-      pub short-slots : length slots < slotsLen (c .n) → 2 ≡ first (showTests c i recs slots)
-      unfolding showTests first short
-      short-slots m = rw (b, le-ltb _ _ l, lt-ltb _ _ m) refl
-
       module _ (m : slotsLen (c .n) ≤ length slots) where
         pub no-object : within 1 (c .n) i ≡ false → 4 ≡ first (showTests c i recs slots)
         unfolding showTests first short isPointer

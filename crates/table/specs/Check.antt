@@ -8,6 +8,7 @@ use Rattle.layout.specs.Limits.{objectMax, widthMax}
 use Rattle.records.specs.Record.{inUse, isOut, cluster, free, legal}
 use Rattle.layout.specs.Word.{isNil, isPointer, isImmediate}
 use Rattle.rules.specs.Buffers.{recOf, allOf, allTo}
+use Rattle.table.specs.Clusters.{wordLeaves}
 use Rattle.rules.specs.WellFormed.{legalAt, emptyAt, wordsAt, headAt, outAt}
 
 -- the buffers hold n objects
@@ -31,6 +32,10 @@ used n recs w = isPointer n w && inUse (recOf n recs w)
 -- word w in slot k of an object of that width
 unfoldable pub slotOk : ℕ → List ℕ → ℕ → ℕ → ℕ → Bool
 slotOk n recs width k w = cond (leb width k) (isNil w) (isNil w || isImmediate w || used n recs w)
+
+-- word w of an object in cluster c leaves it; of an object in no cluster none does
+unfoldable pub memberLeaves : ℕ → List ℕ → ℕ → ℕ → Bool
+memberLeaves n recs c w = not (eqb c 0) && wordLeaves n recs c w
 
 -- a record's out bit, where it is told whether a used word leaves the cluster
 unfoldable pub outOk : ℕ → Bool → Bool

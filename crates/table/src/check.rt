@@ -4,7 +4,7 @@ ghost use Prim.Native.Nat.{_≤_};
 ghost use lib.ListN.{length};
 ghost use Rattle.layout.specs.Limits.{objectMax};
 ghost use Rattle.rules.specs.WellFormed.{checked};
-ghost use Rattle.table.specs.Check.{Room, recordOk, headOk, slotOk, outOk, objectsOk, rootsOk};
+ghost use Rattle.table.specs.Check.{Room, recordOk, headOk, slotOk, memberLeaves, outOk, objectsOk, rootsOk};
 use crate::clusters::leaves;
 use crate::clusters::record_of;
 use layout::limits::OBJECT_MAX;
@@ -49,6 +49,16 @@ fn slot_ok(n: u32, width: u32, k: usize, w: u32, records: &[u32]) -> bool
     }
 }
 
+// Whether word w of an object in cluster c leaves it. The out bit of an object in no cluster asks for nothing, so its words are not followed.
+fn member_leaves(n: u32, c: u32, w: u32, records: &[u32]) -> bool
+    ensures { λ b. ⌜ b ≡ memberLeaves n (now (records .entry)) c w ⌝ }
+{
+    if c == 0 {
+        return false;
+    }
+    leaves(n, c, w, records)
+}
+
 // The out bit stands exactly where the object is a member and a used word of it leaves the cluster.
 fn out_ok(r: u32, leaving: bool) -> bool
     ensures { λ b. ⌜ b ≡ outOk r leaving ⌝ }
@@ -83,7 +93,7 @@ fn objects_ok(n: u32, records: &[u32], slots: &[u32]) -> bool
                 ok = false;
                 break 'check;
             }
-            leaving = leaving | leaves(n, c, w, records);
+            leaving = leaving | member_leaves(n, c, w, records);
             k += 1;
         }
         if !out_ok(r, leaving) {

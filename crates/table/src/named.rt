@@ -20,15 +20,16 @@ pub fn object_refusal(c: Control, object: u32, records: &[u32], slots: &[u32]) -
     if bad_control(c) {
         return BAD_CONTROL;
     }
-    if records.len() < c.n as usize || slots.len() < slots_len(c.n) {
+    // Both are tested, and a record that is legal passes first: measured, a read is faster that way.
+    if (records.len() < c.n as usize) | (slots.len() < slots_len(c.n)) {
         return TOO_SHORT;
     }
     if !within(1, c.n, object) {
         return NO_OBJECT;
     }
     let r = records[(object - 1) as usize];
-    if r == 0 {
-        return IS_FREE;
+    if legal(c.n, r) {
+        return 0;
     }
-    if legal(c.n, r) { 0 } else { DAMAGED }
+    if r == 0 { IS_FREE } else { DAMAGED }
 }

@@ -2,3 +2,4 @@
 pub mod Text
 pub mod Word
 pub mod Numeral
+pub mod Table

@@ -70,8 +70,8 @@ shared-slice-read-w c = omega arith
 slot-ok-requires : tie.Need-slot-ok-requires Inv-loop μ-loop Inv-check μ-check
 slot-ok-requires c κs = search needs
 
-leaves-requires : tie.Need-leaves-requires Inv-loop μ-loop Inv-check μ-check
-leaves-requires c κs = search needs
+member-leaves-requires : tie.Need-member-leaves-requires Inv-loop μ-loop Inv-check μ-check
+member-leaves-requires c κs = search needs
 
 add-k : tie.Need-add-k Inv-loop μ-loop Inv-check μ-check
 add-k c = omega arith
@@ -87,7 +87,7 @@ loop-again c =
     let k = l .before .before .before .before .before .before .before .before in (
       search needs,
       l .loop .inv .1,
-      seen-more _ _ _ _ _ _ (k .before .before .before .before .pre) (k .check-test .taken) _ _ (l .loop .inv .2) (t .loop-test .taken) _ refl _ (c .leaves .ensures)
+      seen-more _ _ _ _ _ _ (k .before .before .before .before .pre) (k .check-test .taken) _ _ (l .loop .inv .2) (t .loop-test .taken) _ refl _ (c .member-leaves .ensures)
           (sym (o .slot-ok .ensures) ∙ not-false _ (c .before .if3 .left)),
     )
 
@@ -179,7 +179,7 @@ objects-ok-spec =
     mul-w-2
     shared-slice-read-w
     slot-ok-requires
-    leaves-requires
+    member-leaves-requires
     add-k
     loop-less
     loop-again

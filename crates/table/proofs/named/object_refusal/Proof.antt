@@ -1,15 +1,16 @@
 -- `table::named::object_refusal` makes the tests of a named object in their order. Assumes nothing.
 use borrow.Author.Needs.{needs}
-use borrow.Author.Tests.{not-true, not-false, ltb-true, ltb-false}
+use borrow.Author.Tests.{not-true, not-false, ltb-false}
 use mathlib.Core.Path.{_≡_, sym, _∙_}
 use mathlib.Core.Bool.{true, false}
-use mathlib.Core.Logic.{⊎-elim}
 use Prim.Native.Nat.{_≤_}
 use native.Mathlib.Omega.{arith}
+use lib.Dec.{ltb}
 use lib.ListN.{length}
 use Rattle.layout.specs.Limits.{slotsLen, within}
 use Rattle.layout.specs.ControlRecord.{badControl}
 use Rattle.layout.proofs.LimitLaws.{within-true}
+use Rattle.rules.proofs.BoolLaws.{or-split}
 use Rattle.table.proofs.NamedLaws as Named
 use Rattle.table.proofs.named.object_refusal.Statement.{statement}
 use Rattle.table.proofs.named.object_refusal.Tie as tie
@@ -19,11 +20,25 @@ use Rattle.table.proofs.named.object_refusal.Tie as tie
 control-at : (c : tie.Else1) → badControl (c .before .before .before .before .args .c) ≡ false
 control-at c = sym (c .before .bad-control .ensures) ∙ c .if1 .left
 
-slots-at : (c : tie.Else3) → slotsLen (c .before .before .before .before .before .before .before .before .args .c .n) ≤ length (c .before .before .before .before .before .before .before .before .args .slots .now)
-slots-at c = rw (sym (c .before .slots-len .ensures)) (ltb-false _ _ (c .if3 .left))
+module _ (c : tie.Else2) where
+  abbrev at : tie.Else1
+  at = c .before .before .before
 
-object-at : (c : tie.Else4) → within 1 (c .before .before .before .before .before .before .before .before .before .before .args .c .n) (c .before .before .before .before .before .before .before .before .before .before .args .object) ≡ true
-object-at c = sym (c .before .within .ensures) ∙ not-false _ (c .if4 .left)
+  -- neither slice is too short
+  long-at : let a = at .before .before .before .before .args in
+      (ltb (length (a .records .now)) (a .c .n) ≡ false) × (ltb (length (a .slots .now)) (slotsLen (a .c .n)) ≡ false)
+  long-at =
+      let a = at .before .before .before .before .args in
+      or-split (ltb (length (a .records .now)) (a .c .n)) (ltb (length (a .slots .now)) (slotsLen (a .c .n))) (rw (sym (c .before .slots-len .ensures)) (c .if2 .left))
+
+  records-at : at .before .before .before .before .args .c .n ≤ length (at .before .before .before .before .args .records .now)
+  records-at = ltb-false _ _ (long-at .0)
+
+  slots-at : slotsLen (at .before .before .before .before .args .c .n) ≤ length (at .before .before .before .before .args .slots .now)
+  slots-at = ltb-false _ _ (long-at .1)
+
+object-at : (c : tie.Else3) → within 1 (at (c .before .before) .before .before .before .before .args .c .n) (at (c .before .before) .before .before .before .before .args .object) ≡ true
+object-at c = sym (c .before .within .ensures) ∙ not-false _ (c .if3 .left)
 
 bad-control-requires : tie.Need-bad-control-requires
 bad-control-requires c κs = search needs
@@ -38,20 +53,15 @@ slots-len-requires : tie.Need-slots-len-requires
 slots-len-requires c κs = search needs
 
 returns-2 : tie.Need-returns-2
-returns-2 c =
-    let b = control-at (c .before .before) in
-    ⊎-elim (λ w. Named.short-records _ _ _ _ b (w .taken))
-    (λ w. Named.short-slots _ _ _ _ b (w .0 .left) (rw (sym (w .1 .ensures)) (ltb-true _ _ (w .2 .taken))))
-    (c .if2 .came)
+returns-2 c = Named.too-short _ _ _ _ (control-at (c .before .before .before)) (rw (sym (c .before .slots-len .ensures)) (c .if2 .taken))
 
 within-requires : tie.Need-within-requires
 within-requires c κs = search needs
 
 returns-3 : tie.Need-returns-3
 returns-3 c =
-    let s = c .before .before in
-    let l = s .before .before in
-    Named.no-object _ _ _ _ (control-at (l .before .before)) (l .if2 .left) (slots-at s) (sym (c .before .within .ensures) ∙ not-true _ (c .if4 .taken))
+    let e = c .before .before in
+    Named.no-object _ _ _ _ (control-at (at e)) (records-at e) (slots-at e) (sym (c .before .within .ensures) ∙ not-true _ (c .if3 .taken))
 
 sub-r : tie.Need-sub-r
 sub-r c = within-true _ _ _ (object-at c) .0
@@ -65,31 +75,29 @@ mul-r c = search needs
 shared-slice-read-r : tie.Need-shared-slice-read-r
 shared-slice-read-r c =
     let o = c .before in
-    omega (arith, within-true _ _ _ (object-at o), o .before .before .before .before .if2 .left)
-
-returns-4 : tie.Need-returns-4
-returns-4 c =
-    let o = c .before .before in
-    let s = o .before .before in
-    let l = s .before .before in
-    Named.is-free _ _ _ _ (control-at (l .before .before)) (l .if2 .left) (slots-at s) (object-at o) (c .if5 .taken)
+    omega (arith, within-true _ _ _ (object-at o), records-at (o .before .before))
 
 legal-requires : tie.Need-legal-requires
 legal-requires c κs = search needs
 
+returns-4 : tie.Need-returns-4
+returns-4 c =
+    let o = c .before .before .before in
+    let e = o .before .before in
+    Named.is-named _ _ _ _ (control-at (at e)) (records-at e) (slots-at e) (object-at o) (sym (c .before .legal .ensures) ∙ c .if4 .taken)
+
 returns-5 : tie.Need-returns-5
 returns-5 c =
     let o = c .before .before .before .before in
-    let s = o .before .before in
-    let l = s .before .before in
-    Named.is-named _ _ _ _ (control-at (l .before .before)) (l .if2 .left) (slots-at s) (object-at o) (sym (c .before .legal .ensures) ∙ c .if6 .taken)
+    let e = o .before .before in
+    Named.is-free _ _ _ _ (control-at (at e)) (records-at e) (slots-at e) (object-at o) (c .if5 .taken)
 
 returns-6 : tie.Need-returns-6
 returns-6 c =
-    let o = c .before .before .before .before in
-    let s = o .before .before in
-    let l = s .before .before in
-    Named.is-damaged _ _ _ _ (control-at (l .before .before)) (l .if2 .left) (slots-at s) (object-at o) (c .before .before .if5 .left) (sym (c .before .legal .ensures) ∙ c .if6 .left)
+    let l = c .before in
+    let o = l .before .before .before in
+    let e = o .before .before in
+    Named.is-damaged _ _ _ _ (control-at (at e)) (records-at e) (slots-at e) (object-at o) (c .if5 .left) (sym (l .before .legal .ensures) ∙ l .if4 .left)
 
 pub object-refusal-spec : {M : Type 1} → statement M
 object-refusal-spec =
@@ -106,7 +114,7 @@ object-refusal-spec =
     cast-r
     mul-r
     shared-slice-read-r
-    returns-4
     legal-requires
+    returns-4
     returns-5
     returns-6)

@@ -1,0 +1,2 @@
+-- Lines on the page.
+pub mod Page

@@ -1,0 +1,2 @@
+-- What the report prints of a call.
+pub mod Phrases

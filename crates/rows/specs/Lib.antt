@@ -1,0 +1,3 @@
+-- Rows of three cells.
+pub mod Columns
+pub mod Survivors
