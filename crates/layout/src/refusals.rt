@@ -43,11 +43,11 @@ pub fn bad_sizes(n: u32, r: u32) -> bool
     !within(1, OBJECT_MAX, n) || !within(1, ROOT_MAX, r)
 }
 
-// Whether the size limit is neither 0 nor in its range.
+// Whether the size limit is neither 0 nor in its range. No test is nested in another (see `bad_control`).
 fn bad_limit(limit: u32) -> bool
     ensures { λ b. ⌜ b ≡ badLimit limit ⌝ }
 {
-    limit != 0 && !within(LIMIT_MIN, LIMIT_MAX, limit)
+    (LIMIT_MAX < limit) | ((limit != 0) & (limit < LIMIT_MIN))
 }
 
 // Whether the control record is refused. All tests are made, with no `||`: measured, a read is faster that way.

@@ -157,18 +157,14 @@ pub fn new_record(width: u32) -> u32
 pub fn legal(n: u32, r: u32) -> bool
     ensures { λ x. ⌜ x ≡ R.legal n r ⌝ }
 {
-    if r & 0xF000_F0F0 != 0 {
-        return false;
-    }
-    if !in_use(r) {
-        return false;
-    }
-    if WIDTH_MAX < width_of(r) {
-        return false;
-    }
     let c = cluster_of(r);
-    if n < c {
+    let flags = (r & 0xF000_F0F0 != 0) | !in_use(r);
+    let past = (WIDTH_MAX < width_of(r)) | (n < c);
+    if flags | past {
         return false;
     }
-    if c == 0 { !is_out(r) } else { !is_sink(r) }
+    if c == 0 && is_out(r) {
+        return false;
+    }
+    c == 0 || !is_sink(r)
 }

@@ -1,12 +1,13 @@
 -- What the tests of a named object answer at each end of `table::named::object_refusal`, and what 0 says. Assumes nothing.
-use Prim.Native.Nat.{ℕ, _-_, _*_, _≤_, _<_}
+use Prim.Native.Nat.{ℕ, _-_, _*_, _/_, _≤_, _<_}
 use mathlib.Core.Path.{_≡_, refl, sym, _∙_}
-use mathlib.Core.Bool.{Bool, true, false, _||_, true≢false}
+use mathlib.Core.Bool.{Bool, true, false, _||_, cond, true≢false}
 use mathlib.Core.List.{List, _++_}
 use mathlib.Core.Logic.{_≢_}
 use lib.Dec.{ltb}
 use lib.ListN.{length, getD}
-use borrow.Author.Tests.{le-ltb, ltb-false, not-false}
+use native.Mathlib.Omega.{arith}
+use borrow.Author.Tests.{lt-ltb, le-ltb, ltb-true, ltb-false, not-false}
 use Rattle.layout.specs.declared.answers.Control.{Control}
 use Rattle.layout.specs.Limits.{slotsLen, within}
 use Rattle.records.specs.Record.{width, legal, damaged}
@@ -19,13 +20,31 @@ use Rattle.layout.proofs.LimitLaws.{within-true}
 use Rattle.layout.proofs.RefusalLaws.{first-passed, first-fails}
 use Rattle.rules.specs.Buffers.{short, recOf}
 use Rattle.rules.specs.Show.{showTests}
-use Rattle.rules.proofs.BoolLaws.{or-split}
+use Rattle.table.specs.Check.{roomOf}
+use Rattle.rules.proofs.BoolLaws.{or-split, or-true}
 use Rattle.rules.proofs.BufferLaws.{recOf-get}
 
 -- where the slots of an object start
 pub start-is : (k : ℕ) → slotsLen k ≡ 8 * k
 unfolding slotsLen
 start-is k = refl
+
+-- n objects fit where both slices are long enough, and nowhere else
+pub room-fits : (a b n : ℕ) → n ≤ roomOf a b → (n ≤ a) × (slotsLen n ≤ b)
+unfolding roomOf slotsLen
+room-fits a b n h = go (ltb a (b / 8)) refl h
+  where
+    go : (t : Bool) → ltb a (b / 8) ≡ t → n ≤ cond t a (b / 8) → (n ≤ a) × (8 * n ≤ b)
+    go true e q = (q, omega (arith, ltb-true a (b / 8) e, q))
+    go false e q = (omega (arith, ltb-false a (b / 8) e, q), omega (arith, q))
+
+pub room-short : (a b n : ℕ) → roomOf a b < n → ltb a n || ltb b (slotsLen n) ≡ true
+unfolding roomOf slotsLen
+room-short a b n h = go (ltb a (b / 8)) refl h
+  where
+    go : (t : Bool) → ltb a (b / 8) ≡ t → cond t a (b / 8) < n → ltb a n || ltb b (8 * n) ≡ true
+    go true e q = rw (lt-ltb a n q) refl
+    go false e q = rw (lt-ltb b (8 * n) (omega (arith, q))) (or-true (ltb a n))
 
 -- what is known of the object once its tests are passed
 pub record Named (c : Control) (i : ℕ) (recs slots : List ℕ) : Type 0 where
@@ -44,9 +63,9 @@ module _ (c : Control) (i : ℕ) (recs slots : List ℕ) where
   bad-control b = rw b refl
 
   module _ (b : badControl c ≡ false) where
-    pub too-short : ltb (length recs) (c .n) || ltb (length slots) (slotsLen (c .n)) ≡ true → 2 ≡ first (showTests c i recs slots)
+    pub too-short : roomOf (length recs) (length slots) < c .n → 2 ≡ first (showTests c i recs slots)
     unfolding showTests first short
-    too-short l = rw (b, l) refl
+    too-short l = rw (b, room-short (length recs) (length slots) (c .n) l) refl
 
     module _ (l : c .n ≤ length recs) where
       module _ (m : slotsLen (c .n) ≤ length slots) where

@@ -1,8 +1,8 @@
 -- The rules of a well-formed heap as the check tests them: record by record and slot by slot.
-use Prim.Native.Nat.{ℕ, _*_, _≤_}
+use Prim.Native.Nat.{ℕ, _*_, _/_, _≤_}
 use mathlib.Core.Bool.{Bool, not, _&&_, _||_, cond, Bool·beq}
 use mathlib.Core.List.{List}
-use lib.Dec.{eqb, leb}
+use lib.Dec.{eqb, leb, ltb}
 use lib.ListN.{length, take}
 use Rattle.layout.specs.Limits.{objectMax, widthMax}
 use Rattle.records.specs.Record.{inUse, isOut, cluster, free, legal}
@@ -32,6 +32,10 @@ used n recs w = isPointer n w && inUse (recOf n recs w)
 -- word w in slot k of an object of that width
 unfoldable pub slotOk : ℕ → List ℕ → ℕ → ℕ → ℕ → Bool
 slotOk n recs width k w = cond (leb width k) (isNil w) (isNil w || isImmediate w || used n recs w)
+
+-- how many objects fit into a records and b slots ("The heap")
+unfoldable pub roomOf : ℕ → ℕ → ℕ
+roomOf a b = cond (ltb a (b / widthMax)) a (b / widthMax)
 
 -- word w of an object in cluster c leaves it; of an object in no cluster none does
 unfoldable pub memberLeaves : ℕ → List ℕ → ℕ → ℕ → Bool

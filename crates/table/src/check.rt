@@ -49,11 +49,11 @@ fn slot_ok(n: u32, width: u32, k: usize, w: u32, records: &[u32]) -> bool
     }
 }
 
-// Whether word w of an object in cluster c leaves it. The out bit of an object in no cluster asks for nothing, so its words are not followed.
+// Whether word w of an object in cluster c leaves it. An object in no cluster has no out bit, so its words are not followed; nil leads nowhere.
 fn member_leaves(n: u32, c: u32, w: u32, records: &[u32]) -> bool
     ensures { λ b. ⌜ b ≡ memberLeaves n (now (records .entry)) c w ⌝ }
 {
-    if c == 0 {
+    if c == 0 || w == 0 {
         return false;
     }
     leaves(n, c, w, records)

@@ -1,119 +1,143 @@
--- `records::legal` is the test of specs/. Each return rewrites with the tests that led there. Assumes nothing.
+-- `records::legal` is the test of specs/: four tests joined, then the two of the cluster. Assumes nothing.
 use borrow.Author.Needs.{needs}
-use borrow.Author.Tests.{le-leb, lt-leb, eq-eqb, ne-eqb, not-true, not-false}
+use borrow.Author.Tests.{lt-ltb, le-ltb, leb-true, leb-false, eq-eqb, ne-eqb}
 use mathlib.Core.Path.{_≡_, refl, _∙_, sym, ap}
-use mathlib.Core.Bool.{true, false, not, Bool, _&&_, _||_}
-use Prim.Native.Nat.{ℕ, _≤_, _<_}
-use native.Mathlib.Omega.{arith}
+use mathlib.Core.Bool.{true, false, not, Bool, _&&_, _||_, false≢true}
+use mathlib.Core.Logic.{⊎-elim}
+use Prim.Native.Nat.{ℕ}
 use lib.Bits.{bitAnd}
+use lib.Dec.{eqb, leb, ltb}
 use Rattle.layout.specs.Field.{flag}
 use Rattle.records.specs.Record.{legal, clear, width, cluster}
 use Rattle.records.proofs.RecordLaws.{mask-clear}
 use Rattle.records.proofs.legal.Statement.{statement}
 use Rattle.records.proofs.legal.Tie as tie
 
-or-true : (s o : Bool) → not o ≡ (not s || true) && (not o || false)
-or-true true true = refl
-or-true true false = refl
-or-true false true = refl
-or-true false false = refl
+above : (a b : ℕ) → ltb a b ≡ not (leb b a)
+above a b = go (leb b a) refl
+  where
+    go : (t : Bool) → leb b a ≡ t → ltb a b ≡ not t
+    go true e = le-ltb a b (leb-true b a e)
+    go false e = lt-ltb a b (leb-false b a e)
 
-or-false : (s o : Bool) → not s ≡ (not s || false) && (not o || true)
-or-false true true = refl
-or-false true false = refl
-or-false false true = refl
-or-false false false = refl
+-- the four tests that are joined, and what stands behind them
+one-fails : (a b c d e f : Bool) → (not a || not b) || (not c || not d) ≡ true → false ≡ a && b && c && d && e && f
+one-fails false b c d e f h = refl
+one-fails true false c d e f h = refl
+one-fails true true false d e f h = refl
+one-fails true true true false e f h = refl
+one-fails true true true true e f h = absurd (false≢true h)
 
--- what every exit answers, from the tests that led there
+all-pass : (a b c d e f : Bool) → (not a || not b) || (not c || not d) ≡ false → e && f ≡ a && b && c && d && e && f
+all-pass true true true true e f h = refl
+all-pass false b c d e f h = absurd (false≢true (sym h))
+all-pass true false c d e f h = absurd (false≢true (sym h))
+all-pass true true false d e f h = absurd (false≢true (sym h))
+all-pass true true true false e f h = absurd (false≢true (sym h))
+
+and-false : (p : Bool) → p && false ≡ false
+and-false true = refl
+and-false false = refl
+
+loose-passes : (s : Bool) → (not s || true) && true ≡ true
+loose-passes true = refl
+loose-passes false = refl
+
+member-passes : (s o : Bool) → (not s || false) && (not o || true) ≡ not s
+member-passes true o = refl
+member-passes false true = refl
+member-passes false false = refl
+
 module _ (n r : ℕ) where
-  dirty : (bitAnd r 0xF000F0F0 ≡ 0 → ⊥) → false ≡ legal n r
+  -- the tests as the code makes them
+  abbrev joined : Bool
+  joined = (not (eqb (bitAnd r 0xF000F0F0) 0) || not (flag 0 r)) || (ltb 8 (width r) || ltb n (cluster r))
+
+  as-tested : joined ≡ (not (clear r) || not (flag 0 r)) || (not (leb (width r) 8) || not (leb (cluster r) n))
+  as-tested = rw (mask-clear r, above 8 (width r), above n (cluster r)) refl
+
+  -- the two tests of the cluster
+  abbrev sink-passes : Bool
+  sink-passes = not (flag 2 r) || eqb (cluster r) 0
+
+  abbrev out-passes : Bool
+  out-passes = not (flag 3 r) || not (eqb (cluster r) 0)
+
+  refused : joined ≡ true → false ≡ legal n r
   unfolding legal
-  dirty h = rw (sym (mask-clear r) ∙ ne-eqb (bitAnd r 0xF000F0F0) 0 h)
+  refused h = one-fails (clear r) (flag 0 r) (leb (width r) 8) (leb (cluster r) n) sink-passes out-passes (sym as-tested ∙ h)
 
-  module _ (m : bitAnd r 0xF000F0F0 ≡ 0) where
-    clean : clear r ≡ true
-    clean = sym (mask-clear r) ∙ eq-eqb (bitAnd r 0xF000F0F0) 0 m
-
-    free : flag 0 r ≡ false → false ≡ legal n r
+  module _ (h : joined ≡ false) where
+    passed : sink-passes && out-passes ≡ legal n r
     unfolding legal
-    free u = rw (clean, u)
+    passed = all-pass (clear r) (flag 0 r) (leb (width r) 8) (leb (cluster r) n) sink-passes out-passes (sym as-tested ∙ h)
 
-    module _ (u : flag 0 r ≡ true) where
-      wide : 8 < width r → false ≡ legal n r
-      unfolding legal
-      wide w = rw (clean, u, lt-leb _ _ w)
+    loose-out : cluster r ≡ 0 → flag 3 r ≡ true → false ≡ legal n r
+    loose-out z o = sym (rw (eq-eqb _ _ z, o) (and-false (not (flag 2 r) || true))) ∙ passed
 
-      module _ (w : width r ≤ 8) where
-        far : n < cluster r → false ≡ legal n r
-        unfolding legal
-        far l = rw (clean, u, le-leb _ _ w, lt-leb _ _ l)
+    loose-in : cluster r ≡ 0 → flag 3 r ≡ false → true ≡ legal n r
+    loose-in z o = sym (rw (eq-eqb _ _ z, o) (loose-passes (flag 2 r))) ∙ passed
 
-        none : cluster r ≤ n → cluster r ≡ 0 → not (flag 3 r) ≡ legal n r
-        unfolding legal
-        none l z = rw (clean, u, le-leb _ _ w, le-leb _ _ l, eq-eqb _ _ z) (or-true (flag 2 r) (flag 3 r))
+    member : (cluster r ≡ 0 → ⊥) → not (flag 2 r) ≡ legal n r
+    member z = sym (rw (ne-eqb _ _ z) (member-passes (flag 2 r) (flag 3 r))) ∙ passed
 
-        some : cluster r ≤ n → (cluster r ≡ 0 → ⊥) → not (flag 2 r) ≡ legal n r
-        unfolding legal
-        some l z = rw (clean, u, le-leb _ _ w, le-leb _ _ l, ne-eqb _ _ z) (or-false (flag 2 r) (flag 3 r))
-
-returns : tie.Need-returns
-returns c = dirty (c .before .args .n) (c .before .args .r) (c .if1 .taken)
-
-in-use-requires : tie.Need-in-use-requires
-in-use-requires c κs = search needs
-
-returns-2 : tie.Need-returns-2
-returns-2 c = free _ _ (c .before .before .if1 .left) (sym (c .before .in-use .ensures) ∙ not-true _ (c .if2 .taken))
-
-width-of-requires : tie.Need-width-of-requires
-width-of-requires c κs = search needs
-
-returns-3 : tie.Need-returns-3
-returns-3 c =
-    let u = c .before .before in
-    wide _ _ (u .before .before .if1 .left) (sym (u .before .in-use .ensures) ∙ not-false _ (u .if2 .left))
-    (omega (arith, c .before .width-of .ensures))
+-- none of the joined tests holds
+none-holds : (c : tie.Else1) → joined (c .before .before .before .before .args .n) (c .before .before .before .before .args .r) ≡ false
+none-holds c =
+    let w = c .before in
+    rw (sym (w .before .in-use .ensures), sym (w .width-of .ensures), sym (w .before .before .cluster-of .ensures)) (c .if1 .left)
 
 cluster-of-requires : tie.Need-cluster-of-requires
 cluster-of-requires c κs = search needs
 
-returns-4 : tie.Need-returns-4
-returns-4 c =
-    let w = c .before .before in
-    let u = w .before .before in
-    far _ _ (u .before .before .if1 .left) (sym (u .before .in-use .ensures) ∙ not-false _ (u .if2 .left)) (omega arith) (omega arith)
+in-use-requires : tie.Need-in-use-requires
+in-use-requires c κs = search needs
+
+width-of-requires : tie.Need-width-of-requires
+width-of-requires c κs = search needs
+
+returns : tie.Need-returns
+returns c =
+    let w = c .before in
+    refused _ _ (rw (sym (w .before .in-use .ensures), sym (w .width-of .ensures), sym (w .before .before .cluster-of .ensures)) (c .if1 .taken))
 
 is-out-requires : tie.Need-is-out-requires
 is-out-requires c κs = search needs
 
+returns-2 : tie.Need-returns-2
+returns-2 c =
+    let e = c .before .before .before in
+    loose-out _ _ (none-holds e) (sym (e .before .before .before .cluster-of .ensures) ∙ c .before .before .if2 .taken)
+    (sym (c .before .is-out .ensures) ∙ c .if3 .taken)
+
 is-sink-requires : tie.Need-is-sink-requires
 is-sink-requires c κs = search needs
 
-returns-5 : tie.Need-returns-5
-returns-5 c =
-    let u = c .before .before .before .before .before .before in
-    ap not (c .is-out .ensures)
-    ∙ none _ _ (u .before .before .if1 .left) (sym (u .before .in-use .ensures) ∙ not-false _ (u .if2 .left)) (omega arith) (omega arith) (omega arith)
+returns-3 : tie.Need-returns-3
+returns-3 c =
+    let e = c .before .before in
+    let z = sym (e .before .before .before .cluster-of .ensures) ∙ c .if4 .taken in
+    eq-eqb _ _ (c .if4 .taken)
+    ∙ ⊎-elim (λ w. loose-in _ _ (none-holds e) z (sym (w .1 .ensures) ∙ w .2 .left))
+    (λ w. absurd (w .left (c .if4 .taken)))
+    (c .before .if2 .came)
 
-returns-6 : tie.Need-returns-6
-returns-6 c =
-    let u = c .before .before .before .before .before .before in
+returns-4 : tie.Need-returns-4
+returns-4 c =
+    let e = c .before .before .before in
     ap not (c .is-sink .ensures)
-    ∙ some _ _ (u .before .before .if1 .left) (sym (u .before .in-use .ensures) ∙ not-false _ (u .if2 .left)) (omega arith) (omega arith)
-    (λ z. c .before .if5 .left (omega arith))
+    ∙ member _ _ (none-holds e) (λ z. c .before .if4 .left (e .before .before .before .cluster-of .ensures ∙ z))
 
 pub legal-spec : {M : Type 1} → statement M
 legal-spec =
     tie.close
     (tie.spec
-    returns
-    in-use-requires
-    returns-2
-    width-of-requires
-    returns-3
     cluster-of-requires
-    returns-4
+    in-use-requires
+    width-of-requires
+    returns
     is-out-requires
+    returns-2
     is-sink-requires
-    returns-5
-    returns-6)
+    returns-3
+    returns-4)

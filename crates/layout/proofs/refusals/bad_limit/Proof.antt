@@ -1,22 +1,30 @@
--- `layout::refusals::bad_limit` tests for 0 first. Assumes nothing.
-use borrow.Author.Needs.{needs}
-use borrow.Author.Tests.{eq-eqb, ne-eqb}
-use mathlib.Core.Path.{refl, ap}
-use mathlib.Core.Bool.{not}
+-- `layout::refusals::bad_limit` tests for both ends of the range, and for 0. Assumes nothing.
+use mathlib.Core.Path.{_≡_, refl}
+use mathlib.Core.Bool.{Bool, true, false, not, _||_, _&&_}
+use Prim.Native.Nat.{ℕ}
+use native.Mathlib.Omega.{arith}
+use lib.Dec.{eqb, ltb}
+use borrow.Author.Tests.{eqb-true, ltb-true, ltb-false}
+use Rattle.layout.specs.Limits.{limitMin, limitMax, within}
 use Rattle.layout.specs.ControlRecord.{badLimit}
+use Rattle.layout.proofs.LimitLaws.{in-within, below-within, above-within}
 use Rattle.layout.proofs.refusals.bad_limit.Statement.{statement}
 use Rattle.layout.proofs.refusals.bad_limit.Tie as tie
 
-within-requires : tie.Need-within-requires
-within-requires c κs = search needs
+limit-tests : (m : ℕ) → ltb limitMax m || (not (eqb m 0) && ltb m limitMin) ≡ badLimit m
+unfolding badLimit
+limit-tests m = go (eqb m 0) refl (ltb m limitMin) refl (ltb limitMax m) refl
+  where
+    go : (z : Bool) → eqb m 0 ≡ z → (s : Bool) → ltb m limitMin ≡ s → (l : Bool) → ltb limitMax m ≡ l
+        → l || (not z && s) ≡ not (z || within limitMin limitMax m)
+    go true ez s es true el = absurd (omega (arith, ltb-true limitMax m el, eqb-true m 0 ez))
+    go false ez s es true el = rw (above-within limitMin limitMax m (ltb-true limitMax m el)) refl
+    go true ez s es false el = refl
+    go false ez true es false el = rw (below-within limitMin limitMax m (ltb-true m limitMin es)) refl
+    go false ez false es false el = rw (in-within limitMin limitMax m (ltb-false m limitMin es) (ltb-false limitMax m el)) refl
 
 returns : tie.Need-returns
-unfolding badLimit
-returns c = rw (ne-eqb _ _ (c .before .if1 .taken)) (ap not (c .within .ensures))
-
-returns-2 : tie.Need-returns-2
-unfolding badLimit
-returns-2 c = rw (eq-eqb _ _ (c .if1 .left)) refl
+returns c = limit-tests (c .args .limit)
 
 pub bad-limit-spec : {M : Type 1} → statement M
-bad-limit-spec = tie.close (tie.spec within-requires returns returns-2)
+bad-limit-spec = tie.close (tie.spec returns)

@@ -1,16 +1,14 @@
 -- `table::named::object_refusal` makes the tests of a named object in their order. Assumes nothing.
 use borrow.Author.Needs.{needs}
-use borrow.Author.Tests.{not-true, not-false, ltb-false}
+use borrow.Author.Tests.{not-true, not-false}
 use mathlib.Core.Path.{_≡_, sym, _∙_}
 use mathlib.Core.Bool.{true, false}
 use Prim.Native.Nat.{_≤_}
 use native.Mathlib.Omega.{arith}
-use lib.Dec.{ltb}
 use lib.ListN.{length}
 use Rattle.layout.specs.Limits.{slotsLen, within}
 use Rattle.layout.specs.ControlRecord.{badControl}
 use Rattle.layout.proofs.LimitLaws.{within-true}
-use Rattle.rules.proofs.BoolLaws.{or-split}
 use Rattle.table.proofs.NamedLaws as Named
 use Rattle.table.proofs.named.object_refusal.Statement.{statement}
 use Rattle.table.proofs.named.object_refusal.Tie as tie
@@ -26,16 +24,14 @@ module _ (c : tie.Else2) where
 
   -- neither slice is too short
   long-at : let a = at .before .before .before .before .args in
-      (ltb (length (a .records .now)) (a .c .n) ≡ false) × (ltb (length (a .slots .now)) (slotsLen (a .c .n)) ≡ false)
-  long-at =
-      let a = at .before .before .before .before .args in
-      or-split (ltb (length (a .records .now)) (a .c .n)) (ltb (length (a .slots .now)) (slotsLen (a .c .n))) (rw (sym (c .before .slots-len .ensures)) (c .if2 .left))
+      (a .c .n ≤ length (a .records .now)) × (slotsLen (a .c .n) ≤ length (a .slots .now))
+  long-at = Named.room-fits _ _ _ (rw (sym (c .before .before .room .ensures)) (c .if2 .left))
 
   records-at : at .before .before .before .before .args .c .n ≤ length (at .before .before .before .before .args .records .now)
-  records-at = ltb-false _ _ (long-at .0)
+  records-at = long-at .0
 
   slots-at : slotsLen (at .before .before .before .before .args .c .n) ≤ length (at .before .before .before .before .args .slots .now)
-  slots-at = ltb-false _ _ (long-at .1)
+  slots-at = long-at .1
 
 object-at : (c : tie.Else3) → within 1 (at (c .before .before) .before .before .before .before .args .c .n) (at (c .before .before) .before .before .before .before .args .object) ≡ true
 object-at c = sym (c .before .within .ensures) ∙ not-false _ (c .if3 .left)
@@ -46,14 +42,14 @@ bad-control-requires c κs = search needs
 returns : tie.Need-returns
 returns c = Named.bad-control _ _ _ _ (sym (c .before .bad-control .ensures) ∙ c .if1 .taken)
 
+room-requires : tie.Need-room-requires
+room-requires c κs = search needs
+
 cast-if2 : tie.Need-cast-if2
 cast-if2 c = search needs
 
-slots-len-requires : tie.Need-slots-len-requires
-slots-len-requires c κs = search needs
-
 returns-2 : tie.Need-returns-2
-returns-2 c = Named.too-short _ _ _ _ (control-at (c .before .before .before)) (rw (sym (c .before .slots-len .ensures)) (c .if2 .taken))
+returns-2 c = Named.too-short _ _ _ _ (control-at (c .before .before .before)) (rw (sym (c .before .before .room .ensures)) (c .if2 .taken))
 
 within-requires : tie.Need-within-requires
 within-requires c κs = search needs
@@ -105,8 +101,8 @@ object-refusal-spec =
     (tie.spec
     bad-control-requires
     returns
+    room-requires
     cast-if2
-    slots-len-requires
     returns-2
     within-requires
     returns-3
