@@ -163,8 +163,9 @@ pub fn legal(n: u32, r: u32) -> bool
     if flags | past {
         return false;
     }
-    if c == 0 && is_out(r) {
-        return false;
+    // Most objects are neither, and no branch on the cluster number is taken for them.
+    if !(is_sink(r) | is_out(r)) {
+        return true;
     }
-    c == 0 || !is_sink(r)
+    if c == 0 { !is_out(r) } else { !is_sink(r) }
 }

@@ -1,9 +1,8 @@
--- `records::legal` is the test of specs/: four tests joined, then the two of the cluster. Assumes nothing.
+-- `records::legal` is the test of specs/: four tests joined, then those of a sink and of an out member. Assumes nothing.
 use borrow.Author.Needs.{needs}
 use borrow.Author.Tests.{lt-ltb, le-ltb, leb-true, leb-false, eq-eqb, ne-eqb}
 use mathlib.Core.Path.{_≡_, refl, _∙_, sym, ap}
 use mathlib.Core.Bool.{true, false, not, Bool, _&&_, _||_, false≢true}
-use mathlib.Core.Logic.{⊎-elim}
 use Prim.Native.Nat.{ℕ}
 use lib.Bits.{bitAnd}
 use lib.Dec.{eqb, leb, ltb}
@@ -35,15 +34,19 @@ all-pass true false c d e f h = absurd (false≢true (sym h))
 all-pass true true false d e f h = absurd (false≢true (sym h))
 all-pass true true true false e f h = absurd (false≢true (sym h))
 
-and-false : (p : Bool) → p && false ≡ false
-and-false true = refl
-and-false false = refl
+-- the two tests that speak of the cluster, for an object that is neither, for one in no cluster and for a member
+plain-passes : (s o k : Bool) → not (s || o) ≡ true → true ≡ (not s || k) && (not o || not k)
+plain-passes false false k h = refl
+plain-passes false true k h = absurd (false≢true h)
+plain-passes true o k h = absurd (false≢true h)
 
-loose-passes : (s : Bool) → (not s || true) && true ≡ true
-loose-passes true = refl
-loose-passes false = refl
+loose-passes : (s o : Bool) → not o ≡ (not s || true) && (not o || false)
+loose-passes true true = refl
+loose-passes true false = refl
+loose-passes false true = refl
+loose-passes false false = refl
 
-member-passes : (s o : Bool) → (not s || false) && (not o || true) ≡ not s
+member-passes : (s o : Bool) → not s ≡ (not s || false) && (not o || true)
 member-passes true o = refl
 member-passes false true = refl
 member-passes false false = refl
@@ -72,14 +75,20 @@ module _ (n r : ℕ) where
     unfolding legal
     passed = all-pass (clear r) (flag 0 r) (leb (width r) 8) (leb (cluster r) n) sink-passes out-passes (sym as-tested ∙ h)
 
-    loose-out : cluster r ≡ 0 → flag 3 r ≡ true → false ≡ legal n r
-    loose-out z o = sym (rw (eq-eqb _ _ z, o) (and-false (not (flag 2 r) || true))) ∙ passed
+    plain : not (flag 2 r || flag 3 r) ≡ true → true ≡ legal n r
+    plain q = plain-passes (flag 2 r) (flag 3 r) (eqb (cluster r) 0) q ∙ passed
 
-    loose-in : cluster r ≡ 0 → flag 3 r ≡ false → true ≡ legal n r
-    loose-in z o = sym (rw (eq-eqb _ _ z, o) (loose-passes (flag 2 r))) ∙ passed
+    loose : cluster r ≡ 0 → not (flag 3 r) ≡ legal n r
+    loose z = of-none ∙ passed
+      where
+        of-none : not (flag 3 r) ≡ sink-passes && out-passes
+        of-none = rw (eq-eqb _ _ z) (loose-passes (flag 2 r) (flag 3 r))
 
     member : (cluster r ≡ 0 → ⊥) → not (flag 2 r) ≡ legal n r
-    member z = sym (rw (ne-eqb _ _ z) (member-passes (flag 2 r) (flag 3 r))) ∙ passed
+    member z = of-some ∙ passed
+      where
+        of-some : not (flag 2 r) ≡ sink-passes && out-passes
+        of-some = rw (ne-eqb _ _ z) (member-passes (flag 2 r) (flag 3 r))
 
 -- none of the joined tests holds
 none-holds : (c : tie.Else1) → joined (c .before .before .before .before .args .n) (c .before .before .before .before .args .r) ≡ false
@@ -101,32 +110,32 @@ returns c =
     let w = c .before in
     refused _ _ (rw (sym (w .before .in-use .ensures), sym (w .width-of .ensures), sym (w .before .before .cluster-of .ensures)) (c .if1 .taken))
 
+is-sink-requires : tie.Need-is-sink-requires
+is-sink-requires c κs = search needs
+
 is-out-requires : tie.Need-is-out-requires
 is-out-requires c κs = search needs
 
 returns-2 : tie.Need-returns-2
 returns-2 c =
-    let e = c .before .before .before in
-    loose-out _ _ (none-holds e) (sym (e .before .before .before .cluster-of .ensures) ∙ c .before .before .if2 .taken)
-    (sym (c .before .is-out .ensures) ∙ c .if3 .taken)
+    let o = c .before in
+    plain _ _ (none-holds (o .before .before)) (rw (sym (o .before .is-sink .ensures), sym (o .is-out .ensures)) (c .if2 .taken))
 
-is-sink-requires : tie.Need-is-sink-requires
-is-sink-requires c κs = search needs
+is-out-requires-2 : tie.Need-is-out-requires-2
+is-out-requires-2 c κs = search needs
+
+is-sink-requires-2 : tie.Need-is-sink-requires-2
+is-sink-requires-2 c κs = search needs
 
 returns-3 : tie.Need-returns-3
 returns-3 c =
-    let e = c .before .before in
-    let z = sym (e .before .before .before .cluster-of .ensures) ∙ c .if4 .taken in
-    eq-eqb _ _ (c .if4 .taken)
-    ∙ ⊎-elim (λ w. loose-in _ _ (none-holds e) z (sym (w .1 .ensures) ∙ w .2 .left))
-    (λ w. absurd (w .left (c .if4 .taken)))
-    (c .before .if2 .came)
+    let e = c .before .before .before .before .before in
+    ap not (c .is-out2 .ensures) ∙ loose _ _ (none-holds e) (sym (e .before .before .before .cluster-of .ensures) ∙ c .before .if3 .taken)
 
 returns-4 : tie.Need-returns-4
 returns-4 c =
-    let e = c .before .before .before in
-    ap not (c .is-sink .ensures)
-    ∙ member _ _ (none-holds e) (λ z. c .before .if4 .left (e .before .before .before .cluster-of .ensures ∙ z))
+    let e = c .before .before .before .before .before in
+    ap not (c .is-sink2 .ensures) ∙ member _ _ (none-holds e) (λ z. c .before .if3 .left (e .before .before .before .cluster-of .ensures ∙ z))
 
 pub legal-spec : {M : Type 1} → statement M
 legal-spec =
@@ -136,8 +145,10 @@ legal-spec =
     in-use-requires
     width-of-requires
     returns
+    is-sink-requires
     is-out-requires
     returns-2
-    is-sink-requires
+    is-out-requires-2
+    is-sink-requires-2
     returns-3
     returns-4)
