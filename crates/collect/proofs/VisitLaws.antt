@@ -3,7 +3,7 @@
 use Prim.Native.Nat.{ℕ, zero, suc, _+_, _-_, _*_, _/_, _%_, _<_, _≤_}
 use mathlib.Core.Path.{_≡_, refl, sym, ap, _∙_, subst, fun-ext}
 use mathlib.Core.Logic.{_≢_}
-use mathlib.Core.Bool.{Bool, true, false, cond, _||_, _&&_, true≢false}
+use mathlib.Core.Bool.{Bool, true, false, not, cond, _||_, _&&_, true≢false, false≢true}
 use mathlib.Core.List.{List, _++_}
 use native.Mathlib.Omega.{arith}
 use borrow.Author.Tests.{eqb-true, eq-eqb, ne-eqb}
@@ -250,6 +250,11 @@ module _ (n : ℕ) (recs slots work : List ℕ) (top : ℕ) (s : State n recs sl
       moved-as n slots recs work top _ _ _ work′ top (λ todo. rw (e, r) refl) (moved-postpone n recs slots work top s o io work′ p q)
 
 -- ---- a visit where clusters are walked or not
+
+-- a plain walk sees no clusters
+pub plain-none : (by : Bool) (c : ℕ) → not by ≡ true → cond by c 0 ≡ 0
+plain-none false c e = refl
+plain-none true c e = absurd (false≢true e)
 
 -- only a heap with clusters has one that is not 0
 by-true : (by : Bool) (c : ℕ) → cond by c 0 ≢ 0 → by ≡ true

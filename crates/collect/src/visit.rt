@@ -110,7 +110,8 @@ fn is_scanned(by: bool, n: u32, x: u32, records: &[u32]) -> bool
     is_marked(record_of(n, x, records))
 }
 
-// Visits the pending object x. Most visits of a dense heap are to objects scanned before, so these are passed over without a call.
+// Visits the pending object x. Most visits of a dense heap are to objects scanned before, so these are passed over without a call; those of a plain walk that
+// scan need none of the cases of `visit`.
 pub(crate) fn visit_pending(
     by: bool,
     n: u32,
@@ -128,6 +129,9 @@ pub(crate) fn visit_pending(
 {
     if is_scanned(by, n, x, records) {
         return top;
+    }
+    if !by {
+        return scan_unmarked(n, records, slots, work, top, x);
     }
     visit(by, n, records, slots, work, top, x)
 }
