@@ -13,7 +13,7 @@ use borrow.Rule.Slice.PartMut.{putMid, midOf, postOf, same-len-mid, take-put, dr
 use Rattle.rules.specs.Buffers.{recOf, eachFrom, eachRecord}
 use Rattle.rules.proofs.ListLaws.{recOf-each, recOf-above}
 use Rattle.rules.proofs.PlaceLaws.{rec-at, rec-take}
-use Rattle.links.specs.Links.{linkWord, links, linkable}
+use Rattle.links.specs.Links.{clOf, linkWord, links, linkable}
 use Rattle.links.proofs.LinkLaws.{linked}
 use Rattle.analyse.specs.Memory.{area}
 use Rattle.analyse.specs.Filling.{Filling}
@@ -62,18 +62,18 @@ module _ (n base e : ℕ) (work part : List ℕ) (size : e - base ≡ n) (long :
       apart b (inl a) i p q = before-same i (omega arith)
       apart b (inr a) i p q = past-same i (omega arith)
 
-each-link : (n : ℕ) (recs mid : List ℕ) (x : ℕ) → 1 ≤ x → x ≤ n → n ≤ length mid → recOf n (links n recs mid) x ≡ linkWord n recs x
+each-link : (n : ℕ) (recs mid : List ℕ) (x : ℕ) → 1 ≤ x → x ≤ n → n ≤ length mid → recOf n (links n (clOf n recs) mid) x ≡ linkWord n (clOf n recs) x
 unfolding links eachRecord
-each-link n recs mid x p q l = recOf-each n (λ x w. linkWord n recs x) mid x p q l
+each-link n recs mid x p q l = recOf-each n (λ x w. linkWord n (clOf n recs) x) mid x p q l
 
 pub links-filled : (n : ℕ) (recs work part : List ℕ) → n ≤ 4095 → n ≤ length recs → length work ≡ 10 * n + 64
     → length part ≡ length (midOf (8 * n) (9 * n - 8 * n) work)
-    → part ≡ cond (linkable n recs (midOf (8 * n) (9 * n - 8 * n) work)) (links n recs (midOf (8 * n) (9 * n - 8 * n) work)) (midOf (8 * n) (9 * n - 8 * n) work)
-    → Filling n (8 * n) (linkWord n recs) work (putMid (8 * n) (9 * n - 8 * n) work part) n
+    → part ≡ cond (linkable n recs (midOf (8 * n) (9 * n - 8 * n) work)) (links n (clOf n recs) (midOf (8 * n) (9 * n - 8 * n) work)) (midOf (8 * n) (9 * n - 8 * n) work)
+    → Filling n (8 * n) (linkWord n (clOf n recs)) work (putMid (8 * n) (9 * n - 8 * n) work part) n
 unfolding links
 links-filled n recs work part m r w l e =
-    part-filled n (8 * n) (9 * n) work part size (omega arith) (omega arith) l (linkWord n recs)
-    (λ x p q. ap (λ (t : List ℕ). recOf n t x) (e ∙ sym (linked n recs mid m r (omega (arith, len)))) ∙ each x p q)
+    part-filled n (8 * n) (9 * n) work part size (omega arith) (omega arith) l (linkWord n (clOf n recs))
+    (λ x p q. ap (λ (t : List ℕ). recOf n t x) (e ∙ sym (linked n (clOf n recs) recs mid m r (omega (arith, len)))) ∙ each x p q)
   where
     size : 9 * n - 8 * n ≡ n
     size = omega arith
@@ -84,5 +84,5 @@ links-filled n recs work part m r w l e =
     len : length mid ≡ n
     len = length-take-le (9 * n - 8 * n) (drop (8 * n) work) (let a = length-drop (8 * n) work in omega arith) ∙ size
 
-    each : (x : ℕ) → 1 ≤ x → x ≤ n → recOf n (links n recs mid) x ≡ linkWord n recs x
+    each : (x : ℕ) → 1 ≤ x → x ≤ n → recOf n (links n (clOf n recs) mid) x ≡ linkWord n (clOf n recs) x
     each x p q = each-link n recs mid x p q (omega (arith, len))

@@ -54,7 +54,7 @@ cluster-lt r = field-lt 16 12 r
 -- ---- before the first visit
 
 module _ (n r limit : ℕ) (recs slots roots work₀ work₁ work : List ℕ) (F : Formable n r limit recs slots roots work₀)
-    (L : Filling n (8 * n) (linkWord n recs) work₀ work₁ n) (S : Filling n (9 * n) (clOf n recs) work₁ work n) where
+    (L : Filling n (8 * n) (linkWord n (clOf n recs)) work₀ work₁ n) (S : Filling n (9 * n) (clOf n recs) work₁ work n) where
   abbrev H : Heap
   H = view n recs slots
 
@@ -85,10 +85,10 @@ module _ (n r limit : ℕ) (recs slots roots work₀ work₁ work : List ℕ) (F
   seen-is : seenIn (area n (9 * n) work) ≡ (λ x. false)
   seen-is = fun-ext (λ x. ap (leb 4096) (states x) ∙ lt-leb 4096 (clOf n recs x) (low x))
 
-  link-at : (x : ℕ) → 1 ≤ x → x ≤ n → area n (8 * n) work x ≡ linkWord n recs x
+  link-at : (x : ℕ) → 1 ≤ x → x ≤ n → area n (8 * n) work x ≡ linkWord n (clOf n recs) x
   link-at x p q = ap (λ (f : ℕ → ℕ). f x) (S .others (8 * n) (inl (omega arith))) ∙ L .filled x p q
 
-  next-low : (x : ℕ) → x ≤ n → nextMember n recs x < 4096
+  next-low : (x : ℕ) → x ≤ n → nextMember n (clOf n recs) x < 4096
   unfolding nextMember
   next-low x h = go (within 1 n (clOf n recs x))
     where
@@ -100,7 +100,7 @@ module _ (n r limit : ℕ) (recs slots roots work₀ work₁ work : List ℕ) (F
   unfolding linkWord
   link-top x p q = let a = link-at x p q in omega (arith, next-low x q)
 
-  link-next : (x : ℕ) → 1 ≤ x → x ≤ n → area n (8 * n) work x % 4096 ≡ nextMember n recs x
+  link-next : (x : ℕ) → 1 ≤ x → x ≤ n → area n (8 * n) work x % 4096 ≡ nextMember n (clOf n recs) x
   unfolding linkWord
   link-next x p q = let a = link-at x p q in omega (arith, next-low x q)
 
@@ -145,7 +145,7 @@ module _ (n r limit : ℕ) (recs slots roots work₀ work₁ work : List ℕ) (F
       let b = in-range d d p e in
       record {
         first = (let a = link-top d (b .0) (b .1) in omega (arith, top-le (clOf n recs) d n, F .most));
-        next = λ x f. let r = in-range x d p f in link-next x (r .0) (r .1) ∙ next-is n recs x d f (b .0) (b .1);
+        next = λ x f. let r = in-range x d p f in link-next x (r .0) (r .1) ∙ next-is n (clOf n recs) x d f (b .0) (b .1);
       }
 
   ground : Ground n recs slots limit work

@@ -31,11 +31,11 @@ fn put_states(n: u32, records: &[u32], work: &mut [u32])
 // The link words of the older clusters.
 fn put_links(n: u32, records: &[u32], work: &mut [u32])
     requires { ⌜ (n ≤ length (now records)) × (length (now work) ≡ 10 * n + 64) × (n ≤ 4095) ⌝ }
-    ensures { λ _. ⌜ Filling n (8 * n) (linkWord n (now (records .entry))) (now (work .entry)) (now (work .exit)) n ⌝ }
+    ensures { λ _. ⌜ Filling n (8 * n) (linkWord n (clOf n (now (records .entry)))) (now (work .entry)) (now (work .exit)) n ⌝ }
 {
     let a = 8 * n as usize;
     let b = 9 * n as usize;
-    link(n, records, &mut work[a..b]);
+    link(false, n, records, &mut work[a..b]);
 }
 
 // The walk from the first r roots.

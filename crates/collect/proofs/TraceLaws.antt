@@ -24,7 +24,7 @@ use Rattle.links.specs.Links.{linkWord, links, linkable}
 use Rattle.links.proofs.LinkLaws.{linked}
 use Rattle.table.specs.Cleared.{cleared}
 use Rattle.collect.specs.Marks.{flagsOf}
-use Rattle.collect.specs.State.{seen, walkAt, ends, Objects, linkAt, Linkable, Linked, Ready, Followed, Finished, Traceable, TracedIn}
+use Rattle.collect.specs.State.{outsOf, seen, walkAt, ends, Objects, linkAt, Linkable, Linked, Ready, Followed, Finished, Traceable, TracedIn}
 use Rattle.collect.proofs.MarkLaws.{bare-flags, sink-same, view-same}
 use Rattle.collect.proofs.LaterLaws.{mapped-none}
 use Rattle.collect.proofs.PendingLaws.{named-short}
@@ -248,7 +248,7 @@ unlinked false n recs work e = record { links = λ q x b. absurd (true≢false (
 
 -- the link words in their part of the work words
 pub linked-part : (by : Bool) (n : ℕ) (recs work : List ℕ) → Linkable n recs work → (ys : List ℕ)
-    → ys ≡ cond (linkable n recs (midOf (8 * n) (9 * n - 8 * n) work)) (links n recs (midOf (8 * n) (9 * n - 8 * n) work)) (midOf (8 * n) (9 * n - 8 * n) work)
+    → ys ≡ cond (linkable n recs (midOf (8 * n) (9 * n - 8 * n) work)) (links n (outsOf n recs) (midOf (8 * n) (9 * n - 8 * n) work)) (midOf (8 * n) (9 * n - 8 * n) work)
     → Linked by n recs (putMid (8 * n) (9 * n - 8 * n) work ys)
 unfolding links
 linked-part by n recs work l ys e = record { links = λ q x b. at x b }
@@ -259,11 +259,11 @@ linked-part by n recs work l ys e = record { links = λ q x b. at x b }
     mid-long : length mid ≡ n
     mid-long = mid-len (8 * n) (9 * n) work (omega (arith, l .work-long)) ∙ omega arith
 
-    ys-are : ys ≡ links n recs mid
-    ys-are = e ∙ sym (linked n recs mid (l .most) (l .recs-long) (omega (arith, mid-long)))
+    ys-are : ys ≡ links n (outsOf n recs) mid
+    ys-are = e ∙ sym (linked n (outsOf n recs) recs mid (l .most) (l .recs-long) (omega (arith, mid-long)))
 
     ys-long : length ys ≡ n
-    ys-long = ap length ys-are ∙ length-each 1 n (λ x w. linkWord n recs x) mid ∙ mid-long
+    ys-long = ap length ys-are ∙ length-each 1 n (λ x w. linkWord n (outsOf n recs) x) mid ∙ mid-long
 
     front-long : length (take (8 * n) work) ≡ 8 * n
     front-long = length-take-le (8 * n) work (omega (arith, l .work-long))
@@ -271,12 +271,12 @@ linked-part by n recs work l ys e = record { links = λ q x b. at x b }
     post : List ℕ
     post = postOf (8 * n) (9 * n - 8 * n) work
 
-    at : (x : ℕ) → Obj n x → linkAt n (putMid (8 * n) (9 * n - 8 * n) work ys) x ≡ linkWord n recs x
+    at : (x : ℕ) → Obj n x → linkAt n (putMid (8 * n) (9 * n - 8 * n) work ys) x ≡ linkWord n (outsOf n recs) x
     at x b =
         let s : 1 + (x - 1) ≡ x = omega arith in
         ap (λ (k : ℕ). getD (take (8 * n) work ++ (ys ++ post)) (k + (x - 1)) 0) (sym front-long)
         ∙ getD-append-add (take (8 * n) work) (ys ++ post) (x - 1) 0
         ∙ sym (getD-take n (ys ++ post) (x - 1) 0 (omega arith))
         ∙ ap (λ (m : List ℕ). getD m (x - 1) 0) (take-at ys post n ys-long ∙ ys-are)
-        ∙ get-each 1 n (λ y w. linkWord n recs y) mid (x - 1) 0 (omega arith) (omega (arith, mid-long))
-        ∙ ap (linkWord n recs) s
+        ∙ get-each 1 n (λ y w. linkWord n (outsOf n recs) y) mid (x - 1) 0 (omega arith) (omega (arith, mid-long))
+        ∙ ap (linkWord n (outsOf n recs)) s

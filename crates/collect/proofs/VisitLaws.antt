@@ -1,7 +1,7 @@
 -- The out members of a cluster through its links, and the visits by their cases.
 -- Assumes nothing.
 use Prim.Native.Nat.{ℕ, zero, suc, _+_, _-_, _*_, _/_, _%_, _<_, _≤_}
-use mathlib.Core.Path.{_≡_, refl, sym, ap, _∙_, subst, fun-ext}
+use mathlib.Core.Path.{_≡_, refl, sym, ap, ap₂, _∙_, subst, fun-ext}
 use mathlib.Core.Logic.{_≢_}
 use mathlib.Core.Bool.{Bool, true, false, not, cond, _||_, _&&_, true≢false, false≢true}
 use mathlib.Core.List.{List, _++_}
@@ -18,23 +18,22 @@ use Rattle.graph.proofs.AnalysisInv.{and-split}
 use Rattle.graph.proofs.FlagLaws.{postponed≢marked, setFlag-apart}
 use Rattle.rules.specs.Buffers.{recOf}
 use Rattle.rules.specs.View.{view}
-use Rattle.links.specs.Links.{topMember, clOf, nextMember, linkWord}
+use Rattle.links.specs.Links.{topMember, nextMember, linkWord}
 use Rattle.links.proofs.MemberOrder.{top-le, top-in, next-is}
 use Rattle.sweep.specs.Sweep.{bare}
 use Rattle.collect.specs.Marks.{flagsOf, putMark}
 use Rattle.collect.specs.Later.{MapPut}
-use Rattle.collect.specs.State.{heapFor, seen, walkAt, pending, linkAt, Linked, State, Ready, Moved}
-use Rattle.collect.proofs.MarkLaws.{flags-put, cluster-same, view-same}
+use Rattle.collect.specs.State.{heapFor, seen, walkAt, pending, linkAt, outsOf, Linked, State, Ready, Moved}
+use Rattle.collect.proofs.MarkLaws.{flags-put, cluster-same, out-same, view-same}
 use Rattle.collect.proofs.MoveLaws.{moved-arrive, moved-postpone, moved-unpostpone, moved-none, moved-then, moved-as}
 
 -- ---- the links
 
 -- the link words tell the same while nothing but flags changes
-link-words : (n : ℕ) (recs recs′ : List ℕ) → n ≤ length recs → bare n recs′ ≡ bare n recs → (x : ℕ) → linkWord n recs′ x ≡ linkWord n recs x
-unfolding linkWord nextMember
+link-words : (n : ℕ) (recs recs′ : List ℕ) → n ≤ length recs → bare n recs′ ≡ bare n recs → (x : ℕ) → linkWord n (outsOf n recs′) x ≡ linkWord n (outsOf n recs) x
 link-words n recs recs′ long e x =
-    let c : clOf n recs′ ≡ clOf n recs = fun-ext (cluster-same n recs recs′ long e) in
-    ap (λ (cl : ℕ → ℕ). cond (within 1 n (cl x)) (topMember cl (cl x) (x - 1)) 0 + 4096 * topMember cl x n) c
+    ap (λ (cl : ℕ → ℕ). linkWord n cl x)
+    (fun-ext (λ y. ap₂ (λ (o : Bool) (c : ℕ). cond (not o) 0 c) (out-same n recs recs′ long e y) (cluster-same n recs recs′ long e y)))
 
 pub ready-moved : (by : Bool) (n : ℕ) (slots recs work : List ℕ) (top : ℕ) (f : Walk → Walk) (recs′ work′ : List ℕ) (top′ : ℕ) → n ≤ length recs
     → Linked by n recs work → Moved n slots recs work top f recs′ work′ top′ → Ready by n recs′ slots work′ top′
@@ -44,38 +43,48 @@ ready-moved by n slots recs work top f recs′ work′ top′ long l v =
       linked = record { links = λ e x b. v .links x b ∙ l .links e x b ∙ sym (link-words n recs recs′ long (v .kept) x) };
     }
 
-next-less : (n : ℕ) (recs : List ℕ) (x : ℕ) → 1 ≤ x → nextMember n recs x < x
+next-less : (n : ℕ) (cl : ℕ → ℕ) (x : ℕ) → 1 ≤ x → nextMember n cl x < x
 unfolding nextMember
-next-less n recs x p = go (within 1 n (clOf n recs x))
+next-less n cl x p = go (within 1 n (cl x))
   where
-    go : (b : Bool) → cond b (topMember (clOf n recs) (clOf n recs x) (x - 1)) 0 < x
-    go true = omega (arith, top-le (clOf n recs) (clOf n recs x) (x - 1))
+    go : (b : Bool) → cond b (topMember cl (cl x) (x - 1)) 0 < x
+    go true = omega (arith, top-le cl (cl x) (x - 1))
     go false = omega arith
 
 -- what the two parts of a link word tell
 module _ (n : ℕ) (recs work : List ℕ) (most : n ≤ 4095) (l : Linked true n recs work) (x : ℕ) (b : Obj n x) where
-  pub link-top : linkAt n work x / 4096 % 4096 ≡ topMember (clOf n recs) x n
+  pub link-top : linkAt n work x / 4096 % 4096 ≡ topMember (outsOf n recs) x n
   unfolding linkWord
-  link-top = omega (arith, l .links refl x b, next-less n recs x (b .0), top-le (clOf n recs) x n)
+  link-top = omega (arith, l .links refl x b, next-less n (outsOf n recs) x (b .0), top-le (outsOf n recs) x n)
 
-  pub link-next : (h : ℕ) → Obj n h → cluster (recOf n recs x) ≡ h → linkAt n work x % 4096 ≡ topMember (clOf n recs) h (x - 1)
+  pub link-next : (h : ℕ) → Obj n h → outsOf n recs x ≡ h → linkAt n work x % 4096 ≡ topMember (outsOf n recs) h (x - 1)
   unfolding linkWord
-  link-next h ih e = omega (arith, l .links refl x b, next-is n recs x h e (ih .0) (ih .1), top-le (clOf n recs) h (x - 1))
+  link-next h ih e = omega (arith, l .links refl x b, next-is n (outsOf n recs) x h e (ih .0) (ih .1), top-le (outsOf n recs) h (x - 1))
 
 -- ---- the out members of a cluster
 
--- from k down, the scan of the out members begins at the highest member
-pub outs-top : (H : Heap) (h k : ℕ) (w : Walk) → scanOuts H h k w ≡ scanOuts H h (topMember (H .cluster) h k) w
+-- the cluster of an out member, 0 for the other objects
+abbrev outs : Heap → ℕ → ℕ
+outs H = λ x. cond (not (H .out x)) 0 (H .cluster x)
+
+outs-member : (o : Bool) (c h : ℕ) → h ≢ 0 → cond (not o) 0 c ≡ h → c ≡ h
+outs-member true c h p e = e
+outs-member false c h p e = absurd (p (sym e))
+
+-- from k down, the scan of the out members begins at the highest of them
+pub outs-top : (H : Heap) (h : ℕ) → h ≢ 0 → (k : ℕ) (w : Walk) → scanOuts H h k w ≡ scanOuts H h (topMember (outs H) h k) w
 unfolding scanOuts topMember scanIf
-outs-top H h zero w = refl
-outs-top H h (suc k) w = go (H .out (suc k)) (eqb (H .cluster (suc k)) h) refl refl (λ v. outs-top H h k v)
+outs-top H h p zero w = refl
+outs-top H h p (suc k) w = go (H .out (suc k)) (eqb (H .cluster (suc k)) h) refl refl (λ v. outs-top H h p k v)
   where
     go : (a b : Bool) → H .out (suc k) ≡ a → eqb (H .cluster (suc k)) h ≡ b
-        → ((v : Walk) → scanOuts H h k v ≡ scanOuts H h (topMember (H .cluster) h k) v)
-        → scanOuts H h (suc k) w ≡ scanOuts H h (cond b (suc k) (topMember (H .cluster) h k)) w
-    go a true ea eb ih = refl
+        → ((v : Walk) → scanOuts H h k v ≡ scanOuts H h (topMember (outs H) h k) v)
+        → scanOuts H h (suc k) w ≡ scanOuts H h (cond (eqb (outs H (suc k)) h) (suc k) (topMember (outs H) h k)) w
+    go true true ea eb ih =
+        let q : eqb (outs H (suc k)) h ≡ true = rw ea eb in
+        ap (λ (t : Bool). scanOuts H h (cond t (suc k) (topMember (outs H) h k)) w) (sym q)
     go true false ea eb ih = rw (ea, eb) (ih w)
-    go false false ea eb ih = rw ea (ih w)
+    go false b ea eb ih = rw (ea, ne-eqb 0 h (λ z. p (sym z))) (ih w)
 
 -- one turn of it, at a member
 outs-turn : (H : Heap) (h x k : ℕ) (w : Walk) → x ≡ suc k → H .cluster x ≡ h
@@ -96,7 +105,7 @@ pub record Sweeping (n : ℕ) (slots recs₀ work₀ : List ℕ) (top₀ h : ℕ
   pub kept : bare n recs ≡ bare n recs₀
   pub links : (y : ℕ) → Obj n y → linkAt n work y ≡ linkAt n work₀ y
   pub within : x ≤ n
-  pub member : 1 ≤ x → cluster (recOf n recs₀ x) ≡ h
+  pub member : 1 ≤ x → outsOf n recs₀ x ≡ h
   pub recs-length : length recs ≡ length recs₀
   pub work-length : length work ≡ length work₀
 
@@ -111,13 +120,16 @@ module _ (n : ℕ) (slots recs₀ work₀ : List ℕ) (top₀ h : ℕ) (r₀ : R
   long : n ≤ length recs₀
   long = r₀ .state .sized .recs-long
 
+  some-head : h ≢ 0
+  some-head e = absurd (omega (arith, ih .0, e))
+
   pub sweeping-here : (x : ℕ) → x ≡ linkAt n work₀ h / 4096 % 4096 → Sweeping n slots recs₀ work₀ top₀ h recs₀ work₀ top₀ x
   unfolding view
   sweeping-here x e =
-      let q : x ≡ topMember (clOf n recs₀) h n = e ∙ link-top n recs₀ work₀ (r₀ .state .sized .most) (r₀ .linked) h ih in
-      let t = top-member (clOf n recs₀) h n x q in
+      let q : x ≡ topMember (outsOf n recs₀) h n = e ∙ link-top n recs₀ work₀ (r₀ .state .sized .most) (r₀ .linked) h ih in
+      let t = top-member (outsOf n recs₀) h n x q in
       record {
-        same = λ more. rw q (sym (outs-top H h n (walkAt n recs₀ (pending n work₀ top₀ ++ more))));
+        same = λ more. rw q (sym (outs-top H h some-head n (walkAt n recs₀ (pending n work₀ top₀ ++ more))));
         ready = r₀;
         kept = refl;
         links = λ y b. refl;
@@ -131,24 +143,24 @@ module _ (n : ℕ) (slots recs₀ work₀ : List ℕ) (top₀ h : ℕ) (r₀ : R
     abbrev Step : List ℕ → List ℕ → ℕ → Type 0
     Step recs′ work′ top′ = Moved n slots recs work top (scanIf (view n recs slots) (isOut (recOf n recs x)) true (flagsOf n recs marked x) x) recs′ work′ top′
 
-    next-here : (recs′ work′ : List ℕ) (top′ x′ : ℕ) → Step recs′ work′ top′ → x′ ≡ linkAt n work′ x % 4096 → x′ ≡ topMember (clOf n recs₀) h (x - 1)
+    next-here : (recs′ work′ : List ℕ) (top′ x′ : ℕ) → Step recs′ work′ top′ → x′ ≡ linkAt n work′ x % 4096 → x′ ≡ topMember (outsOf n recs₀) h (x - 1)
     next-here recs′ work′ top′ x′ v e =
         e ∙ ap (λ (y : ℕ). y % 4096) (v .links x (some, g .within) ∙ g .links x (some, g .within))
         ∙ link-next n recs₀ work₀ (r₀ .state .sized .most) (r₀ .linked) x (some, g .within) h ih (g .member some)
 
     pub sweeping-less : (recs′ work′ : List ℕ) (top′ x′ : ℕ) → Step recs′ work′ top′ → x′ ≡ linkAt n work′ x % 4096 → x′ < x
-    sweeping-less recs′ work′ top′ x′ v e = omega (arith, next-here recs′ work′ top′ x′ v e, top-le (clOf n recs₀) h (x - 1))
+    sweeping-less recs′ work′ top′ x′ v e = omega (arith, next-here recs′ work′ top′ x′ v e, top-le (outsOf n recs₀) h (x - 1))
 
     pub sweeping-on : (recs′ work′ : List ℕ) (top′ x′ : ℕ) → Step recs′ work′ top′ → x′ ≡ linkAt n work′ x % 4096 → length recs′ ≡ length recs → length work′ ≡ length work
         → Sweeping n slots recs₀ work₀ top₀ h recs′ work′ top′ x′
     unfolding view
     sweeping-on recs′ work′ top′ x′ v e lr lw =
         let q = next-here recs′ work′ top′ x′ v e in
-        let t = top-member (clOf n recs₀) h (x - 1) x′ q in
+        let t = top-member (outsOf n recs₀) h (x - 1) x′ q in
         record {
           same = λ more.
               ap (scanOuts H h x′) (sym (v .same more))
-              ∙ turned more (x - 1) (omega arith) q (g .member some)
+              ∙ turned more (x - 1) (omega arith) q (outs-member (isOut (recOf n recs₀ x)) (cluster (recOf n recs₀ x)) h some-head (g .member some))
               ∙ g .same more;
           ready = ready-moved true n slots recs work top _ recs′ work′ top′ (omega (arith, g .recs-length, long)) (g .ready .linked) v;
           kept = v .kept ∙ g .kept;
@@ -163,14 +175,14 @@ module _ (n : ℕ) (slots recs₀ work₀ : List ℕ) (top₀ h : ℕ) (r₀ : R
         same-heap = view-same n recs₀ recs long (g .kept) slots
 
         -- one turn of the definition
-        turned : (more : List ℕ) (k : ℕ) → x ≡ suc k → x′ ≡ topMember (clOf n recs₀) h k → cluster (recOf n recs₀ x) ≡ h
+        turned : (more : List ℕ) (k : ℕ) → x ≡ suc k → x′ ≡ topMember (outsOf n recs₀) h k → cluster (recOf n recs₀ x) ≡ h
             → scanOuts H h x′ (scanIf (view n recs slots) (isOut (recOf n recs x)) true (flagsOf n recs marked x) x (walkAt n recs (pending n work top ++ more)))
             ≡ scanOuts H h x (walkAt n recs (pending n work top ++ more))
         turned more k ex q c =
             let w : Walk = walkAt n recs (pending n work top ++ more) in
             ap (λ (G : Heap). scanOuts H h x′ (scanIf G (G .out x) true (flagsOf n recs marked x) x w)) same-heap
             ∙ ap (λ (y : ℕ). scanOuts H h y (scanIf H (H .out x) true (flagsOf n recs marked x) x w)) q
-            ∙ sym (outs-top H h k (scanIf H (H .out x) true (flagsOf n recs marked x) x w))
+            ∙ sym (outs-top H h some-head k (scanIf H (H .out x) true (flagsOf n recs marked x) x w))
             ∙ sym (outs-turn H h x k w ex c)
 
   pub sweeping-done : (recs work : List ℕ) (top x : ℕ) → Sweeping n slots recs₀ work₀ top₀ h recs work top x → x ≡ 0

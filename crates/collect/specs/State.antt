@@ -10,7 +10,7 @@ use Rattle.graph.specs.Heap.{Heap, pointers, targets, starts}
 use Rattle.graph.specs.Trace.{marked, postponed, reached, Walk, visitBy, needed, finish, traced}
 use Rattle.rules.specs.Buffers.{recOf}
 use Rattle.rules.specs.View.{target, view}
-use Rattle.links.specs.Links.{linkWord}
+use Rattle.links.specs.Links.{linkedAt, linkWord}
 use Rattle.sweep.specs.Sweep.{bare}
 use Rattle.collect.specs.Marks.{flagsOf}
 use Rattle.collect.specs.Later.{Mapped}
@@ -53,9 +53,13 @@ pending n work top = take (8 * n - top) (drop top work)
 abbrev pub linkAt : ℕ → List ℕ → ℕ → ℕ
 linkAt n work x = getD work (8 * n + (x - 1)) 0
 
--- the link words stand there, where clusters are walked
+-- the cluster of an out member, 0 for the other objects
+abbrev pub outsOf : ℕ → List ℕ → ℕ → ℕ
+outsOf n recs = linkedAt true n recs
+
+-- the link words of the out members stand there, where clusters are walked
 pub record Linked (by : Bool) (n : ℕ) (recs work : List ℕ) : Type 0 where
-  pub links : by ≡ true → (x : ℕ) → Obj n x → linkAt n work x ≡ linkWord n recs x
+  pub links : by ≡ true → (x : ℕ) → Obj n x → linkAt n work x ≡ linkWord n (outsOf n recs) x
 
 -- ---- the state between two moves
 

@@ -136,7 +136,7 @@ fn link_clusters(by: bool, n: u32, records: &[u32], work: &mut [u32])
         return;
     }
     let m = n as usize;
-    link(n, records, &mut work[8 * m..9 * m]);
+    link(true, n, records, &mut work[8 * m..9 * m]);
 }
 
 // Walks the heap from its roots and sinks, by clusters or without them, and leaves the flags in the records.

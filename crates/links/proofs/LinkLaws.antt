@@ -12,14 +12,13 @@ use lib.ListN.{length, getD, set, drop, length-set}
 use lib.Seq.{drop-set-lt}
 use borrow.Author.Tests.{leb-true, le-leb, lt-ltb, le-ltb}
 use Rattle.layout.specs.Limits.{objectMax, within}
-use Rattle.layout.specs.Field.{field}
-use Rattle.records.specs.Record.{cluster}
+use Rattle.layout.specs.Field.{field, flag}
 use Rattle.graph.specs.Numbers.{upd}
 use Rattle.graph.proofs.NumberLaws.{upd-same, upd-other}
 use Rattle.rules.specs.Buffers.{recOf, short}
 use Rattle.rules.proofs.ListLaws.{recOf-above}
 use Rattle.rules.proofs.PlaceLaws.{rec-at, rec-put, by-object}
-use Rattle.links.specs.Links.{topMember, clOf, nextMember, linkWord, links, linkable}
+use Rattle.links.specs.Links.{topMember, linkedIn, linkedAt, nextMember, linkWord, links, linkable}
 use Rattle.links.specs.Linking.{firstAt, nextAt, Linking}
 use Rattle.links.proofs.MemberOrder.{top-le, top-up, top-own, next-is}
 
@@ -28,6 +27,12 @@ use Rattle.links.proofs.MemberOrder.{top-le, top-up, top-own, next-is}
 zero-none : (n : ℕ) (recs : List ℕ) → recOf n recs 0 ≡ 0
 unfolding recOf
 zero-none n recs = refl
+
+-- 0 is no object, and linked nowhere
+pub none-linked : (outs : Bool) (n : ℕ) (recs : List ℕ) → linkedAt outs n recs 0 ≡ 0
+unfolding field flag
+none-linked true n recs = rw (zero-none n recs) refl
+none-linked false n recs = rw (zero-none n recs) refl
 
 module _ (n : ℕ) (work : List ℕ) where
   pub clear-start : (x : ℕ) → n < x → recOf n work x ≡ 0
@@ -45,16 +50,16 @@ module _ (n : ℕ) (work : List ℕ) where
   clear-end k e h zero = zero-none n work
   clear-end k e h (suc x) = h (suc x) (omega arith)
 
-  pub link-start : (recs : List ℕ) → ((x : ℕ) → recOf n work x ≡ 0) → Linking n recs work 0
-  unfolding topMember nextMember within field
-  link-start recs h = record {
+  pub link-start : (cl : ℕ → ℕ) → cl 0 ≡ 0 → ((x : ℕ) → recOf n work x ≡ 0) → Linking n cl work 0
+  unfolding topMember nextMember within
+  link-start cl z h = record {
     first = λ d p q. ap (λ (w : ℕ). w / 4096) (h d);
     next = λ x p. ap (λ (w : ℕ). w % 4096) (h x) ∙ none x p;
     blank = λ x p. ap (λ (w : ℕ). w % 4096) (h x);
   }
     where
-      none : (x : ℕ) → x ≤ 0 → 0 ≡ nextMember n recs x
-      none zero p = rw (zero-none n recs) refl
+      none : (x : ℕ) → x ≤ 0 → 0 ≡ nextMember n cl x
+      none zero p = rw z refl
       none (suc x) p = absurd (omega arith)
 
 -- ---- one object
@@ -72,20 +77,23 @@ within-fits : (n d : ℕ) → d ≢ 0 → d ≤ n → within 1 n d ≡ true
 unfolding within
 within-fits n d p q = rw (le-leb 1 d (omega (arith, p)), le-leb d n q) refl
 
-module _ (n : ℕ) (recs work : List ℕ) (x : ℕ) (most : n ≤ 4095) (long : n ≤ length work) (p : 1 ≤ x) (q : x ≤ n)
-    (L : Linking n recs work (x - 1)) (d : ℕ) (is : d ≡ cluster (getD recs (x - 1) 0)) where
-  own : d ≡ clOf n recs x
-  own = is ∙ ap cluster (rec-at n recs x p q)
+module _ (n : ℕ) (outs : Bool) (recs work : List ℕ) (x : ℕ) (most : n ≤ 4095) (long : n ≤ length work) (p : 1 ≤ x) (q : x ≤ n)
+    (L : Linking n (linkedAt outs n recs) work (x - 1)) (d : ℕ) (is : d ≡ linkedIn outs (getD recs (x - 1) 0)) where
+  abbrev cl : ℕ → ℕ
+  cl = linkedAt outs n recs
 
-  pub link-none : (b : Bool) → b ≡ within 1 n d → b ≡ false → Linking n recs work x
+  own : d ≡ cl x
+  own = is ∙ ap (linkedIn outs) (rec-at n recs x p q)
+
+  pub link-none : (b : Bool) → b ≡ within 1 n d → b ≡ false → Linking n cl work x
   unfolding nextMember
   link-none b e f = record {
-    first = λ c r s. L .first c r s ∙ sym (top-up (clOf n recs) c x p (λ g. false≢true (sym (sym e ∙ f) ∙ within-fits n d (λ z. r (sym g ∙ sym own ∙ z)) (rw (own, g) s))));
+    first = λ c r s. L .first c r s ∙ sym (top-up cl c x p (λ g. false≢true (sym (sym e ∙ f) ∙ within-fits n d (λ z. r (sym g ∙ sym own ∙ z)) (rw (own, g) s))));
     next = λ y r. lower y r (ℕ-discrete y x);
     blank = λ y r. L .blank y (omega arith);
   }
     where
-      lower : (y : ℕ) → y ≤ x → Dec (y ≡ x) → nextAt n work y ≡ nextMember n recs y
+      lower : (y : ℕ) → y ≤ x → Dec (y ≡ x) → nextAt n work y ≡ nextMember n cl y
       lower y r (yes g) = rw (g, L .blank x (omega arith), ← own, ← e, f) refl
       lower y r (no g) = L .next y (omega (arith, g))
 
@@ -103,7 +111,7 @@ module _ (n : ℕ) (recs work : List ℕ) (x : ℕ) (most : n ≤ 4095) (long : 
     there l = rec-at n l d (fits .0) (fits .1)
 
     first-small : firstAt n work d < 4096
-    first-small = omega (arith, L .first d some (fits .1), top-le (clOf n recs) d (x - 1))
+    first-small = omega (arith, L .first d some (fits .1), top-le cl d (x - 1))
 
     pub link-low : 1 ≤ d
     link-low = fits .0
@@ -112,7 +120,7 @@ module _ (n : ℕ) (recs work : List ℕ) (x : ℕ) (most : n ≤ 4095) (long : 
     link-index = omega (arith, fits .0, fits .1)
 
     pub link-sum : getD work (x - 1) 0 + getD work (d - 1) 0 / 4096 < 2 ^ 32
-    link-sum = omega (arith, here, there work, first-small, L .first x (λ e. absurd (omega arith)) q, top-le (clOf n recs) x (x - 1))
+    link-sum = omega (arith, here, there work, first-small, L .first x (λ e. absurd (omega arith)) q, top-le cl x (x - 1))
 
     abbrev pub one : List ℕ
     one = set work (x - 1) (getD work (x - 1) 0 + getD work (d - 1) 0 / 4096)
@@ -168,30 +176,30 @@ module _ (n : ℕ) (recs work : List ℕ) (x : ℕ) (most : n ≤ 4095) (long : 
         go (no e) =
             rw (upd-other (recOf n one) d y (recOf n one d % 4096 + 4096 * x) e, upd-other (firstAt n work) d y x e) (one-first y)
 
-    pub link-done : Linking n recs two x
+    pub link-done : Linking n cl two x
     link-done = record {
       first = λ c r s. two-first c ∙ head c r s (ℕ-discrete c d);
       next = λ y r. two-next y ∙ one-next y ∙ lower y r (ℕ-discrete y x);
       blank = λ y r. two-next y ∙ one-next y ∙ upd-other (nextAt n work) x y (firstAt n work d) (λ (e : y ≡ x). absurd (omega arith)) ∙ L .blank y (omega arith);
     }
       where
-        head : (c : ℕ) → c ≢ 0 → c ≤ n → Dec (c ≡ d) → upd (firstAt n work) d x c ≡ topMember (clOf n recs) c x
-        head c r s (yes e) = rw (e, upd-same (firstAt n work) d x) (sym (top-own (clOf n recs) d x p (sym own)))
+        head : (c : ℕ) → c ≢ 0 → c ≤ n → Dec (c ≡ d) → upd (firstAt n work) d x c ≡ topMember cl c x
+        head c r s (yes e) = rw (e, upd-same (firstAt n work) d x) (sym (top-own cl d x p (sym own)))
         head c r s (no e) =
-            upd-other (firstAt n work) d c x e ∙ L .first c r s ∙ sym (top-up (clOf n recs) c x p (λ g. e (sym g ∙ sym own)))
+            upd-other (firstAt n work) d c x e ∙ L .first c r s ∙ sym (top-up cl c x p (λ g. e (sym g ∙ sym own)))
 
-        lower : (y : ℕ) → y ≤ x → Dec (y ≡ x) → upd (nextAt n work) x (firstAt n work d) y ≡ nextMember n recs y
+        lower : (y : ℕ) → y ≤ x → Dec (y ≡ x) → upd (nextAt n work) x (firstAt n work d) y ≡ nextMember n cl y
         lower y r (yes e) =
-            rw (e, upd-same (nextAt n work) x (firstAt n work d), next-is n recs x d (sym own) (fits .0) (fits .1)) (L .first d some (fits .1))
+            rw (e, upd-same (nextAt n work) x (firstAt n work d), next-is n cl x d (sym own) (fits .0) (fits .1)) (L .first d some (fits .1))
         lower y r (no e) = upd-other (nextAt n work) x y (firstAt n work d) e ∙ L .next y (omega (arith, e))
 
 -- ---- the whole pass
 
-pub link-end : (n : ℕ) (recs work₀ work : List ℕ) → length work ≡ length work₀ → n ≤ length work₀ → drop n work ≡ drop n work₀ → Linking n recs work n
-    → work ≡ links n recs work₀
+pub link-end : (n : ℕ) (cl : ℕ → ℕ) (work₀ work : List ℕ) → length work ≡ length work₀ → n ≤ length work₀ → drop n work ≡ drop n work₀ → Linking n cl work n
+    → work ≡ links n cl work₀
 unfolding links linkWord
-link-end n recs work₀ work e long rest L =
-    by-object n (λ x w. linkWord n recs x) work₀ work e long rest
+link-end n cl work₀ work e long rest L =
+    by-object n (λ x w. linkWord n cl x) work₀ work e long rest
     (λ x p q.
     let a = L .first x (λ z. absurd (omega arith)) q in
     let b = L .next x q in
@@ -200,19 +208,19 @@ link-end n recs work₀ work e long rest L =
 
 -- ---- where nothing is written
 
-module _ (n : ℕ) (recs work : List ℕ) where
-  pub not-many : 4095 < n → work ≡ cond (linkable n recs work) (links n recs work) work
+module _ (n : ℕ) (cl : ℕ → ℕ) (recs work : List ℕ) where
+  pub not-many : 4095 < n → work ≡ cond (linkable n recs work) (links n cl work) work
   unfolding linkable
   not-many h = rw (lt-ltb 4095 n h) refl
 
-  pub short-recs : n ≤ 4095 → length recs < n → work ≡ cond (linkable n recs work) (links n recs work) work
+  pub short-recs : n ≤ 4095 → length recs < n → work ≡ cond (linkable n recs work) (links n cl work) work
   unfolding linkable short
   short-recs p h = rw (le-ltb 4095 n p, lt-ltb (length recs) n h) refl
 
-  pub short-work : n ≤ 4095 → n ≤ length recs → length work < n → work ≡ cond (linkable n recs work) (links n recs work) work
+  pub short-work : n ≤ 4095 → n ≤ length recs → length work < n → work ≡ cond (linkable n recs work) (links n cl work) work
   unfolding linkable short
   short-work p q h = rw (le-ltb 4095 n p, le-ltb (length recs) n q, lt-ltb (length work) n h) refl
 
-  pub linked : n ≤ 4095 → n ≤ length recs → n ≤ length work → links n recs work ≡ cond (linkable n recs work) (links n recs work) work
+  pub linked : n ≤ 4095 → n ≤ length recs → n ≤ length work → links n cl work ≡ cond (linkable n recs work) (links n cl work) work
   unfolding linkable short
   linked p q h = rw (le-ltb 4095 n p, le-ltb (length recs) n q, le-ltb (length work) n h) refl

@@ -11,7 +11,7 @@ use lib.Dec.{eqb}
 use borrow.Author.Tests.{eqb-true, eqb-false, eq-eqb, ne-eqb, le-leb}
 use Rattle.layout.specs.Limits.{within}
 use Rattle.graph.specs.Numbers.{gather}
-use Rattle.links.specs.Links.{topMember, clOf, nextMember}
+use Rattle.links.specs.Links.{topMember, nextMember}
 
 pub top-le : (cl : ℕ → ℕ) (d k : ℕ) → topMember cl d k ≤ k
 unfolding topMember
@@ -71,6 +71,6 @@ gather-top cl d t f (suc k) = go (eqb (cl (suc k)) d) refl (gather-top cl d t f 
     go false e h = rw e (append-nil (g k) ∙ h)
 
 -- going down the links: from a member to the next lower one
-pub next-is : (n : ℕ) (recs : List ℕ) (x d : ℕ) → clOf n recs x ≡ d → 1 ≤ d → d ≤ n → nextMember n recs x ≡ topMember (clOf n recs) d (x - 1)
+pub next-is : (n : ℕ) (cl : ℕ → ℕ) (x d : ℕ) → cl x ≡ d → 1 ≤ d → d ≤ n → nextMember n cl x ≡ topMember cl d (x - 1)
 unfolding nextMember within
-next-is n recs x d e p q = rw (e, le-leb 1 d p, le-leb d n q) refl
+next-is n cl x d e p q = rw (e, le-leb 1 d p, le-leb d n q) refl

@@ -4,7 +4,7 @@ use mathlib.Core.Path.{_≡_}
 use mathlib.Core.List.{List}
 use mathlib.Core.Logic.{_≢_}
 use Rattle.rules.specs.Buffers.{recOf}
-use Rattle.links.specs.Links.{topMember, clOf, nextMember}
+use Rattle.links.specs.Links.{topMember, nextMember}
 
 abbrev pub firstAt : ℕ → List ℕ → ℕ → ℕ
 firstAt n work = λ d. recOf n work d / 4096
@@ -13,7 +13,7 @@ abbrev pub nextAt : ℕ → List ℕ → ℕ → ℕ
 nextAt n work = λ x. recOf n work x % 4096
 
 -- The members of clusters among 1 to k are linked, those above are not.
-pub record Linking (n : ℕ) (recs work : List ℕ) (k : ℕ) : Type 0 where
-  pub first : (d : ℕ) → d ≢ 0 → d ≤ n → firstAt n work d ≡ topMember (clOf n recs) d k
-  pub next : (x : ℕ) → x ≤ k → nextAt n work x ≡ nextMember n recs x
+pub record Linking (n : ℕ) (cl : ℕ → ℕ) (work : List ℕ) (k : ℕ) : Type 0 where
+  pub first : (d : ℕ) → d ≢ 0 → d ≤ n → firstAt n work d ≡ topMember cl d k
+  pub next : (x : ℕ) → x ≤ k → nextAt n work x ≡ nextMember n cl x
   pub blank : (x : ℕ) → k < x → nextAt n work x ≡ 0

@@ -1,14 +1,15 @@
-// The members of each cluster, linked from the highest down: the walks go through a cluster's members by them.
+// The members of each cluster, or its out members alone, linked from the highest down: the walks go through a cluster by them.
 ghost use mathlib.Core.Path.{_≡_};
 ghost use mathlib.Core.Bool.{cond};
 ghost use Prim.Native.Nat.{ℕ, _-_, _/_, _%_, _≤_};
 ghost use lib.ListN.{length, drop};
 ghost use Rattle.rules.specs.Buffers.{recOf};
-ghost use Rattle.links.specs.Links.{linkable, links};
+ghost use Rattle.links.specs.Links.{linkedIn, linkedAt, linkable, links};
 ghost use Rattle.links.specs.Linking.{Linking};
 use layout::limits::OBJECT_MAX;
 use layout::limits::within;
 use records::cluster_of;
+use records::is_out;
 
 // The next lower member of the object's cluster, 0 for none.
 pub fn next_member(link: u32) -> u32
@@ -36,14 +37,24 @@ fn clear(n: u32, work: &mut [u32])
     }
 }
 
-// Puts object x, if it is in a cluster, in front of the lower members of that.
-fn link_one(n: u32, records: &[u32], work: &mut [u32], x: u32)
+// The cluster in which an object with the record r is linked; 0 where out members alone are linked and it is none.
+fn linked_in(outs: bool, r: u32) -> u32
+    ensures { λ d. ⌜ d ≡ linkedIn outs r ⌝ }
+{
+    if !outs {
+        return cluster_of(r);
+    }
+    if is_out(r) { cluster_of(r) } else { 0 }
+}
+
+// Puts object x, if it is linked in a cluster, in front of the lower ones that are.
+fn link_one(outs: bool, n: u32, records: &[u32], work: &mut [u32], x: u32)
     requires { ⌜ (n ≤ 4095) × (n ≤ length (now records)) × (n ≤ length (now work)) × (1 ≤ x) × (x ≤ n) ⌝ }
-    requires { ⌜ Linking n (now records) (now work) (x - 1) ⌝ }
-    ensures { λ _. ⌜ Linking n (now (records .entry)) (now (work .exit)) x × (drop n (now (work .exit)) ≡ drop n (now (work .entry))) ⌝ }
+    requires { ⌜ Linking n (linkedAt outs n (now records)) (now work) (x - 1) ⌝ }
+    ensures { λ _. ⌜ Linking n (linkedAt outs n (now (records .entry))) (now (work .exit)) x × (drop n (now (work .exit)) ≡ drop n (now (work .entry))) ⌝ }
 {
     let i = x as usize - 1;
-    let d = cluster_of(records[i]);
+    let d = linked_in(outs, records[i]);
     if within(1, n, d) {
         let j = d as usize - 1;
         let first = work[j] / 4096;
@@ -52,21 +63,21 @@ fn link_one(n: u32, records: &[u32], work: &mut [u32], x: u32)
     }
 }
 
-fn link_all(n: u32, records: &[u32], work: &mut [u32])
+fn link_all(outs: bool, n: u32, records: &[u32], work: &mut [u32])
     requires { ⌜ (n ≤ 4095) × (n ≤ length (now records)) × (n ≤ length (now work)) ⌝ }
-    ensures { λ _. ⌜ now (work .exit) ≡ links n (now (records .entry)) (now (work .entry)) ⌝ }
+    ensures { λ _. ⌜ now (work .exit) ≡ links n (linkedAt outs n (now (records .entry))) (now (work .entry)) ⌝ }
 {
     clear(n, work);
     let mut k = 0;
     while k < n {
         k += 1;
-        link_one(n, records, work, k);
+        link_one(outs, n, records, work, k);
     }
 }
 
-// Writes the link words of n objects; nothing changes where n is no size or a slice is too short.
-pub fn link(n: u32, records: &[u32], work: &mut [u32])
-    ensures { λ _. ⌜ now (work .exit) ≡ cond (linkable n (now (records .entry)) (now (work .entry))) (links n (now (records .entry)) (now (work .entry))) (now (work .entry)) ⌝ }
+// Writes the link words of n objects, `outs`: of the out members alone; nothing changes where n is no size or a slice is too short.
+pub fn link(outs: bool, n: u32, records: &[u32], work: &mut [u32])
+    ensures { λ _. ⌜ now (work .exit) ≡ cond (linkable n (now (records .entry)) (now (work .entry))) (links n (linkedAt outs n (now (records .entry))) (now (work .entry))) (now (work .entry)) ⌝ }
 {
     if OBJECT_MAX < n {
         return;
@@ -77,5 +88,5 @@ pub fn link(n: u32, records: &[u32], work: &mut [u32])
     if work.len() < n as usize {
         return;
     }
-    link_all(n, records, work);
+    link_all(outs, n, records, work);
 }

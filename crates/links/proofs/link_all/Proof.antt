@@ -1,25 +1,29 @@
 -- `link_all` meets its contract. Assumes nothing.
+use denote.Ref.{now}
 use Prim.Native.Nat.{_≤_, _+_, _-_}
 use mathlib.Core.Path.{_≡_, refl, sym, _∙_}
 use lib.ListN.{length, drop}
+use Rattle.links.specs.Links.{linkedAt}
 use Rattle.links.specs.Linking.{Linking}
-use Rattle.links.proofs.LinkLaws.{link-start, link-end}
+use Rattle.links.proofs.LinkLaws.{none-linked, link-start, link-end}
 use borrow.Author.Needs.{needs}
 use native.Mathlib.Omega.{arith}
 use Rattle.links.proofs.link_all.Statement.{statement}
 use Rattle.links.proofs.link_all.Tie as tie
 
 abbrev Inv-loop : tie.InvT-loop
-Inv-loop n records work₀ k₀ work k = (k ≤ n) × Linking n records work k × (length work ≡ length work₀) × (drop n work ≡ drop n work₀)
+Inv-loop outs n records work₀ k₀ work k = (k ≤ n) × Linking n (linkedAt outs n records) work k × (length work ≡ length work₀) × (drop n work ≡ drop n work₀)
 
 abbrev μ-loop : tie.MeasureT-loop
-μ-loop n records work₀ k₀ work k = n - k
+μ-loop outs n records work₀ k₀ work k = n - k
 
 clear-requires : tie.Need-clear-requires Inv-loop μ-loop
 clear-requires c κs = search needs
 
 loop-holds : tie.Need-loop-holds Inv-loop μ-loop
-loop-holds c = (omega arith, link-start _ _ _ (c .before .before .clear .ensures .0), refl, refl)
+loop-holds c =
+    let a = c .before .before .before .before .before .before .args in
+    (omega arith, link-start _ _ (linkedAt (a .outs) (a .n) (now (a .records))) (none-linked (a .outs) (a .n) (now (a .records))) (c .before .before .clear .ensures .0), refl, refl)
 
 add-k : tie.Need-add-k Inv-loop μ-loop
 add-k c = omega arith
@@ -37,7 +41,7 @@ loop-less c = omega arith
 loop-again : tie.Need-loop-again Inv-loop μ-loop
 loop-again c =
     let g = c .before .before .before .before .before .loop .inv in
-    (omega (arith, c .before .before .before .before .loop-test .taken), c .before .before .link-one .ensures .0, c .before .before .link-one .kept .1 .1 .0 ∙ g .2, c .before .before .link-one .ensures .1 ∙ g .3)
+    (omega (arith, c .before .before .before .before .loop-test .taken), c .before .before .link-one .ensures .0, c .before .before .link-one .kept .1 .1 .1 .0 ∙ g .2, c .before .before .link-one .ensures .1 ∙ g .3)
 
 same-length : tie.Need-same-length Inv-loop μ-loop
 same-length c = c .before .loop .inv .2 ∙ c .before .before .before .before .clear .kept .1 .0

@@ -9,14 +9,14 @@ use Rattle.links.proofs.link_one.Tie as tie
 sub-i : tie.Need-sub-i
 sub-i c = search needs
 
-mul-cluster-of : tie.Need-mul-cluster-of
-mul-cluster-of c = search needs
+mul-linked-in : tie.Need-mul-linked-in
+mul-linked-in c = search needs
 
-shared-slice-read-cluster-of : tie.Need-shared-slice-read-cluster-of
-shared-slice-read-cluster-of c = search needs
+shared-slice-read-linked-in : tie.Need-shared-slice-read-linked-in
+shared-slice-read-linked-in c = search needs
 
-cluster-of-requires : tie.Need-cluster-of-requires
-cluster-of-requires c κs = search needs
+linked-in-requires : tie.Need-linked-in-requires
+linked-in-requires c κs = search needs
 
 within-requires : tie.Need-within-requires
 within-requires c κs = search needs
@@ -25,13 +25,13 @@ cast-j : tie.Need-cast-j
 cast-j c = search needs
 
 sub-j : tie.Need-sub-j
-sub-j c = link-low _ _ _ _ (c .before .before .before .before .before .before .pre .0 .0) (c .before .before .before .before .before .before .pre .0 .2) (c .before .before .before .before .before .before .pre .0 .3) (c .before .before .before .before .before .before .pre .0 .4) (c .before .before .before .before .before .before .pre .1) _ (c .before .before .cluster-of .ensures) _ (c .before .within .ensures) (c .if1 .taken)
+sub-j c = link-low _ (c .before .before .before .before .before .before .args .outs) _ _ _ (c .before .before .before .before .before .before .pre .0 .0) (c .before .before .before .before .before .before .pre .0 .2) (c .before .before .before .before .before .before .pre .0 .3) (c .before .before .before .before .before .before .pre .0 .4) (c .before .before .before .before .before .before .pre .1) _ (c .before .before .linked-in .ensures) _ (c .before .within .ensures) (c .if1 .taken)
 
 mul-first : tie.Need-mul-first
 mul-first c = search needs
 
 slice-read-first : tie.Need-slice-read-first
-slice-read-first c = link-index _ _ _ _ (c .before .before .before .before .before .before .before .pre .0 .0) (c .before .before .before .before .before .before .before .pre .0 .2) (c .before .before .before .before .before .before .before .pre .0 .3) (c .before .before .before .before .before .before .before .pre .0 .4) (c .before .before .before .before .before .before .before .pre .1) _ (c .before .before .before .cluster-of .ensures) _ (c .before .before .within .ensures) (c .before .if1 .taken)
+slice-read-first c = link-index _ (c .before .before .before .before .before .before .before .args .outs) _ _ _ (c .before .before .before .before .before .before .before .pre .0 .0) (c .before .before .before .before .before .before .before .pre .0 .2) (c .before .before .before .before .before .before .before .pre .0 .3) (c .before .before .before .before .before .before .before .pre .0 .4) (c .before .before .before .before .before .before .before .pre .1) _ (c .before .before .before .linked-in .ensures) _ (c .before .before .within .ensures) (c .before .if1 .taken)
 
 mul-work : tie.Need-mul-work
 mul-work c = search needs
@@ -40,7 +40,7 @@ slice-read-work : tie.Need-slice-read-work
 slice-read-work c = search needs
 
 add-work : tie.Need-add-work
-add-work c = record { fits = link-sum _ _ _ _ (c .before .before .before .before .before .before .before .before .pre .0 .0) (c .before .before .before .before .before .before .before .before .pre .0 .2) (c .before .before .before .before .before .before .before .before .pre .0 .3) (c .before .before .before .before .before .before .before .before .pre .0 .4) (c .before .before .before .before .before .before .before .before .pre .1) _ (c .before .before .before .before .cluster-of .ensures) _ (c .before .before .before .within .ensures) (c .before .before .if1 .taken) }
+add-work c = record { fits = link-sum _ (c .before .before .before .before .before .before .before .before .args .outs) _ _ _ (c .before .before .before .before .before .before .before .before .pre .0 .0) (c .before .before .before .before .before .before .before .before .pre .0 .2) (c .before .before .before .before .before .before .before .before .pre .0 .3) (c .before .before .before .before .before .before .before .before .pre .0 .4) (c .before .before .before .before .before .before .before .before .pre .1) _ (c .before .before .before .before .linked-in .ensures) _ (c .before .before .before .within .ensures) (c .before .before .if1 .taken) }
 
 mul-work-2 : tie.Need-mul-work-2
 mul-work-2 c = search needs
@@ -52,7 +52,7 @@ mul-work-3 : tie.Need-mul-work-3
 mul-work-3 c = search needs
 
 slice-read-work-2 : tie.Need-slice-read-work-2
-slice-read-work-2 c = simp length-set (link-index _ _ _ _ (c .before .before .before .before .before .before .before .before .before .pre .0 .0) (c .before .before .before .before .before .before .before .before .before .pre .0 .2) (c .before .before .before .before .before .before .before .before .before .pre .0 .3) (c .before .before .before .before .before .before .before .before .before .pre .0 .4) (c .before .before .before .before .before .before .before .before .before .pre .1) _ (c .before .before .before .before .before .cluster-of .ensures) _ (c .before .before .before .before .within .ensures) (c .before .before .before .if1 .taken))
+slice-read-work-2 c = simp length-set (link-index _ (c .before .before .before .before .before .before .before .before .before .args .outs) _ _ _ (c .before .before .before .before .before .before .before .before .before .pre .0 .0) (c .before .before .before .before .before .before .before .before .before .pre .0 .2) (c .before .before .before .before .before .before .before .before .before .pre .0 .3) (c .before .before .before .before .before .before .before .before .before .pre .0 .4) (c .before .before .before .before .before .before .before .before .before .pre .1) _ (c .before .before .before .before .before .linked-in .ensures) _ (c .before .before .before .before .within .ensures) (c .before .before .before .if1 .taken))
 
 mul-work-4 : tie.Need-mul-work-4
 mul-work-4 c = search needs
@@ -64,25 +64,25 @@ mul-work-5 : tie.Need-mul-work-5
 mul-work-5 c = search needs
 
 slice-write-work-2 : tie.Need-slice-write-work-2
-slice-write-work-2 c = simp length-set (link-index _ _ _ _ (c .before .before .before .before .before .before .before .before .before .pre .0 .0) (c .before .before .before .before .before .before .before .before .before .pre .0 .2) (c .before .before .before .before .before .before .before .before .before .pre .0 .3) (c .before .before .before .before .before .before .before .before .before .pre .0 .4) (c .before .before .before .before .before .before .before .before .before .pre .1) _ (c .before .before .before .before .before .cluster-of .ensures) _ (c .before .before .before .before .within .ensures) (c .before .before .before .if1 .taken))
+slice-write-work-2 c = simp length-set (link-index _ (c .before .before .before .before .before .before .before .before .before .args .outs) _ _ _ (c .before .before .before .before .before .before .before .before .before .pre .0 .0) (c .before .before .before .before .before .before .before .before .before .pre .0 .2) (c .before .before .before .before .before .before .before .before .before .pre .0 .3) (c .before .before .before .before .before .before .before .before .before .pre .0 .4) (c .before .before .before .before .before .before .before .before .before .pre .1) _ (c .before .before .before .before .before .linked-in .ensures) _ (c .before .before .before .before .within .ensures) (c .before .before .before .if1 .taken))
 
 same-length : tie.Need-same-length
 same-length c = search needs
 
 returns : tie.Need-returns
-returns c = (link-done _ _ _ _ (c .before .before .before .before .before .before .before .before .before .pre .0 .0) (c .before .before .before .before .before .before .before .before .before .pre .0 .2) (c .before .before .before .before .before .before .before .before .before .pre .0 .3) (c .before .before .before .before .before .before .before .before .before .pre .0 .4) (c .before .before .before .before .before .before .before .before .before .pre .1) _ (c .before .before .before .before .before .cluster-of .ensures) _ (c .before .before .before .before .within .ensures) (c .before .before .before .if1 .taken), link-beyond _ _ _ _ (c .before .before .before .before .before .before .before .before .before .pre .0 .0) (c .before .before .before .before .before .before .before .before .before .pre .0 .2) (c .before .before .before .before .before .before .before .before .before .pre .0 .3) (c .before .before .before .before .before .before .before .before .before .pre .0 .4) (c .before .before .before .before .before .before .before .before .before .pre .1) _ (c .before .before .before .before .before .cluster-of .ensures) _ (c .before .before .before .before .within .ensures) (c .before .before .before .if1 .taken))
+returns c = (link-done _ (c .before .before .before .before .before .before .before .before .before .args .outs) _ _ _ (c .before .before .before .before .before .before .before .before .before .pre .0 .0) (c .before .before .before .before .before .before .before .before .before .pre .0 .2) (c .before .before .before .before .before .before .before .before .before .pre .0 .3) (c .before .before .before .before .before .before .before .before .before .pre .0 .4) (c .before .before .before .before .before .before .before .before .before .pre .1) _ (c .before .before .before .before .before .linked-in .ensures) _ (c .before .before .before .before .within .ensures) (c .before .before .before .if1 .taken), link-beyond _ (c .before .before .before .before .before .before .before .before .before .args .outs) _ _ _ (c .before .before .before .before .before .before .before .before .before .pre .0 .0) (c .before .before .before .before .before .before .before .before .before .pre .0 .2) (c .before .before .before .before .before .before .before .before .before .pre .0 .3) (c .before .before .before .before .before .before .before .before .before .pre .0 .4) (c .before .before .before .before .before .before .before .before .before .pre .1) _ (c .before .before .before .before .before .linked-in .ensures) _ (c .before .before .before .before .within .ensures) (c .before .before .before .if1 .taken))
 
 returns-2 : tie.Need-returns-2
-returns-2 c = (link-none _ _ _ _ (c .before .before .before .before .before .before .pre .0 .0) (c .before .before .before .before .before .before .pre .0 .2) (c .before .before .before .before .before .before .pre .0 .3) (c .before .before .before .before .before .before .pre .0 .4) (c .before .before .before .before .before .before .pre .1) _ (c .before .before .cluster-of .ensures) _ (c .before .within .ensures) (c .if1 .left), refl)
+returns-2 c = (link-none _ (c .before .before .before .before .before .before .args .outs) _ _ _ (c .before .before .before .before .before .before .pre .0 .0) (c .before .before .before .before .before .before .pre .0 .2) (c .before .before .before .before .before .before .pre .0 .3) (c .before .before .before .before .before .before .pre .0 .4) (c .before .before .before .before .before .before .pre .1) _ (c .before .before .linked-in .ensures) _ (c .before .within .ensures) (c .if1 .left), refl)
 
 pub link-one-spec : {M : Type 1} → statement M
 link-one-spec =
     tie.close
     (tie.spec
     sub-i
-    mul-cluster-of
-    shared-slice-read-cluster-of
-    cluster-of-requires
+    mul-linked-in
+    shared-slice-read-linked-in
+    linked-in-requires
     within-requires
     cast-j
     sub-j

@@ -32,7 +32,7 @@ same-length c = search needs
 returns : tie.Need-returns
 returns c =
     let p = c .before .before .before .before .before .before .pre in
-    links-filled _ _ _ _ (p .2) (p .0) (p .1) (c .before .before .link .kept .1 .1 .0) (c .before .before .link .ensures)
+    links-filled _ _ _ _ (p .2) (p .0) (p .1) (c .before .before .link .kept .1 .1 .1 .0) (c .before .before .link .ensures)
 
 pub put-links-spec : {M : Type 1} → statement M
 put-links-spec =
