@@ -43,14 +43,14 @@ pub fn bad_sizes(n: u32, r: u32) -> bool
     !within(1, OBJECT_MAX, n) || !within(1, ROOT_MAX, r)
 }
 
-// Whether the size limit is neither 0 nor in its range. No test is nested in another (see `bad_control`).
+// Whether the size limit is neither 0 nor in its range. Its tests are joined as those of `bad_control` are.
 fn bad_limit(limit: u32) -> bool
     ensures { λ b. ⌜ b ≡ badLimit limit ⌝ }
 {
     (LIMIT_MAX < limit) | ((limit != 0) & (limit < LIMIT_MIN))
 }
 
-// Whether the control record is refused. All tests are made, with no `||`: measured, a read is faster that way.
+// Whether the control record is refused. The tests are joined by `|`, of which the compiler makes one branch each (docs/BENCHMARK.md, "Read").
 pub fn bad_control(c: Control) -> bool
     ensures { λ b. ⌜ b ≡ badControl c ⌝ }
 {

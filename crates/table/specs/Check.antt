@@ -33,7 +33,7 @@ used n recs w = isPointer n w && inUse (recOf n recs w)
 unfoldable pub slotOk : ℕ → List ℕ → ℕ → ℕ → ℕ → Bool
 slotOk n recs width k w = cond (leb width k) (isNil w) (isNil w || isImmediate w || used n recs w)
 
--- how many objects fit into a records and b slots ("The heap")
+-- for how many objects a words of records and b of slots suffice ("The heap")
 unfoldable pub roomOf : ℕ → ℕ → ℕ
 roomOf a b = cond (ltb a (b / widthMax)) a (b / widthMax)
 

@@ -15,7 +15,7 @@ use layout::refusals::TOO_SHORT;
 use layout::refusals::bad_control;
 use records::legal;
 
-// How many objects both slices have room for. One test of it is one branch (docs/BENCHMARK.md, "Read").
+// How many objects both slices have room for. A test of it is one branch (docs/BENCHMARK.md, "Read").
 fn room(records: &[u32], slots: &[u32]) -> usize
     ensures { λ k. ⌜ k ≡ roomOf (length (now (records .entry))) (length (now (slots .entry))) ⌝ }
 {
