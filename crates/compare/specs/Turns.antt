@@ -2,8 +2,15 @@
 use Prim.Native.Nat.{ℕ}
 use mathlib.Core.Bool.{Bool, true, false, not, cond, _&&_, _||_}
 use lib.Dec.{eqb}
+use Rattle.lines.specs.declared.Line.{Line}
+use Rattle.calls.specs.Compare.{plainLine}
+use Rattle.compare.specs.Kinds.{partsOf}
 use Rattle.compare.specs.declared.turns.Turn.{Turn}
 use Rattle.compare.specs.declared.turns.Verdict.{Verdict}
+
+-- a player on its way to the next call
+abbrev pub reading : ℕ
+reading = 0
 
 -- a player at a call that was run
 abbrev pub atCall : ℕ
@@ -16,6 +23,14 @@ atAnalysis = 2
 -- a player behind its last line
 abbrev pub done : ℕ
 done = 3
+
+-- the line as a player runs it: plainly, or as it stands
+unfoldable pub asRun : Bool → Line → Line
+asRun plain l = cond plain (plainLine l) l
+
+-- how a player stands after a line, by the number of its call: none, an analysis (8) or another
+unfoldable pub stateAfter : Line → ℕ
+stateAfter l = cond (eqb (partsOf l .kind) 0) reading (cond (eqb (partsOf l .kind) 8) atAnalysis atCall)
 
 -- a difference: a call is missing, or the answers are not the same
 abbrev pub marked : Bool → Bool → Bool → Bool

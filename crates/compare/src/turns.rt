@@ -1,7 +1,12 @@
 // Two players beside each other: the k-th call of one with the k-th of the other. Analyses stand alone.
 ghost use mathlib.Core.Path.{_≡_};
-ghost use Rattle.compare.specs.Turns.{nextTurn, isOver, notedAfter};
+ghost use Rattle.compare.specs.Turns.{asRun, stateAfter, nextTurn, isOver, notedAfter};
 ghost use Rattle.compare.specs.Turns as T;
+use crate::kinds::ANALYSE;
+use crate::kinds::NO_CALL;
+use crate::kinds::parts_of;
+use calls::compare::plainly;
+use lines::Line;
 
 // How a player stands: on its way to the next call, at a call that was run, at an analysis that was run, behind the last line.
 pub const READING: u32 = 0;
@@ -33,6 +38,28 @@ pub struct Verdict {
     pub kind: u32,
     pub left: u64,
     pub right: u64,
+}
+
+// The line as a player runs it: plainly, or as it stands.
+pub fn as_run(line: Line, plain: bool) -> Line
+    ensures { λ l. ⌜ l ≡ asRun plain line ⌝ }
+{
+    if plain { plainly(line) } else { line }
+}
+
+// How a player stands after it ran the line.
+pub fn state_after(line: Line) -> u32
+    ensures { λ s. ⌜ s ≡ stateAfter line ⌝ }
+{
+    let p = parts_of(line);
+    if p.kind == NO_CALL {
+        return READING;
+    }
+    if p.kind == ANALYSE {
+        AT_ANALYSIS
+    } else {
+        AT_CALL
+    }
 }
 
 // Which players are next, by how they stand; `same` says whether a pair of calls answered the same.

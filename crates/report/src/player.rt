@@ -1,14 +1,10 @@
 // A list that is run on a column's buffers, line by line.
 use calls::Ran;
-use calls::compare::plainly;
 use calls::run;
-use compare::kinds::ANALYSE;
-use compare::kinds::NO_CALL;
-use compare::kinds::parts_of;
-use compare::turns::AT_ANALYSIS;
-use compare::turns::AT_CALL;
 use compare::turns::DONE;
 use compare::turns::READING;
+use compare::turns::as_run;
+use compare::turns::state_after;
 use files::reading::FAILED;
 use files::reading::LINE;
 use files::reading::Source;
@@ -70,21 +66,6 @@ pub(crate) fn standing(p: Player, state: u32) -> Player {
         line,
         ran,
         state,
-    }
-}
-
-// The line as the player runs it.
-fn as_run(line: Line, plain: bool) -> Line {
-    if plain { plainly(line) } else { line }
-}
-
-fn state_after(line: Line) -> u32 {
-    let p = parts_of(line);
-    let kind = p.kind;
-    match kind {
-        NO_CALL => READING,
-        ANALYSE => AT_ANALYSIS,
-        _ => AT_CALL,
     }
 }
 
