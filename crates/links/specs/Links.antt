@@ -20,6 +20,7 @@ clOf n recs = λ x. cluster (recOf n recs x)
 abbrev pub linkedIn : Bool → ℕ → ℕ
 linkedIn outs r = cond (outs && not (isOut r)) 0 (cluster r)
 
+-- the same for each object
 abbrev pub linkedAt : Bool → ℕ → List ℕ → ℕ → ℕ
 linkedAt outs n recs = λ x. linkedIn outs (recOf n recs x)
 
@@ -27,6 +28,7 @@ linkedAt outs n recs = λ x. linkedIn outs (recOf n recs x)
 unfoldable pub nextMember : ℕ → (ℕ → ℕ) → ℕ → ℕ
 nextMember n cl x = cond (within 1 n (cl x)) (topMember cl (cl x) (x - 1)) 0
 
+-- the link word of an object: both in one
 unfoldable pub linkWord : ℕ → (ℕ → ℕ) → ℕ → ℕ
 linkWord n cl x = nextMember n cl x + 4096 * topMember cl x n
 
