@@ -5,6 +5,7 @@ use mathlib.Core.List.{List, [], _∷_, _++_}
 use lib.Dec.{eqb, ltb}
 use Rattle.layout.specs.declared.answers.Control.{Control}
 use Rattle.layout.specs.declared.answers.Allocated.{Allocated}
+use Rattle.layout.specs.declared.answers.AllocatedInPlace.{AllocatedInPlace}
 use Rattle.layout.specs.Limits.{widthMax, slotsLen}
 use Rattle.records.specs.Record.{free, newRecord}
 use Rattle.layout.specs.ControlRecord.{badControl, withLast}
@@ -30,6 +31,17 @@ pub record Outcome : Type 0 where
 abbrev pub gives : Allocated → List ℕ → List ℕ → Outcome
 gives a recs slots = record { answer = a; records = recs; slots = slots }
 
+-- what the form answers and leaves that is lent the control record
+pub record OutcomeInPlace : Type 0 where
+  pub answer : AllocatedInPlace
+  pub control : Control
+  pub records : List ℕ
+  pub slots : List ℕ
+
+-- an answer and what stands in the record and the buffers, as an outcome
+abbrev pub givesInPlace : AllocatedInPlace → Control → List ℕ → List ℕ → OutcomeInPlace
+givesInPlace a c recs slots = record { answer = a; control = c; records = recs; slots = slots }
+
 module _ (c : Control) (width : ℕ) (recs slots : List ℕ) where
   -- the object that is given, 0 where every record is nonzero
   unfoldable pub given : ℕ
@@ -50,3 +62,14 @@ module _ (c : Control) (width : ℕ) (recs slots : List ℕ) where
         slots = eachSlot (c .n) (λ x w. cond (eqb x given) 0 w) slots;
       })
       (λ k. record { answer = record { refusal = k; object = 0; control = c }; records = recs; slots = slots })
+
+  -- the form that is lent the control record leaves there what the other answers
+  unfoldable pub allocateInPlace : OutcomeInPlace
+  allocateInPlace =
+      let o = allocate in
+      record {
+        answer = record { refusal = o .answer .refusal; object = o .answer .object };
+        control = o .answer .control;
+        records = o .records;
+        slots = o .slots;
+      }

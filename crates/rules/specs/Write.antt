@@ -26,6 +26,17 @@ pub record Outcome : Type 0 where
 abbrev pub gives : Done → List ℕ → List ℕ → Outcome
 gives a recs slots = record { answer = a; records = recs; slots = slots }
 
+-- what the form answers and leaves that is lent the control record
+pub record OutcomeInPlace : Type 0 where
+  pub refusal : ℕ
+  pub control : Control
+  pub records : List ℕ
+  pub slots : List ℕ
+
+-- an answer and what stands in the record and the buffers, as an outcome
+abbrev pub givesInPlace : ℕ → Control → List ℕ → List ℕ → OutcomeInPlace
+givesInPlace k c recs slots = record { refusal = k; control = c; records = recs; slots = slots }
+
 module _ (c : Control) (i k w : ℕ) (recs slots : List ℕ) where
   -- the heap before the write
   abbrev pub before : Heap
@@ -52,3 +63,9 @@ module _ (c : Control) (i k w : ℕ) (recs slots : List ℕ) where
         slots = set slots (widthMax * (i - 1) + k) w;
       })
       (λ m. record { answer = record { refusal = m; control = c }; records = recs; slots = slots })
+
+  -- the form that is lent the control record leaves there what the other answers
+  unfoldable pub writeInPlace : OutcomeInPlace
+  writeInPlace =
+      let o = write in
+      record { refusal = o .answer .refusal; control = o .answer .control; records = o .records; slots = o .slots }
