@@ -6,19 +6,18 @@ use mathlib.Core.List.{List, [], _∷_, _++_}
 use mathlib.Core.Bool.{Bool, true, false, cond}
 use mathlib.Core.Logic.{_≢_}
 use native.Mathlib.Nat.{mod-lt, add-zero, add-suc, suc-add, pow-succ'}
-use native.Mathlib.Decide.{ℕ-discrete}
 use native.Mathlib.Numerals.{add-one}
 use native.Mathlib.Omega.{arith}
 use lib.Arith.{lt-one}
 use lib.Dec.{lit<, eqb}
 use lib.Pow.{pow-pos, shr-lt, shr-shr}
-use lib.ListN.{length, take, getD, set, length-append, List·getD-eq-default}
-use lib.Seq.{take-suc, getD-set-same, getD-set-other, set-out}
+use lib.ListN.{length, take, getD, length-append, List·getD-eq-default}
+use lib.Seq.{take-suc}
 use lib.Bits.{bitAnd, and-shr, and-mod, and-self, and-le-r}
 use lib.Count.{ones, onesIn, ones-step, trailingZeros, under}
-use Rattle.layout.specs.Field.{field, flag, putFlag}
-use Rattle.bitmap.specs.Bits.{holds, insert, consIf, setBits, numbersIn, bitsOf, wordOf}
-use Rattle.layout.proofs.FieldLaws.{zero-flag, flag-put-same, flag-put-other}
+use Rattle.layout.specs.Field.{field, flag}
+use Rattle.bitmap.specs.Bits.{holds, consIf, setBits, numbersIn, bitsOf, wordOf}
+use Rattle.layout.proofs.FieldLaws.{zero-flag}
 
 half-lt : {w : ℕ} (k : ℕ) → w < 2 ^ suc k → w / 2 < 2 ^ k
 half-lt {w} k h = shr-lt k 1 (subst (λ (x : ℕ). w < 2 ^ x) (sym (add-one k)) h)
@@ -128,28 +127,6 @@ count-none ws = refl
 -- a word past the end is 0
 pub holds-past : (i : ℕ) (ws : List ℕ) → length ws ≤ i / 64 → holds i ws ≡ false
 holds-past i ws l = ap (flag (i % 64)) (List·getD-eq-default ws 0 l) ∙ zero-flag (i % 64)
-
-pub insert-past : (i : ℕ) (ws : List ℕ) → length ws ≤ i / 64 → insert i ws ≡ ws
-unfolding insert
-insert-past i ws l = set-out ws (i / 64) _ l
-
--- ---- what a set holds after one number more
-
-pub holds-same : (i : ℕ) (ws : List ℕ) → i / 64 < length ws → holds i (insert i ws) ≡ true
-unfolding insert
-holds-same i ws l =
-    ap (flag (i % 64)) (getD-set-same ws (i / 64) (putFlag (i % 64) true (getD ws (i / 64) 0)) 0 l)
-    ∙ flag-put-same (i % 64) true (getD ws (i / 64) 0)
-
-pub holds-other : (i j : ℕ) (ws : List ℕ) → i / 64 < length ws → j ≢ i → holds j (insert i ws) ≡ holds j ws
-unfolding insert
-holds-other i j ws l ne = by-word (ℕ-discrete (j / 64) (i / 64))
-  where
-    by-word : Dec (j / 64 ≡ i / 64) → holds j (insert i ws) ≡ holds j ws
-    by-word (yes e) =
-        rw e (ap (flag (j % 64)) (getD-set-same ws (i / 64) (putFlag (i % 64) true (getD ws (i / 64) 0)) 0 l)
-        ∙ flag-put-other (i % 64) true (getD ws (i / 64) 0) (j % 64) (λ q. ne (omega arith)))
-    by-word (no h) = ap (flag (j % 64)) (getD-set-other ws (i / 64) (j / 64) (putFlag (i % 64) true (getD ws (i / 64) 0)) 0 h)
 
 -- ---- words made from a test
 

@@ -4,20 +4,10 @@ ghost use Prim.Native.Nat.{_-_};
 ghost use lib.ListN.{length, take};
 ghost use lib.Bits.{bitAnd};
 ghost use lib.Count.{trailingZeros};
-ghost use Rattle.bitmap.specs.Bits.{holds, insert, numbersIn, mapMax};
+ghost use Rattle.bitmap.specs.Bits.{holds, numbersIn, mapMax};
 
 // The words of the longest map.
 const MAP_MAX: usize = 64;
-
-// Puts number i into the set; a number past the end changes nothing.
-pub fn put_bit(map: &mut [u64], i: usize)
-    ensures { λ _. ⌜ now (map .exit) ≡ insert i (now (map .entry)) ⌝ }
-{
-    let at = i / 64;
-    if at < map.len() {
-        map[at] = map[at] | (1 << (i % 64));
-    }
-}
 
 // Whether number i is in the set.
 pub fn has_bit(map: &[u64], i: usize) -> bool

@@ -4,4 +4,3 @@ pub mod Field
 pub mod Word
 pub mod ControlRecord
 pub mod Refusal
-pub mod RefusalNumbers

@@ -55,12 +55,6 @@ pub fn is_marked(r: u32) -> bool
     bit_at(r, 4)
 }
 
-pub fn is_postponed(r: u32) -> bool
-    ensures { λ x. ⌜ x ≡ R.isPostponed r ⌝ }
-{
-    bit_at(r, 5)
-}
-
 pub fn is_reached(r: u32) -> bool
     ensures { λ x. ⌜ x ≡ R.isReached r ⌝ }
 {
