@@ -7,7 +7,7 @@ use lib.Dec.{eqb}
 unfoldable pub field : ℕ → ℕ → ℕ → ℕ
 field p w r = r / 2 ^ p % 2 ^ w
 
--- r with v, modulo the field's width, in the field of w bits from bit p: what stands above, then v, then what stands below
+-- r with v, modulo the field's width, in the field of w bits from bit p: the bits above it, then v, then those below
 unfoldable pub put : ℕ → ℕ → ℕ → ℕ → ℕ
 put p w v r = (r / 2 ^ (w + p) * 2 ^ w + v % 2 ^ w) * 2 ^ p + r % 2 ^ p
 

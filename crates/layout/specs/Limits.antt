@@ -15,7 +15,7 @@ rootMax = 64
 abbrev pub widthMax : ℕ
 widthMax = 8
 
--- the lowest and the highest size limit ("Analysis")
+-- the lowest size limit ("Analysis")
 abbrev pub limitMin : ℕ
 limitMin = 8
 
@@ -23,15 +23,15 @@ limitMin = 8
 abbrev pub limitMax : ℕ
 limitMax = 4095
 
--- the words of 32 bits that slots and work take, and the words of 64 bits of the freed map
+-- the slots, in words of 32 bits ("The heap")
 unfoldable pub slotsLen : ℕ → ℕ
 slotsLen n = widthMax * n
 
--- work ("The heap")
+-- work, in words of 32 bits ("The heap")
 unfoldable pub workLen : ℕ → ℕ
 workLen n = 10 * n + rootMax
 
--- the freed map ("The heap")
+-- the freed map, in words of 64 bits ("The heap")
 unfoldable pub mapLen : ℕ → ℕ
 mapLen n = n / 64 + 1
 

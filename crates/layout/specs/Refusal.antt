@@ -1,4 +1,4 @@
--- The tests of a call stand in one list, in their order, each with its refusal number; the first that holds refuses.
+-- The tests of a call are one list, in their order, each with its refusal number; the first that holds refuses.
 use mathlib.Core.Bool.{Bool, cond}
 use mathlib.Core.List.{List, [], _∷_}
 use Prim.Native.Nat.{ℕ, zero, suc}

@@ -18,7 +18,7 @@ isPointer n w = within 1 n w
 unfoldable pub isImmediate : ℕ → Bool
 isImmediate w = leb (2 ^ 31) w
 
--- what may stand in a used slot of a heap of n objects, as far as the word alone tells
+-- what a used slot may hold in a heap of n objects, as far as the word alone tells
 unfoldable pub legalWord : ℕ → ℕ → Bool
 legalWord n w = isNil w || isPointer n w || isImmediate w
 

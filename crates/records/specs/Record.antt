@@ -23,7 +23,7 @@ isSink r = flag 2 r
 abbrev pub isOut : ℕ → Bool
 isOut r = flag 3 r
 
--- the three flags of a collection or analysis, 0 between calls
+-- kept and scanned by the collection that is under way ("Collection"); as the next two, 0 between calls
 abbrev pub isMarked : ℕ → Bool
 isMarked r = flag 4 r
 
