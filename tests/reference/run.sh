@@ -50,5 +50,8 @@ for seed in 1 "$fresh"; do
         cat "$out/compare.$seed.txt"
         die "differences with seed $seed, count $count"
     fi
-    grep -E ' cases |^[0-9]+ passed' "$out/compare.$seed.txt"
+    grep -E ' cases ' "$out/compare.$seed.txt"
+    checks=$(sed -nE 's/^([1-9][0-9]*) passed, 0 failed$/\1/p' "$out/compare.$seed.txt")
+    [ -n "$checks" ] || die "no check passed with seed $seed"
+    printf '%s checks passed\n' "$checks"
 done
