@@ -3,13 +3,13 @@
 use Prim.Native.Nat.{ℕ, zero, suc, _+_, _-_, _*_, _≤_, _<_, _/_}
 use mathlib.Core.Path.{_≡_, refl, sym, ap, ap₂, _∙_, subst, fun-ext}
 use mathlib.Core.Bool.{Bool, true, false, cond, _&&_, _||_}
-use mathlib.Core.List.{List, [], _∷_, map, List·Memᴰ, List·Memᴰ·head, List·Memᴰ·tail, List·Memᴰ·not-nil, List·Memᴰ·append-cases}
+use mathlib.Core.List.{List, [], _∷_, map, List·Memᴰ}
 use mathlib.Core.Logic.{_≢_, _⊎_, inl, inr}
 use native.Mathlib.Decide.{ℕ-discrete}
 use native.Mathlib.Omega.{arith}
 use lib.Dec.{leb, ltb, eqb}
 use lib.ListN.{length, set, take, drop, replicate}
-use borrow.Author.Tests.{ltb-false, eqb-false, eqb-true, eq-eqb, ne-eqb}
+use borrow.Author.Tests.{ltb-false, eqb-false, eqb-true, ne-eqb}
 use Rattle.layout.proofs.RefusalLaws.{first-passed}
 use Rattle.records.specs.Record as R
 use Rattle.layout.specs.ControlRecord.{withLast}
@@ -26,7 +26,7 @@ use Rattle.graph.proofs.Lifecycle.{given-good}
 use Rattle.graph.proofs.Lifecycle as Lifecycle
 use Rattle.graph.proofs.NumberLaws.{upd-same, upd-other}
 use Rattle.graph.proofs.State.{Good}
-use Rattle.rules.specs.Buffers.{recOf, eachRecord, eachSlot, eight, usedWords, otherWords, allOf, numbers}
+use Rattle.rules.specs.Buffers.{recOf, eachRecord, eachSlot, eight, usedWords, otherWords, allOf}
 use Rattle.rules.specs.View.{view, target}
 use Rattle.rules.specs.WellFormed.{names}
 use Rattle.rules.specs.Calls.{allocate, gave}
@@ -35,8 +35,9 @@ use Rattle.rules.specs.Allocate as Allocate
 use Rattle.rules.specs.Plain.{Plain, Played, Cell, object, plainGiven, answer, plainStep}
 use Rattle.rules.specs.Steps.{State, step}
 use Rattle.rules.specs.Demands.{heapOf, rec, rootsOf, wordsOf}
-use Rattle.rules.proofs.ListLaws.{recOf-above, map-id, length-each, recOf-each, eight-each, length-eight, set-numbers}
-use Rattle.rules.proofs.SearchLaws.{firstOf-found, candidates-of}
+use Rattle.rules.proofs.ListLaws.{length-each, length-eight, set-numbers}
+use Rattle.rules.proofs.BufferLaws.{record-given, record-kept, words-given, words-kept}
+use Rattle.rules.proofs.SearchLaws.{candidates-found, candidates-lowest}
 use Rattle.rules.proofs.BoolLaws.{or-last}
 use Rattle.rules.proofs.Invariant.{Inv, SlotWord, inv-control, enough}
 use Rattle.rules.proofs.Abstraction.{plainOf, cellOf, cellsOf, cells-size, at-free}
@@ -84,22 +85,16 @@ module _ (s : State) (I : Inv s) (i v : ℕ) (low : 1 ≤ i) (high : i ≤ s .co
   state′ = record { control = withLast i (s .control); records = recs′; slots = slots′; roots = s .roots }
 
   rec-at : recOf n recs′ i ≡ newRecord v
-  rec-at = recOf-each n (λ x r. cond (eqb x i) (newRecord v) r) (s .records) i low high (I .recs-long) ∙ rw (eq-eqb i i refl) refl
+  rec-at = record-given n i low high (newRecord v) (s .records) (I .recs-long)
 
   rec-other : (x : ℕ) → x ≢ i → recOf n recs′ x ≡ rec s x
-  rec-other x e = go x e (native.Mathlib.Decide.decLe x n)
-    where
-      go : (x : ℕ) → x ≢ i → Dec (x ≤ n) → recOf n recs′ x ≡ rec s x
-      go zero e d = unfold recOf in refl
-      go (suc j) e (yes l) =
-          recOf-each n (λ x r. cond (eqb x i) (newRecord v) r) (s .records) (suc j) (omega arith) l (I .recs-long) ∙ rw (ne-eqb (suc j) i e) refl
-      go (suc j) e (no l) = recOf-above n recs′ (suc j) (omega (arith, l)) ∙ sym (recOf-above n (s .records) (suc j) (omega (arith, l)))
+  rec-other x e = record-kept n i low high (newRecord v) (s .records) (I .recs-long) x e
 
   eight-at : eight slots′ i ≡ map (λ (w : ℕ). 0) (eight (s .slots) i)
-  eight-at = eight-each n (λ x w. cond (eqb x i) 0 w) (s .slots) i low high ∙ rw (eq-eqb i i refl) refl
+  eight-at = words-given n i low high (s .slots)
 
   eight-other : (x : ℕ) → 1 ≤ x → x ≤ n → x ≢ i → eight slots′ x ≡ eight (s .slots) x
-  eight-other x p q e = eight-each n (λ x w. cond (eqb x i) 0 w) (s .slots) x p q ∙ map-id _ (eight (s .slots) x) (λ w. rw (ne-eqb x i e) refl)
+  eight-other x p q e = words-kept n i low high (s .slots) x p q e
 
   used-at : usedWords n recs′ slots′ i ≡ replicate v 0
   unfolding usedWords
@@ -222,7 +217,8 @@ module _ (s : State) (I : Inv s) (v : ℕ) where
   unfolding given plainGiven
   same-given =
       rw (cells-size (s .control .n) (s .records) (s .slots))
-      (firstOf-same _ _ (candidates (s .control .last) (s .control .n)) (λ x. sym (at-free (s .control .n) (s .records) (s .slots) x)))
+      (firstOf-same _ _ (candidates (s .control .last) (s .control .n)) (λ x. sym (at-free (s .control .n) (s .records) (s .slots) x))
+      ∙ candidates-lowest _ (s .control .last) (s .control .n) (I .sound .last))
 
   pub allocate-tests : first (Allocate.allocateTests (s .control) v (s .records) (s .slots))
       ≡ first ((3, ltb widthMax v) ∷ (24, eqb (plainGiven (plainOf s)) 0) ∷ [])
@@ -243,9 +239,8 @@ module _ (s : State) (I : Inv s) (v : ℕ) where
       let t2 = first-passed 1 _ _ (t1 .1) in
       let t3 = first-passed 2 _ _ (t2 .1) in
       let t4 = first-passed 23 _ _ (t3 .1) in
-      let f = firstOf-found (λ x. R.free (rec s x)) (candidates (s .control .last) (s .control .n)) (unfold given in (eqb-false _ _ (t4 .0))) in
-      let b = candidates-of (s .control .last) (s .control .n) _ (I .sound .last) (f .0) in
-      unfold given R.free in (record { low = b .0; high = b .1; blank = eqb-true _ _ (f .1); narrow = ltb-false _ _ (t3 .0) })
+      let f = candidates-found (λ x. R.free (rec s x)) (s .control .last) (s .control .n) (I .sound .last) (unfold given in (eqb-false _ _ (t4 .0))) in
+      unfold given R.free in (record { low = f .0 .0; high = f .0 .1; blank = eqb-true _ _ (f .1); narrow = ltb-false _ _ (t3 .0) })
 
   abbrev stateOf : Allocate.Outcome → State
   stateOf o = record { control = o .answer .control; records = o .records; slots = o .slots; roots = s .roots }

@@ -2,17 +2,18 @@
 use Prim.Native.Nat.{ℕ, zero, suc, _+_, _-_, _*_, _/_, _≤_, _<_}
 use mathlib.Core.Path.{_≡_, refl, sym, ap, ap₂, _∙_}
 use mathlib.Core.Bool.{cond}
-use mathlib.Core.List.{List, [], _∷_, _++_}
+use mathlib.Core.List.{List, [], _∷_, _++_, map}
 use mathlib.Core.Logic.{_≢_}
+use native.Mathlib.Decide.{decLe}
 use native.Mathlib.Omega.{arith}
 use lib.Dec.{eqb}
-use lib.ListN.{getD, take, drop, set}
+use lib.ListN.{length, getD, take, drop, set}
 use lib.Seq.{getD-take, getD-drop, take-take}
 use borrow.Author.Tests.{eq-eqb, ne-eqb}
 use Rattle.layout.specs.Limits.{slotsLen}
 use Rattle.records.specs.Record.{width}
 use Rattle.rules.specs.Buffers.{recOf, eight, usedWords, eachFrom, eachRecord, eachSlot, zeros}
-use Rattle.rules.proofs.ListLaws.{each-same, each-id, each-set}
+use Rattle.rules.proofs.ListLaws.{each-same, each-id, each-set, recOf-above, recOf-each, eight-each, map-id}
 
 -- ---- reading
 
@@ -84,6 +85,25 @@ zeros-from i k l = go i 0 k l
 
 -- one object alone: its record is stored, its eight words become 0
 module _ (n g : ℕ) (low : 1 ≤ g) (high : g ≤ n) where
+  -- what is read of it then, and of the others
+  pub record-given : (v : ℕ) (recs : List ℕ) → n ≤ length recs → recOf n (eachRecord n (λ x r. cond (eqb x g) v r) recs) g ≡ v
+  record-given v recs p = recOf-each n (λ x r. cond (eqb x g) v r) recs g low high p ∙ rw (eq-eqb g g refl) refl
+
+  pub record-kept : (v : ℕ) (recs : List ℕ) → n ≤ length recs → (x : ℕ) → x ≢ g
+      → recOf n (eachRecord n (λ y r. cond (eqb y g) v r) recs) x ≡ recOf n recs x
+  record-kept v recs p x e = go x e (decLe x n)
+    where
+      go : (x : ℕ) → x ≢ g → Dec (x ≤ n) → recOf n (eachRecord n (λ y r. cond (eqb y g) v r) recs) x ≡ recOf n recs x
+      go zero e d = unfold recOf in refl
+      go (suc j) e (yes l) = recOf-each n (λ y r. cond (eqb y g) v r) recs (suc j) (omega arith) l p ∙ rw (ne-eqb (suc j) g e) refl
+      go (suc j) e (no l) = recOf-above n _ (suc j) (omega (arith, l)) ∙ sym (recOf-above n recs (suc j) (omega (arith, l)))
+
+  pub words-given : (slots : List ℕ) → eight (eachSlot n (λ x w. cond (eqb x g) 0 w) slots) g ≡ map (λ (w : ℕ). 0) (eight slots g)
+  words-given slots = eight-each n (λ x w. cond (eqb x g) 0 w) slots g low high ∙ rw (eq-eqb g g refl) refl
+
+  pub words-kept : (slots : List ℕ) (x : ℕ) → 1 ≤ x → x ≤ n → x ≢ g → eight (eachSlot n (λ y w. cond (eqb y g) 0 w) slots) x ≡ eight slots x
+  words-kept slots x p q e = eight-each n (λ y w. cond (eqb y g) 0 w) slots x p q ∙ map-id _ (eight slots x) (λ w. rw (ne-eqb x g e) refl)
+
   pub record-one : (v : ℕ) (recs : List ℕ) → eachRecord n (λ x r. cond (eqb x g) v r) recs ≡ set recs (g - 1) v
   unfolding eachRecord
   record-one v recs =

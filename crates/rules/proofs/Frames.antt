@@ -1,9 +1,9 @@
 -- Of every input: no call changes a word past those of the heap, and work is 0 after an accepted one.
 -- Assumes nothing.
-use Prim.Native.Nat.{ℕ, _+_, _-_, _*_, _<_}
+use Prim.Native.Nat.{ℕ, _+_, _-_, _*_, _≤_, _<_}
 use mathlib.Core.Path.{_≡_, refl, sym, _∙_}
-use mathlib.Core.Bool.{Bool, true, false, cond, _||_}
-use mathlib.Core.List.{List}
+use mathlib.Core.Bool.{Bool, true, false, cond, not, _||_}
+use mathlib.Core.List.{List, _∷_}
 use native.Mathlib.Omega.{arith}
 use native.Mathlib.Nat.{suc-ne-zero}
 use lib.ListN.{length, set, length-set}
@@ -11,8 +11,10 @@ use lib.Seq.{drop-set-lt}
 use borrow.Author.Tests.{not-false, leb-false, ltb-false}
 use Rattle.layout.proofs.RefusalLaws.{first-passed}
 use Rattle.layout.specs.Limits.{widthMax, slotsLen, workLen, mapLen}
-use Rattle.layout.specs.Refusal.{first}
-use Rattle.records.specs.Record.{width, isSink}
+use Rattle.layout.specs.ControlRecord.{badControl}
+use Rattle.layout.specs.Refusal.{Test, first}
+use Rattle.layout.specs.Word.{isPointer}
+use Rattle.records.specs.Record.{width, isSink, free, damaged}
 use Rattle.layout.specs.declared.answers.Control.{Control}
 use Rattle.records.proofs.RecordLaws.{legal-facts, undamaged}
 use Rattle.graph.specs.Heap.{Heap}
@@ -35,7 +37,7 @@ use Rattle.rules.proofs.Simulation.{all-by, pointer-facts}
 
 -- ---- work after an accepted analysis or collection
 
-clears : (k : ℕ) (l : List ℕ) → short k l ≡ false → Cleared k (zeros k l)
+pub clears : (k : ℕ) (l : List ℕ) → short k l ≡ false → Cleared k (zeros k l)
 unfolding short zeros
 clears k l e = take-zeros 0 k l (ltb-false (length l) k e)
 
@@ -108,21 +110,45 @@ allocate-within c width recs slots =
     all-by (λ (o : Allocate.Outcome). Within (c .n) recs (o .records) × Within (slotsLen (c .n)) slots (o .slots)) _ _ _
     (λ z. (by-record (c .n) _ recs, by-slot (c .n) _ slots)) (λ m. (same (c .n) recs, same (slotsLen (c .n)) slots))
 
--- the slot that a write stores into is one of the object's eight
-slot-fits : (c : Control) (i k w : ℕ) (recs slots : List ℕ) → first (Write.writeTests c i k w recs slots) ≡ 0
-    → widthMax * (i - 1) + k < slotsLen (c .n)
-unfolding Write.writeTests slotsLen
-slot-fits c i k w recs slots z =
+-- an object that the tests of read, show and write passed
+pub record Named (c : Control) (i : ℕ) (recs slots : List ℕ) : Type 0 where
+  pub low : 1 ≤ i
+  pub high : i ≤ c .n
+  pub narrow : width (recOf (c .n) recs i) ≤ 8
+  pub wide : c .n ≤ length recs
+  pub long : 8 * c .n ≤ length slots
+
+pub named : (c : Control) (i : ℕ) (recs slots : List ℕ) (l : List Test)
+    → first
+    ((20, badControl c) ∷ (2, short (c .n) recs || short (slotsLen (c .n)) slots) ∷ (4, not (isPointer (c .n) i))
+    ∷ (21, damaged (c .n) (recOf (c .n) recs i)) ∷ (22, free (recOf (c .n) recs i)) ∷ l) ≡ 0
+    → Named c i recs slots × (first l ≡ 0)
+named c i recs slots l z =
     let t1 = first-passed 19 _ _ z in
     let t2 = first-passed 1 _ _ (t1 .1) in
     let t3 = first-passed 3 _ _ (t2 .1) in
     let t4 = first-passed 20 _ _ (t3 .1) in
     let t5 = first-passed 21 _ _ (t4 .1) in
-    let t6 = first-passed 4 _ _ (t5 .1) in
     let r = pointer-facts (c .n) i (not-false _ (t3 .0)) in
-    let a = legal-facts (c .n) (recOf (c .n) recs i) (undamaged (c .n) (recOf (c .n) recs i) (t4 .0) (t5 .0)) .narrow in
-    let b = leb-false (width (recOf (c .n) recs i)) k (t6 .0) in
-    omega (arith, r .0, r .1, a, b)
+    let s = or-split (short (c .n) recs) (short (slotsLen (c .n)) slots) (t2 .0) in (
+      record {
+        low = r .0;
+        high = r .1;
+        narrow = legal-facts (c .n) (recOf (c .n) recs i) (undamaged (c .n) (recOf (c .n) recs i) (t4 .0) (t5 .0)) .narrow;
+        wide = unfold short in (ltb-false (length recs) (c .n) (s .0));
+        long = unfold short slotsLen in (ltb-false (length slots) (8 * c .n) (s .1));
+      },
+      t5 .1,
+    )
+
+-- the slot that a write stores into is one of the object's eight
+pub slot-fits : (c : Control) (i k w : ℕ) (recs slots : List ℕ) → first (Write.writeTests c i k w recs slots) ≡ 0
+    → widthMax * (i - 1) + k < slotsLen (c .n)
+unfolding Write.writeTests slotsLen
+slot-fits c i k w recs slots z =
+    let f = named c i recs slots _ z in
+    let b = leb-false (width (recOf (c .n) recs i)) k (first-passed 4 _ _ (f .1) .0) in
+    omega (arith, f .0 .low, f .0 .high, f .0 .narrow, b)
 
 store-size : (H : Heap) (o k t : ℕ) → store H o k t .n ≡ H .n
 unfolding store storeBy
@@ -143,14 +169,18 @@ write-within c i k w recs slots =
     size : view (c .n) recs slots .n ≡ c .n
     size = unfold view in refl
 
+pub root-fits : (c : Control) (j w : ℕ) (recs roots : List ℕ) → first (SetRoot.setRootTests c j w recs roots) ≡ 0 → (j < c .r) × (c .r ≤ length roots)
+unfolding SetRoot.setRootTests short
+root-fits c j w recs roots z =
+    let t1 = first-passed 19 _ _ z in
+    let t2 = first-passed 1 _ _ (t1 .1) in
+    let t3 = first-passed 6 _ _ (t2 .1) in
+    (leb-false (c .r) j (t3 .0), ltb-false (length roots) (c .r) (or-split (short (c .n) recs) (short (c .r) roots) (t2 .0) .1))
+
 pub root-within : (c : Control) (j w : ℕ) (recs roots : List ℕ) → Within (c .r) roots (SetRoot.setRoot c j w recs roots .roots)
 unfolding SetRoot.setRoot
 root-within c j w recs roots =
-    all-by (λ (o : SetRoot.Outcome). Within (c .r) roots (o .roots)) _ _ _ (λ z. one (c .r) roots j w (fits z)) (λ m. same (c .r) roots)
-  where
-    fits : first (SetRoot.setRootTests c j w recs roots) ≡ 0 → j < c .r
-    fits z = unfold SetRoot.setRootTests in
-        (let t1 = first-passed 19 _ _ z in let t2 = first-passed 1 _ _ (t1 .1) in let t3 = first-passed 6 _ _ (t2 .1) in leb-false (c .r) j (t3 .0))
+    all-by (λ (o : SetRoot.Outcome). Within (c .r) roots (o .roots)) _ _ _ (λ z. one (c .r) roots j w (root-fits c j w recs roots z .0)) (λ m. same (c .r) roots)
 
 pub declare-within : (c : Control) (i : ℕ) (recs slots roots : List ℕ) → Within (c .n) recs (DeclareSink.declareSink c i recs slots roots .records)
 unfolding DeclareSink.declareSink

@@ -16,6 +16,7 @@ pub mod Simulation
 -- ---- every input: refusals, what may change, that the walks end
 pub mod Refused
 pub mod Frames
+pub mod Answers
 pub mod WalksEnd
 -- ---- call by call, in a heap with the invariant
 pub mod ReadLaws

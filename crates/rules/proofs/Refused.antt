@@ -1,4 +1,4 @@
--- Of every input: the refusal is the number of the first test that holds, and a refused call gives zeros and all as it was handed in.
+-- Of every input: the tests are in order, the refusal is the number of the first that holds, and a refused call gives zeros and all as it was handed in.
 -- Assumes nothing.
 use Prim.Native.Nat.{ℕ, zero, suc, _≤_}
 use mathlib.Core.Path.{_≡_, refl, sym, ap, _∙_}
@@ -7,8 +7,19 @@ use mathlib.Core.List.{List, [], _∷_}
 use mathlib.Core.Logic.{_≢_}
 use native.Mathlib.Omega.{arith}
 use Rattle.layout.specs.Refusal.{Test, first, by, outcome}
+use Rattle.layout.specs.declared.answers.Control.{Control}
 use Rattle.layout.proofs.RefusalLaws.{by-number}
-use Rattle.rules.specs.Demands.{Refuses, here, later, Decided}
+use Rattle.rules.specs.Create as Create
+use Rattle.rules.specs.Allocate as Allocate
+use Rattle.rules.specs.Read as Read
+use Rattle.rules.specs.Show as Show
+use Rattle.rules.specs.Write as Write
+use Rattle.rules.specs.SetRoot as SetRoot
+use Rattle.rules.specs.DeclareSink as DeclareSink
+use Rattle.rules.specs.Analyse as Analyse
+use Rattle.rules.specs.Collect.{Kind}
+use Rattle.rules.specs.Collect as Collect
+use Rattle.rules.specs.Demands.{order, inOrder, Refuses, here, later, Decided}
 
 pub refuses : (T : List Test) (k : ℕ) → 1 ≤ k → first T ≡ k → Refuses k T
 unfolding first
@@ -34,11 +45,50 @@ module _ {A : Type 0} (T : List Test) (a : A) (r : ℕ → A) (refusal : A → �
       go zero = unfold by in zeroth
       go (suc m) = unfold by in (kth (suc m))
 
-  pub decided : Decided T (outcome T a r) refusal r
-  decided = record {
+  pub decided : inOrder order T ≡ true → Decided T (outcome T a r) refusal r
+  decided e = record {
+    ordered = e;
     numbers = λ k p. (λ e. refuses T k p (sym answered ∙ e), λ h. answered ∙ refused-first T k h);
     unchanged = λ h. refused (λ e. h (answered ∙ e)) ∙ ap r (sym answered);
   }
     where
       refused : first T ≢ 0 → outcome T a r ≡ r (first T)
       refused h = unfold outcome in (by-number a r (first T) h)
+
+-- ---- the tests of each call are in order
+
+pub create-ordered : (n r : ℕ) (recs slots roots : List ℕ) → inOrder order (Create.createTests n r recs slots roots) ≡ true
+unfolding inOrder Create.createTests
+create-ordered n r recs slots roots = refl
+
+pub allocate-ordered : (c : Control) (width : ℕ) (recs slots : List ℕ) → inOrder order (Allocate.allocateTests c width recs slots) ≡ true
+unfolding inOrder Allocate.allocateTests
+allocate-ordered c width recs slots = refl
+
+pub read-ordered : (c : Control) (i k : ℕ) (recs slots : List ℕ) → inOrder order (Read.readTests c i k recs slots) ≡ true
+unfolding inOrder Read.readTests
+read-ordered c i k recs slots = refl
+
+pub show-ordered : (c : Control) (i : ℕ) (recs slots : List ℕ) → inOrder order (Show.showTests c i recs slots) ≡ true
+unfolding inOrder Show.showTests
+show-ordered c i recs slots = refl
+
+pub write-ordered : (c : Control) (i k w : ℕ) (recs slots : List ℕ) → inOrder order (Write.writeTests c i k w recs slots) ≡ true
+unfolding inOrder Write.writeTests
+write-ordered c i k w recs slots = refl
+
+pub root-ordered : (c : Control) (j w : ℕ) (recs roots : List ℕ) → inOrder order (SetRoot.setRootTests c j w recs roots) ≡ true
+unfolding inOrder SetRoot.setRootTests
+root-ordered c j w recs roots = refl
+
+pub declare-ordered : (c : Control) (i : ℕ) (recs slots roots : List ℕ) → inOrder order (DeclareSink.declareTests c i recs slots roots) ≡ true
+unfolding inOrder DeclareSink.declareTests
+declare-ordered c i recs slots roots = refl
+
+pub analyse-ordered : (c : Control) (recs slots roots work : List ℕ) → inOrder order (Analyse.analyseTests c recs slots roots work) ≡ true
+unfolding inOrder Analyse.analyseTests
+analyse-ordered c recs slots roots work = refl
+
+pub collect-ordered : (kind : Kind) (c : Control) (recs slots roots work map : List ℕ) → inOrder order (Collect.collectTests kind c recs slots roots work map) ≡ true
+unfolding inOrder Collect.collectTests
+collect-ordered kind c recs slots roots work map = refl

@@ -1,15 +1,15 @@
 -- The demands on the definitions: what holds of every input (1), of every heap that the calls made (2), and of every list of calls (3).
-use Prim.Native.Nat.{ℕ, _+_, _*_, _≤_}
+use Prim.Native.Nat.{ℕ, _+_, _-_, _*_, _≤_, _<_}
 use mathlib.Core.Path.{_≡_}
 use mathlib.Core.Bool.{Bool, true, false, not, _&&_, _||_, cond}
 use mathlib.Core.List.{List, [], _∷_}
-use mathlib.Core.Logic.{_≢_, _↔_}
+use mathlib.Core.Logic.{_≢_, _⊎_, _↔_}
 use lib.Dec.{eqb, ltb}
-use lib.ListN.{length, getD, take, drop, replicate}
+use lib.ListN.{length, getD, set, take, drop, replicate}
 use Rattle.layout.specs.Limits.{slotsLen, workLen, mapLen}
-use Rattle.records.specs.Record.{inUse, isWritten, isSink, isOut, cluster}
+use Rattle.records.specs.Record.{inUse, isWritten, isSink, isOut, width, cluster, loose}
 use Rattle.bitmap.specs.Bits.{holds, numbersIn}
-use Rattle.layout.specs.ControlRecord.{newControl}
+use Rattle.layout.specs.ControlRecord.{newControl, withLast, withWriteLoss, withAnalysis}
 use Rattle.layout.specs.Refusal.{Test}
 use Rattle.layout.specs.declared.answers.Control.{Control}
 use Rattle.layout.specs.declared.answers.WordRead.{WordRead}
@@ -22,7 +22,7 @@ use Rattle.graph.specs.Analysis.{items, begin, finish, walked}
 use Rattle.graph.specs.Analysis as Graph
 use Rattle.graph.specs.DepthFirst.{Done}
 use Rattle.graph.specs.Writes.{store, declare}
-use Rattle.rules.specs.Buffers.{recOf, usedWords}
+use Rattle.rules.specs.Buffers.{recOf, eight, usedWords}
 use Rattle.rules.specs.View.{target, view}
 use Rattle.rules.specs.WellFormed.{wellFormed}
 use Rattle.rules.specs.Create as Create
@@ -42,13 +42,25 @@ use Rattle.rules.specs.Steps.{State, created, step, answersOf, afterAll}
 
 -- ==== demand 1: every input, and no hypothesis
 
+-- the order of the refusals, whatever the call
+abbrev pub order : List ℕ
+order = 1 ∷ 20 ∷ 2 ∷ 3 ∷ 4 ∷ 7 ∷ 21 ∷ 22 ∷ 5 ∷ 6 ∷ 23 ∷ 25 ∷ 24 ∷ []
+
+-- the numbers of the tests are some of the list's, in its order
+unfoldable pub inOrder : List ℕ → List Test → Bool
+inOrder [] [] = true
+inOrder [] (t ∷ T) = false
+inOrder (k ∷ l) [] = true
+inOrder (k ∷ l) (t ∷ T) = inOrder l (cond (eqb k (t .0)) T (t ∷ T))
+
 -- the test of number k holds, and none before it in the list does
 pub data Refuses (k : ℕ) : List Test → Type 0 where
   here : {t : Test} {l : List Test} → t .0 ≡ k → t .1 ≡ true → Refuses k (t ∷ l)
   later : {t : Test} {l : List Test} → t .1 ≡ false → Refuses k l → Refuses k (t ∷ l)
 
--- a call's outcome has the refusal k, for k above 0, exactly where its tests refuse with k; and refused, it is what is given for that
+-- a call's tests are in order; its outcome has the refusal k, for k above 0, exactly where they refuse with k; refused, it is what is given for that
 pub record Decided {A : Type 0} (tests : List Test) (outcome : A) (refusal : A → ℕ) (refused : ℕ → A) : Type 0 where
+  pub ordered : inOrder order tests ≡ true
   pub numbers : (k : ℕ) → 1 ≤ k → (refusal outcome ≡ k) ↔ Refuses k tests
   pub unchanged : refusal outcome ≢ 0 → outcome ≡ refused (refusal outcome)
 
@@ -60,9 +72,33 @@ Within k before after = (length after ≡ length before) × (drop k after ≡ dr
 abbrev pub Cleared : ℕ → List ℕ → Type 0
 Cleared k l = take k l ≡ replicate k 0
 
+-- its word at place j becomes w, and no other changes
+abbrev pub Stored : ℕ → ℕ → List ℕ → List ℕ → Type 0
+Stored j w before after = (j < length before) × (after ≡ set before j w)
+
+-- after a write the record of object i has written set, and any other is as it was or, of a member of its cluster, without cluster and out
+abbrev pub Touches : ℕ → ℕ → (ℕ → ℕ) → (ℕ → ℕ) → Type 0
+Touches n i was now =
+    (isWritten (now i) ≡ true)
+    × ((x : ℕ) → Obj n x → x ≢ i → (now x ≡ was x) ⊎ ((cluster (was i) ≢ 0) × (cluster (was x) ≡ cluster (was i)) × (now x ≡ loose (was x))))
+
 -- the walk of a collection has come to its end
 abbrev pub Ended : Heap → Walk → Type 0
 Ended H w = (w .todo ≡ []) × ((x : ℕ) → Obj (H .n) x → w .flags postponed x ≡ false)
+
+-- the place of x in the order last + 1 to n, then 1 to last
+unfoldable pub place : ℕ → ℕ → ℕ → ℕ
+place last n x = cond (ltb last x) (x - last) (n - last + x)
+
+-- an accepted allocate gives i, the first free object in that order: in use with that width and no other bit, its words 0; no other object changes
+pub record Gives (c : Control) (width : ℕ) (recs slots : List ℕ) (i : ℕ) (o : Allocate.Outcome) : Type 0 where
+  pub object : Obj (c .n) i
+  pub free : recOf (c .n) recs i ≡ 0
+  pub first : (x : ℕ) → Obj (c .n) x → recOf (c .n) recs x ≡ 0 → place (c .last) (c .n) i ≤ place (c .last) (c .n) x
+  pub used : recOf (c .n) (o .records) i ≡ 1 + 256 * width
+  pub words : eight (o .slots) i ≡ replicate 8 0
+  pub others : (x : ℕ) → Obj (c .n) x → x ≢ i → (recOf (c .n) (o .records) x ≡ recOf (c .n) recs x) × (eight (o .slots) x ≡ eight slots x)
+  pub control : o .answer .control ≡ withLast i c
 
 -- call by call: refused, it answers zeros with the control record and gives back every buffer as it was; else no word past the heap's changes, and work is 0
 pub record Demand1 : Type 0 where
@@ -71,35 +107,51 @@ pub record Demand1 : Type 0 where
       Decided (Create.createTests n r recs slots roots) o (λ o. o .answer .refusal)
       (λ k. record { answer = record { refusal = k; control = newControl 0 0 }; records = recs; slots = slots; roots = roots })
       × Within n recs (o .records) × Within (slotsLen n) slots (o .slots) × Within r roots (o .roots)
+      × (o .answer .refusal ≡ 0
+      → (o .answer .control ≡ newControl n r) × Cleared n (o .records) × Cleared (slotsLen n) (o .slots) × Cleared r (o .roots))
   pub allocated : (c : Control) (width : ℕ) (recs slots : List ℕ)
       → let o = Allocate.allocate c width recs slots in
       Decided (Allocate.allocateTests c width recs slots) o (λ o. o .answer .refusal)
       (λ k. record { answer = record { refusal = k; object = 0; control = c }; records = recs; slots = slots })
       × Within (c .n) recs (o .records) × Within (slotsLen (c .n)) slots (o .slots)
+      × (o .answer .refusal ≡ 24 → (x : ℕ) → Obj (c .n) x → recOf (c .n) recs x ≢ 0)
+      × (o .answer .refusal ≡ 0 → Gives c width recs slots (o .answer .object) o)
+      × (Allocate.allocateInPlace c width recs slots
+      ≡ Allocate.givesInPlace (record { refusal = o .answer .refusal; object = o .answer .object }) (o .answer .control) (o .records) (o .slots))
   pub wordRead : (c : Control) (i k : ℕ) (recs slots : List ℕ)
-      → Decided (Read.readTests c i k recs slots) (Read.read c i k recs slots) (λ (a : WordRead). a .refusal) (λ m. record { refusal = m; word = 0; control = c })
+      → let a = Read.read c i k recs slots in
+      Decided (Read.readTests c i k recs slots) a (λ (a : WordRead). a .refusal) (λ m. record { refusal = m; word = 0; control = c })
+      × (a .control ≡ c) × (a .refusal ≡ 0 → (8 * (i - 1) + k < length slots) × (a .word ≡ getD slots (8 * (i - 1) + k) 0))
   pub shown : (c : Control) (i : ℕ) (recs slots : List ℕ)
-      → Decided (Show.showTests c i recs slots) (Show.show c i recs slots) (λ o. o .answer .refusal)
+      → let o = Show.show c i recs slots in
+      Decided (Show.showTests c i recs slots) o (λ o. o .answer .refusal)
       (λ k. record { answer = record { refusal = k; start = 0; length = 0; control = c }; words = [] })
+      × (o .answer .control ≡ c)
+      × (o .answer .refusal ≡ 0 → (o .answer .start ≡ 8 * (i - 1)) × (o .answer .length ≡ width (recOf (c .n) recs i))
+      × (o .answer .start + o .answer .length ≤ length slots) × (o .words ≡ take (o .answer .length) (drop (o .answer .start) slots)))
   pub written : (c : Control) (i k w : ℕ) (recs slots : List ℕ)
       → let o = Write.write c i k w recs slots in
       Decided (Write.writeTests c i k w recs slots) o (λ o. o .answer .refusal)
       (λ m. record { answer = record { refusal = m; control = c }; records = recs; slots = slots })
       × Within (c .n) recs (o .records) × Within (slotsLen (c .n)) slots (o .slots)
+      × (o .answer .control ≡ withWriteLoss (o .answer .control .«write_loss») c)
+      × (o .answer .refusal ≡ 0 → Stored (8 * (i - 1) + k) w slots (o .slots) × Touches (c .n) i (recOf (c .n) recs) (recOf (c .n) (o .records)))
+      × (Write.writeInPlace c i k w recs slots ≡ Write.givesInPlace (o .answer .refusal) (o .answer .control) (o .records) (o .slots))
   pub rootSet : (c : Control) (j w : ℕ) (recs roots : List ℕ)
       → let o = SetRoot.setRoot c j w recs roots in
       Decided (SetRoot.setRootTests c j w recs roots) o (λ o. o .answer .refusal) (λ k. record { answer = record { refusal = k; control = c }; roots = roots })
-      × Within (c .r) roots (o .roots)
+      × Within (c .r) roots (o .roots) × (o .answer .control ≡ c) × (o .answer .refusal ≡ 0 → Stored j w roots (o .roots))
   pub declared : (c : Control) (i : ℕ) (recs slots roots : List ℕ)
       → let o = DeclareSink.declareSink c i recs slots roots in
       Decided (DeclareSink.declareTests c i recs slots roots) o (λ o. o .answer .refusal)
       (λ k. record { answer = record { refusal = k; control = c }; records = recs })
-      × Within (c .n) recs (o .records)
+      × Within (c .n) recs (o .records) × (o .answer .control ≡ c)
   pub analysed : (c : Control) (recs slots roots work : List ℕ)
       → let o = Analyse.analyse c recs slots roots work in
       Decided (Analyse.analyseTests c recs slots roots work) o (λ o. o .answer .refusal)
       (λ k. record { answer = record { refusal = k; clusters = 0; members = 0; control = c }; records = recs; work = work })
       × Within (c .n) recs (o .records) × Within (workLen (c .n)) work (o .work) × (o .answer .refusal ≡ 0 → Cleared (workLen (c .n)) (o .work))
+      × (o .answer .refusal ≡ 0 → o .answer .control ≡ withAnalysis (o .answer .control .limit) (o .answer .control .«out_loss») c)
   -- of either kind
   pub collected : (kind : Kind) (c : Control) (recs slots roots work map : List ℕ)
       → let o = Collect.collect kind c recs slots roots work map in
@@ -112,7 +164,7 @@ pub record Demand1 : Type 0 where
         map = map;
       })
       × Within (c .n) recs (o .records) × Within (slotsLen (c .n)) slots (o .slots) × Within (workLen (c .n)) work (o .work)
-      × Within (mapLen (c .n)) map (o .map) × (o .answer .refusal ≡ 0 → Cleared (workLen (c .n)) (o .work))
+      × Within (mapLen (c .n)) map (o .map) × (o .answer .refusal ≡ 0 → Cleared (workLen (c .n)) (o .work)) × (o .answer .control ≡ c)
   -- in every well-formed heap the walks of both collections and of the analysis, which make a number of steps, are then at their end
   pub ends : (n r : ℕ) (recs slots roots : List ℕ) → wellFormed n r recs slots roots ≡ true
       → let H = view n recs slots in

@@ -8,9 +8,8 @@ use Rattle.layout.specs.Limits.{widthMax, mapLen}
 use Rattle.layout.specs.Word.{isNil, isPointer, legalWord}
 use Rattle.bitmap.specs.Bits.{wordOf}
 use Rattle.layout.specs.Refusal.{Test, outcome}
-use Rattle.graph.specs.Numbers.{count, gather}
+use Rattle.graph.specs.Numbers.{count, gather, lowest}
 use Rattle.rules.specs.Buffers.{eachFrom, numbers}
-use Rattle.rules.specs.Allocate.{candidates, firstOf}
 use Rattle.rules.specs.Calls.{Call, allocate, read, show, write, setRoot, declareSink, collect, analyse, Answer, gave, gotWord, gotWords, did, swept}
 
 -- free, or an object: its words, as many as its width, and whether it is a sink
@@ -88,9 +87,11 @@ module _ (P : Plain) where
 
   -- ---- tests
 
-  -- the number that allocate gives, 0 where none is free
+  -- the number that allocate gives: the lowest free one past last, else the lowest up to last; 0 where none is free
   unfoldable pub plainGiven : ℕ
-  plainGiven = firstOf (λ x. isFree (cellAt (P .cells) x)) (candidates (P .last) plainSize)
+  plainGiven =
+      let i = lowest (λ x. ltb (P .last) x && isFree (cellAt (P .cells) x)) plainSize in
+      cond (eqb i 0) (lowest (λ x. isFree (cellAt (P .cells) x)) (P .last)) i
 
   -- the tests of a named object
   unfoldable pub objectTests : ℕ → List Test
