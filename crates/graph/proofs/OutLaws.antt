@@ -3,7 +3,7 @@
 use Prim.Native.Nat.{ℕ, _+_}
 use mathlib.Core.Path.{_≡_, refl, sym, ap, ap₂, _∙_}
 use mathlib.Core.Bool.{Bool, true, false, not, cond, _&&_}
-use mathlib.Core.List.{List, [], _∷_}
+use mathlib.Core.List.{List, [], _∷_, List·Memᴰ, List·Memᴰ·head, List·Memᴰ·tail}
 use mathlib.Core.Logic.{_≢_}
 use native.Mathlib.Decide.{ℕ-discrete}
 use lib.Dec.{ltb, eqb}
@@ -51,6 +51,18 @@ pub outBit-same : (kids kids′ : ℕ → List ℕ) (sink : ℕ → Bool) (cl cl
 unfolding outBit
 outBit-same kids kids′ sink cl cl′ x e f h =
     rw (← e, ← f) (ap (λ k. not (eqb (cl x) 0) && ltb 0 k) (outCount-same sink cl cl′ (cl x) h (kids x)))
+
+-- the same, where the clusters are equal at x and at its words
+pub outBit-words : (kids kids′ : ℕ → List ℕ) (sink : ℕ → Bool) (cl cl′ : ℕ → ℕ) (x : ℕ) → kids x ≡ kids′ x → cl x ≡ cl′ x
+    → ((y : ℕ) → List·Memᴰ y (kids x) → cl y ≡ cl′ y) → outBit kids sink cl x ≡ outBit kids′ sink cl′ x
+unfolding outBit outCount leaves
+outBit-words kids kids′ sink cl cl′ x e f h = rw (← e, ← f) (ap (λ k. not (eqb (cl x) 0) && ltb 0 k) (counted (kids x) h))
+  where
+    counted : (l : List ℕ) → ((y : ℕ) → List·Memᴰ y l → cl y ≡ cl′ y) → outCount sink cl (cl x) l ≡ outCount sink cl′ (cl x) l
+    counted [] g = refl
+    counted (y ∷ l) g =
+        ap₂ (λ z k. bit (not (eqb y 0) && (not (sink y) && not (eqb z (cl x)))) + k) (g y (List·Memᴰ·head refl))
+        (counted l (λ z m. g z (List·Memᴰ·tail m)))
 
 pub outBit-none : (kids : ℕ → List ℕ) (sink : ℕ → Bool) (cl : ℕ → ℕ) (x : ℕ) → cl x ≡ 0 → outBit kids sink cl x ≡ false
 unfolding outBit

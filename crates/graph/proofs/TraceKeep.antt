@@ -1,19 +1,20 @@
--- What a collection keeps: the starts, and with an object all that it points at. The clusters need not be connected for that.
+-- What a collection keeps: the starts, with an object all that it points at, and with a head its members. The clusters need not be connected for that.
 -- Assumes nothing.
 use Prim.Native.Nat.{ℕ, _≤_}
 use mathlib.Core.Path.{_≡_, refl, sym, subst, _∙_}
 use mathlib.Core.Bool.{Bool, true, false, true≢false, _||_, _&&_, not}
-use mathlib.Core.List.{List, List·Memᴰ, List·Memᴰ·not-nil}
+use mathlib.Core.List.{List, [], _∷_, List·Memᴰ, List·Memᴰ·not-nil, List·Memᴰ·append-cases}
 use mathlib.Core.Logic.{_≢_, _⊎_, inl, inr, _↔_}
 use native.Mathlib.Omega.{arith}
 use lib.Dec.{eqb}
 use borrow.Author.Tests.{eqb-false, eq-eqb, ne-eqb}
-use Rattle.graph.specs.Numbers.{Obj, count}
-use Rattle.graph.specs.Heap.{Heap, pointers, targets, starts, Reach}
+use Rattle.graph.specs.Numbers.{Obj, count, gather}
+use Rattle.graph.specs.Heap.{Heap, pointers, targets, withMembers, starts, Reach}
 use Rattle.graph.specs.Clusters.{outBit}
 use Rattle.graph.specs.Trace.{marked, reached, Flags, Walk, traced, keeps}
 use Rattle.graph.proofs.NumberLaws.{count-within, count-ext}
-use Rattle.graph.proofs.MemberLaws.{word-pointer, pointer-word, pointer-nonzero, no-out}
+use Rattle.graph.proofs.Paths.{Heads}
+use Rattle.graph.proofs.MemberLaws.{word-pointer, pointer-word, pointer-nonzero, member-of, no-out}
 use Rattle.graph.proofs.ReachLaws.{reach-all, sink-start}
 use Rattle.graph.proofs.FlagLaws.{Is}
 use Rattle.graph.proofs.TraceSafe.{Ranged, StartsIn}
@@ -159,8 +160,19 @@ module _ (H : Heap) where
           go (inl i) = by-mark i
           go (inr (nz, i)) = by-out (out x) refl nz i
 
-      -- so all that is reachable is kept
-      pub reach-kept : {x : ℕ} → Reach (targets H) (pointers from) x → keeps H (traced H from .flags) x ≡ true
-      reach-kept r =
-          reach-all (targets H) (pointers from) (λ x. Obj n x × (keeps H (traced H from .flags) x ≡ true)) (λ x m. (si x m, start-kept x m))
-          (λ x y t m. (R x y (t .0) m, kept-closed x y (t .0) (t .1) m)) r .1
+      -- with a head its members are kept, so all that is reachable is
+      pub reach-kept : Heads cluster → {x : ℕ} → Reach (withMembers H) (pointers from) x → keeps H (traced H from .flags) x ≡ true
+      reach-kept heads r =
+          reach-all (withMembers H) (pointers from) (λ x. Obj n x × (keeps H (traced H from .flags) x ≡ true)) (λ x m. (si x m, start-kept x m))
+          (λ x y t m. next x y t (List·Memᴰ·append-cases (targets H x) m)) r .1
+        where
+          next : (x y : ℕ) → Obj n x × (keeps H (traced H from .flags) x ≡ true)
+              → List·Memᴰ y (targets H x) ⊎ List·Memᴰ y (gather n (λ z. eqb (cluster z) x) (λ z. z ∷ []))
+              → Obj n y × (keeps H (traced H from .flags) y ≡ true)
+          next x y t (inl m) = (R x y (t .0) m, kept-closed x y (t .0) (t .1) m)
+          next x y t (inr m) =
+              let g = member-of n cluster x y m in
+              let c : cluster y ≢ 0 = λ z. absurd (omega (arith, t .0 .0, g .1, z)) in
+              let f = traced-finished R from si in
+              let i = f .head-kept x (t .0) (subst (λ z. cluster z ≡ z) (g .1) (heads y c)) .0 (t .1) in
+              (g .0, f .member-kept y c (subst (λ z. Is (traced H from .flags) reached z) (sym (g .1)) i))

@@ -1,29 +1,32 @@
--- Where clusters are connected, nothing is kept that is not reachable.
+-- Nothing is kept that is not reachable along pointers and from a head to its members; where clusters are connected, along pointers alone.
 -- Assumes nothing.
-use Prim.Native.Nat.{ℕ, zero, suc}
+use Prim.Native.Nat.{ℕ, zero, suc, _≤_}
 use mathlib.Core.Path.{_≡_, refl, sym, subst, _∙_}
 use mathlib.Core.Bool.{Bool, true, false, true≢false}
 use mathlib.Core.List.{List, [], _∷_, List·Memᴰ, List·Memᴰ·head, List·Memᴰ·tail, List·Memᴰ·append-cases}
 use mathlib.Core.Logic.{_≢_, _⊎_, inl, inr}
+use native.Mathlib.Omega.{arith}
 use lib.Dec.{eqb}
-use borrow.Author.Tests.{eqb-true, eqb-false}
-use Rattle.graph.specs.Numbers.{lowest}
-use Rattle.graph.specs.Heap.{Heap, pointers, targets, Reach, start, along}
+use borrow.Author.Tests.{eqb-true, eq-eqb}
+use Rattle.graph.specs.Numbers.{Obj, lowest, gather}
+use Rattle.graph.specs.Heap.{Heap, pointers, targets, withMembers, Reach, start, along}
 use Rattle.graph.specs.Run as Run
 use Rattle.graph.specs.Trace.{Flag, marked, postponed, reached, Flags, setFlag, Walk, noFlags, scan, postpone, unpostpone, arrive}
 use Rattle.graph.specs.Trace.{scanIf, scanOuts, visitBy, visit, takeBy, take, stepBy, step, begin, needed, finish, traced}
+use Rattle.graph.proofs.NumberLaws.{in-left, in-right, gather-in}
 use Rattle.graph.proofs.RunLaws.{run-keeps}
 use Rattle.graph.proofs.LowestLaws.{lowest-passes}
 use Rattle.graph.proofs.FlagLaws.{Is, set-cases, clear-cases}
 use Rattle.graph.proofs.Paths.{Connected}
-use Rattle.graph.proofs.MemberLaws.{reach-member}
+use Rattle.graph.proofs.ReachLaws.{reach-all}
+use Rattle.graph.proofs.MemberLaws.{pointer-nonzero, member-of, reach-member}
 use Rattle.graph.proofs.TraceInv.{Kept}
 
 module _ (H : Heap) (from : List ℕ) where
   open Heap H using (n, cluster, out)
 
   abbrev Live : ℕ → Type 0
-  Live x = Reach (targets H) (pointers from) x
+  Live x = Reach (withMembers H) (pointers from) x
 
   -- what is to be visited is reachable, and so is every object with a flag
   pub record Justified (w : Walk) : Type 0 where
@@ -45,7 +48,7 @@ module _ (H : Heap) (from : List ℕ) where
       record { todo-reach = λ x m. at x (List·Memᴰ·append-cases (targets H o) m); flag-reach = flag-set (w .flags) marked o r (v .flag-reach) }
     where
       at : (x : ℕ) → List·Memᴰ x (targets H o) ⊎ List·Memᴰ x (w .todo) → Live x
-      at x (inl m) = along r m
+      at x (inl m) = along r (in-left x (targets H o) _ m)
       at x (inr m) = v .todo-reach x m
 
   just-postpone : (w : Walk) (o : ℕ) → Live o → Justified w → Justified (postpone H o w)
@@ -61,70 +64,86 @@ module _ (H : Heap) (from : List ℕ) where
   just-unpostpone w o v =
       record { todo-reach = v .todo-reach; flag-reach = λ g x i. v .flag-reach g x (clear-cases (w .flags) postponed o g x i) }
 
-  module _ (zero-none : cluster 0 ≡ 0) (con : Connected (H .kids) cluster) where
-    member-live : (x h : ℕ) → cluster x ≡ h → h ≢ 0 → Live h → Live x
-    member-live x h e nz r = reach-member H cluster (pointers from) con zero-none x (λ z. nz (sym e ∙ z)) (subst (λ y. Live y) (sym e) r)
+  pub member-live : (x h : ℕ) → Obj n x → cluster x ≡ h → Live h → Live x
+  member-live x h b e r =
+      along r (in-right x (targets H h) _ (gather-in n (λ y. eqb (cluster y) h) (λ y. y ∷ []) x x b (eq-eqb (cluster x) h e) (List·Memᴰ·head refl)))
 
-    just-scanIf : (a c m : Bool) (h o : ℕ) (w : Walk) → eqb (cluster o) h ≡ c → h ≢ 0 → Live h → Justified w → Justified (scanIf H a c m o w)
-    unfolding scanIf
-    just-scanIf true true false h o w e nz r v = just-scan w o (member-live o h (eqb-true (cluster o) h e) nz r) v
-    just-scanIf true true true h o w e nz r v = v
-    just-scanIf true false m h o w e nz r v = v
-    just-scanIf false c m h o w e nz r v = v
+  just-scanIf : (a c m : Bool) (h o : ℕ) (w : Walk) → eqb (cluster o) h ≡ c → Obj n o → Live h → Justified w → Justified (scanIf H a c m o w)
+  unfolding scanIf
+  just-scanIf true true false h o w e b r v = just-scan w o (member-live o h b (eqb-true (cluster o) h e) r) v
+  just-scanIf true true true h o w e b r v = v
+  just-scanIf true false m h o w e b r v = v
+  just-scanIf false c m h o w e b r v = v
 
-    just-scanOuts : (h k : ℕ) (w : Walk) → h ≢ 0 → Live h → Justified w → Justified (scanOuts H h k w)
-    unfolding scanOuts
-    just-scanOuts h zero w nz r v = v
-    just-scanOuts h (suc k) w nz r v =
-        just-scanOuts h k _ nz r (just-scanIf (out (suc k)) (eqb (cluster (suc k)) h) (w .flags marked (suc k)) h (suc k) w refl nz r v)
+  just-scanOuts : (h k : ℕ) (w : Walk) → k ≤ n → Live h → Justified w → Justified (scanOuts H h k w)
+  unfolding scanOuts
+  just-scanOuts h zero w le r v = v
+  just-scanOuts h (suc k) w le r v =
+      just-scanOuts h k _ (omega arith) r
+      (just-scanIf (out (suc k)) (eqb (cluster (suc k)) h) (w .flags marked (suc k)) h (suc k) w refl (omega arith) r v)
 
-    just-visitBy : (z h m r : Bool) (o : ℕ) (w : Walk) → eqb (cluster o) 0 ≡ z → eqb (cluster o) o ≡ h → Live o → Justified w
-        → Justified (visitBy H z h m r o w)
-    unfolding visitBy
-    just-visitBy true h true r o w ez eh l v = v
-    just-visitBy true h false r o w ez eh l v = just-scan w o l v
-    just-visitBy false true m true o w ez eh l v = v
-    just-visitBy false true m false o w ez eh l v =
-        just-scanOuts o n (arrive H o w) (λ z. eqb-false (cluster o) 0 ez (eqb-true (cluster o) o eh ∙ z)) l (just-arrive w o l v)
-    just-visitBy false false true r o w ez eh l v = v
-    just-visitBy false false false true o w ez eh l v = v
-    just-visitBy false false false false o w ez eh l v = just-postpone w o l v
+  just-visitBy : (z h m r : Bool) (o : ℕ) (w : Walk) → Live o → Justified w
+      → Justified (visitBy H z h m r o w)
+  unfolding visitBy
+  just-visitBy true h true r o w l v = v
+  just-visitBy true h false r o w l v = just-scan w o l v
+  just-visitBy false true m true o w l v = v
+  just-visitBy false true m false o w l v =
+      just-scanOuts o n (arrive H o w) (omega arith) l (just-arrive w o l v)
+  just-visitBy false false true r o w l v = v
+  just-visitBy false false false true o w l v = v
+  just-visitBy false false false false o w l v = just-postpone w o l v
 
-    just-takeBy : (m r : Bool) (o : ℕ) (w : Walk) → Live o → Justified w → Justified (takeBy H m r o w)
-    unfolding takeBy
-    just-takeBy true r o w l v = v
-    just-takeBy false true o w l v = v
-    just-takeBy false false o w l v = just-scan w o l v
+  just-takeBy : (m r : Bool) (o : ℕ) (w : Walk) → Live o → Justified w → Justified (takeBy H m r o w)
+  unfolding takeBy
+  just-takeBy true r o w l v = v
+  just-takeBy false true o w l v = v
+  just-takeBy false false o w l v = just-scan w o l v
 
-    just-take : (o : ℕ) (w : Walk) → ((m : ℕ) → o ≡ suc m → Is (w .flags) postponed o) → Justified w → Justified (take H o w)
-    unfolding take
-    just-take zero w h v = v
-    just-take (suc m) w h v =
-        just-takeBy (w .flags marked (suc m)) (w .flags reached (cluster (suc m))) (suc m) (unpostpone H (suc m) w)
-        (v .flag-reach postponed (suc m) (h m refl)) (just-unpostpone w (suc m) v)
+  just-take : (o : ℕ) (w : Walk) → ((m : ℕ) → o ≡ suc m → Is (w .flags) postponed o) → Justified w → Justified (take H o w)
+  unfolding take
+  just-take zero w h v = v
+  just-take (suc m) w h v =
+      just-takeBy (w .flags marked (suc m)) (w .flags reached (cluster (suc m))) (suc m) (unpostpone H (suc m) w)
+      (v .flag-reach postponed (suc m) (h m refl)) (just-unpostpone w (suc m) v)
 
-    just-stepBy : (l : List ℕ) (w : Walk) → w .todo ≡ l → Justified w → Justified (stepBy H l w)
-    unfolding stepBy visit
-    just-stepBy [] w e v = just-take (lowest (λ x. w .flags postponed x) n) w (λ m q. lowest-passes (λ x. w .flags postponed x) n m q .1) v
-    just-stepBy (o ∷ r) w e v =
-        just-visitBy (eqb (cluster o) 0) (eqb (cluster o) o) (w .flags marked o) (w .flags reached (cluster o)) o
-        (record { flags = w .flags; todo = r; scanned = w .scanned }) refl refl
-        (v .todo-reach o (subst (λ l. List·Memᴰ o l) (sym e) (List·Memᴰ·head refl)))
-        (record { todo-reach = λ x m. v .todo-reach x (subst (λ l. List·Memᴰ x l) (sym e) (List·Memᴰ·tail m)); flag-reach = v .flag-reach })
+  just-stepBy : (l : List ℕ) (w : Walk) → w .todo ≡ l → Justified w → Justified (stepBy H l w)
+  unfolding stepBy visit
+  just-stepBy [] w e v = just-take (lowest (λ x. w .flags postponed x) n) w (λ m q. lowest-passes (λ x. w .flags postponed x) n m q .1) v
+  just-stepBy (o ∷ r) w e v =
+      just-visitBy (eqb (cluster o) 0) (eqb (cluster o) o) (w .flags marked o) (w .flags reached (cluster o)) o
+      (record { flags = w .flags; todo = r; scanned = w .scanned })
+      (v .todo-reach o (subst (λ l. List·Memᴰ o l) (sym e) (List·Memᴰ·head refl)))
+      (record { todo-reach = λ x m. v .todo-reach x (subst (λ l. List·Memᴰ x l) (sym e) (List·Memᴰ·tail m)); flag-reach = v .flag-reach })
 
-    just-step : (w : Walk) → Justified w → Justified (step H w)
-    unfolding step
-    just-step w v = just-stepBy (w .todo) w refl v
+  just-step : (w : Walk) → Justified w → Justified (step H w)
+  unfolding step
+  just-step w v = just-stepBy (w .todo) w refl v
 
-    just-begin : Justified (begin H from)
-    unfolding begin noFlags
-    just-begin = record { todo-reach = λ x m. start m; flag-reach = λ f x i. absurd (true≢false (sym i)) }
+  just-begin : Justified (begin H from)
+  unfolding begin noFlags
+  just-begin = record { todo-reach = λ x m. start m; flag-reach = λ f x i. absurd (true≢false (sym i)) }
 
-    pub traced-justified : Justified (traced H from)
-    unfolding traced finish Run.finish
-    traced-justified = run-keeps (step H) Justified just-step (needed H (begin H from)) (begin H from) just-begin
+  pub traced-justified : Justified (traced H from)
+  unfolding traced finish Run.finish
+  traced-justified = run-keeps (step H) Justified just-step (needed H (begin H from)) (begin H from) just-begin
 
-    -- what is kept is reachable
-    pub kept-reach : (x : ℕ) → Kept H (traced H from .flags) x → Live x
-    kept-reach x (inl i) = traced-justified .flag-reach marked x i
-    kept-reach x (inr (nz, i)) = member-live x (cluster x) refl nz (traced-justified .flag-reach reached (cluster x) i)
+  -- what is kept is so reachable
+  pub kept-reach : (x : ℕ) → Obj n x → Kept H (traced H from .flags) x → Live x
+  kept-reach x b (inl i) = traced-justified .flag-reach marked x i
+  kept-reach x b (inr (nz, i)) = member-live x (cluster x) b refl (traced-justified .flag-reach reached (cluster x) i)
+
+  -- and along pointers alone, where clusters are connected
+  pub connected-reach : cluster 0 ≡ 0 → Connected (H .kids) cluster → {x : ℕ} → Live x → Reach (targets H) (pointers from) x
+  connected-reach zero-none con r =
+      reach-all (withMembers H) (pointers from) (λ x. (x ≢ 0) × Reach (targets H) (pointers from) x) (λ x m. (pointer-nonzero from x m, start m))
+      (λ x y t m. next x y t (List·Memᴰ·append-cases (targets H x) m)) r .1
+    where
+      next : (x y : ℕ) → (x ≢ 0) × Reach (targets H) (pointers from) x
+          → List·Memᴰ y (targets H x) ⊎ List·Memᴰ y (gather n (λ z. eqb (cluster z) x) (λ z. z ∷ []))
+          → (y ≢ 0) × Reach (targets H) (pointers from) y
+      next x y t (inl m) = (pointer-nonzero (H .kids x) y m, along (t .1) m)
+      next x y t (inr m) =
+          let e : cluster y ≡ x = member-of n cluster x y m .1 in
+          let c : cluster y ≢ 0 = λ z. t .0 (sym e ∙ z) in
+          (λ z. c (rw z zero-none), reach-member H cluster (pointers from) con zero-none y c (subst (λ z. Reach (targets H) (pointers from) z) (sym e) (t .1)))

@@ -29,6 +29,10 @@ targets H x = pointers (H .kids x)
 unfoldable pub starts : Heap → List ℕ → List ℕ
 starts H roots = roots ++ gather (H .n) (H .sink) (λ x. x ∷ [])
 
+-- the pointers of an object, and the members of the cluster that it heads
+abbrev pub withMembers : Heap → ℕ → List ℕ
+withMembers H x = targets H x ++ gather (H .n) (λ y. eqb (H .cluster y) x) (λ y. y ∷ [])
+
 -- the object can be reached along pointers from one of the starts
 pub data Reach (next : ℕ → List ℕ) (from : List ℕ) : ℕ → Type 0 where
   start : {x : ℕ} → List·Memᴰ x from → Reach next from x

@@ -4,21 +4,23 @@ use Rattle.layout.specs.Limits.{slotsLen}
 use Rattle.rules.specs.Demands.{Demand2}
 use Rattle.rules.proofs.WriteLaws.{write-ruled}
 use Rattle.rules.proofs.WriteFacts.{write-does}
-use Rattle.rules.proofs.DeclareLaws.{declare-ruled, declare-does}
+use Rattle.rules.proofs.DeclareLaws.{declare-ruled, declare-does, declare-twice}
 use Rattle.rules.proofs.AnalyseLaws.{analyse-ruled}
 use Rattle.rules.proofs.AnalyseFacts.{analyse-does, analyse-accepts}
-use Rattle.rules.proofs.CollectLaws.{collect-does, same-end}
+use Rattle.rules.proofs.CollectLaws.{collect-sweeps, collect-does, same-end}
 use Rattle.rules.proofs.Calls.{made-inv}
 use Rattle.rules.proofs.Unmet.{unmet}
 
 pub demand2 : Demand2
 demand2 = record {
+  sweeps = λ s kind work map e. collect-sweeps s kind work map e;
   collects = λ s m kind work map lw lm. collect-does s (made-inv m) kind work map lw lm;
   sameEnd = λ s m work map lw lm. same-end s (made-inv m) work map lw lm;
   ruled = λ s m. record { analysed = analyse-ruled s (made-inv m); written = write-ruled s (made-inv m); declared = declare-ruled s (made-inv m) };
   analyses = λ s m work e. analyse-does s (made-inv m) work e;
   writes = λ s m i k w e. write-does s (made-inv m) i k w e;
-  declares = λ s m i e. declare-does s (made-inv m) i e;
+  declares = λ s i e. declare-does s i e;
+  again = λ s i e. declare-twice s i e;
   accepts = λ s m work l. analyse-accepts s (made-inv m) work l;
   long = λ s m. let I = made-inv m in (I .recs-long, (unfold slotsLen in (I .slots-long)), I .roots-long);
   unmet = λ s m call. unmet s (made-inv m) call;

@@ -7,7 +7,7 @@ use mathlib.Core.List.{List, List·Memᴰ}
 use mathlib.Core.Logic.{_⊎_, inl, inr}
 use native.Mathlib.Decide.{ℕ-discrete}
 use lib.Dec.{eqb}
-use lib.ListN.{length}
+use lib.ListN.{length, take}
 use borrow.Author.Tests.{le-ltb, eq-eqb, ne-eqb}
 use Rattle.records.specs.Record as R
 use Rattle.layout.specs.ControlRecord.{badControl}
@@ -16,9 +16,9 @@ use Rattle.records.specs.Record.{cluster, clear, damaged}
 use Rattle.layout.specs.Word.{isNil, isImmediate}
 use Rattle.records.proofs.RecordLaws.{Legal, facts-legal, legal-nonzero, zero-free, free-undamaged, legal-undamaged}
 use Rattle.layout.proofs.ControlLaws.{Sound, facts-control}
-use Rattle.graph.proofs.Paths.{connected-head}
+use Rattle.graph.proofs.Paths.{Heads, connected-head}
 use Rattle.graph.proofs.State.{Good}
-use Rattle.rules.specs.Buffers.{recOf, short, otherWords, allOf}
+use Rattle.rules.specs.Buffers.{recOf, short, usedWords, otherWords, allOf}
 use Rattle.rules.specs.View.{view, exactOut}
 use Rattle.rules.specs.WellFormed.{names, legalAt, emptyAt, wordsAt, headAt, outAt, rootsNamed, wellFormed}
 use Rattle.rules.specs.Steps.{State}
@@ -68,31 +68,35 @@ unfolding R.free R.legal clear flag field
 illegal n r (inl e) = rw e refl
 illegal n r (inr L) = ap not (facts-legal n r L) ∙ sym (ne-eqb r 0 (legal-nonzero n r L))
 
-module _ (s : State) (I : Inv s) where
-  head-at : (x : ℕ) → Dec (cluster (rec s x) ≡ 0) → headAt (s .control .n) (s .records) (s .slots) x ≡ true
-  unfolding headAt
-  head-at x (yes e) = rw e refl
-  head-at x (no e) = rw (eq-eqb _ _ same) (or-true (eqb (cluster (rec s x)) 0))
-    where
-      same : cluster (rec s (cluster (rec s x))) ≡ cluster (rec s x)
-      same = unfold view field in (connected-head _ _ (I .good .conn) x e)
+-- the rules of a well-formed heap, from what they say of each object
+module _ (n r : ℕ) (recs slots roots : List ℕ) where
+  head-at : (x : ℕ) → Heads (view n recs slots .cluster) → Dec (cluster (recOf n recs x) ≡ 0) → headAt n recs slots x ≡ true
+  unfolding headAt view
+  head-at x h (yes e) = rw e refl
+  head-at x h (no e) = rw (eq-eqb _ _ (h x e)) (or-true (eqb (cluster (recOf n recs x)) 0))
 
-  out-at : (x : ℕ) → outAt (s .control .n) (s .records) (s .slots) x ≡ true
-  unfolding outAt exactOut
-  out-at x = beq-same _ _ (I .good .exact x)
-
-  pub inv-formed : wellFormed (s .control .n) (s .control .r) (s .records) (s .slots) (s .roots) ≡ true
-  unfolding wellFormed emptyAt wordsAt rootsNamed
-  inv-formed =
+  pub formed-by : ((x : ℕ) → (recOf n recs x ≡ 0) ⊎ Legal n (recOf n recs x))
+      → ((x : ℕ) → 1 ≤ x → x ≤ n → allOf isNil (otherWords n recs slots x) ≡ true)
+      → ((x w : ℕ) → List·Memᴰ w (usedWords n recs slots x) → SlotWord n recs slots w)
+      → Heads (view n recs slots .cluster)
+      → ((x : ℕ) → view n recs slots .out x ≡ exactOut (view n recs slots) x)
+      → ((w : ℕ) → List·Memᴰ w (take r roots) → RootWord n recs slots w)
+      → wellFormed n r recs slots roots ≡ true
+  unfolding wellFormed emptyAt wordsAt outAt rootsNamed
+  formed-by legal empty named heads exact rooted =
       rw (
-        allTo-all (s .control .n) (legalAt (s .control .n) (s .records) (s .slots))
-            (λ x p q. legal-at (s .control .n) (s .records) (s .slots) x (I .legal x)),
-        allTo-all (s .control .n) (λ x. allOf isNil (otherWords (s .control .n) (s .records) (s .slots) x)) (I .empty),
-        allTo-all (s .control .n) (λ x. allOf (λ w. isNil w || isImmediate w || names (s .control .n) (s .records) (s .slots) w) (wordsOf s x)) (λ x p q. allOf-all _ _ (I .named x)),
-        allTo-all (s .control .n) (headAt (s .control .n) (s .records) (s .slots)) (λ x p q. head-at x (ℕ-discrete _ _)),
-        allTo-all (s .control .n) (outAt (s .control .n) (s .records) (s .slots)) (λ x p q. out-at x),
+        allTo-all n (legalAt n recs slots) (λ x p q. legal-at n recs slots x (legal x)),
+        allTo-all n (λ x. allOf isNil (otherWords n recs slots x)) empty,
+        allTo-all n (λ x. allOf (λ w. isNil w || isImmediate w || names n recs slots w) (usedWords n recs slots x)) (λ x p q. allOf-all _ _ (named x)),
+        allTo-all n (headAt n recs slots) (λ x p q. head-at x heads (ℕ-discrete _ _)),
+        allTo-all n (λ x. Bool·beq (view n recs slots .out x) (exactOut (view n recs slots) x)) (λ x p q. beq-same _ _ (exact x)),
       )
-      (allOf-all _ _ (I .rooted))
+      (allOf-all _ _ rooted)
+
+module _ (s : State) (I : Inv s) where
+  pub inv-formed : wellFormed (s .control .n) (s .control .r) (s .records) (s .slots) (s .roots) ≡ true
+  inv-formed =
+      formed-by _ _ _ _ _ (I .legal) (I .empty) (I .named) (connected-head _ _ (I .good .conn)) (λ x. unfold exactOut in (I .good .exact x)) (I .rooted)
 
   pub inv-control : badControl (s .control) ≡ false
   inv-control = facts-control (s .control) (I .sound)

@@ -1,6 +1,6 @@
--- The sweep leaves a heap with the invariant, and frees what the plain heap frees.
+-- What the sweep does in every well-formed heap; and that it leaves a heap with the invariant, and frees what the plain heap frees.
 -- Assumes nothing.
-use Prim.Native.Nat.{ℕ, zero, suc, _+_, _*_, _≤_, _/_}
+use Prim.Native.Nat.{ℕ, zero, suc, _+_, _*_, _≤_, _/_, _^_}
 use mathlib.Core.Path.{_≡_, refl, sym, ap, ap₂, _∙_, subst, fun-ext}
 use mathlib.Core.Bool.{Bool, true, false, not, cond, _&&_, _||_, false≢true, true≢false}
 use mathlib.Core.List.{List, [], map, List·Memᴰ, List·Memᴰ·not-nil}
@@ -9,48 +9,42 @@ use native.Mathlib.Decide.{ℕ-discrete, decLe}
 use native.Mathlib.Omega.{arith}
 use lib.Dec.{eqb}
 use lib.ListN.{take, drop}
-use borrow.Author.Tests.{ne-eqb, eqb-true, eqb-false}
+use borrow.Author.Tests.{ne-eqb, eq-eqb, eqb-true, eqb-false, le-leb}
 use Rattle.records.specs.Record as R
 use Rattle.layout.specs.Field.{field, flag}
-use Rattle.records.specs.Record.{width, cluster, inUse, loose}
+use Rattle.records.specs.Record.{width, cluster, inUse, isWritten, isSink, loose}
 use Rattle.layout.specs.Limits.{slotsLen}
-use Rattle.layout.specs.Word.{isNil, isImmediate, isPointer}
+use Rattle.layout.specs.Word.{isNil, isImmediate}
 use Rattle.records.proofs.RecordLaws.{Legal, loose-cluster, loose-out, loose-flag, loose-legal, loose-width, legal-nonzero}
-use Rattle.graph.specs.Clusters.{keep}
-use Rattle.graph.specs.Heap.{Heap}
+use Rattle.graph.specs.Clusters.{keep, outBit}
+use Rattle.graph.specs.Heap.{Heap, starts}
 use Rattle.graph.specs.Numbers.{Obj}
-use Rattle.graph.proofs.Lifecycle.{collect-good}
+use Rattle.graph.proofs.Lifecycle.{collect-good, collect-exact, collect-heads}
 use Rattle.graph.proofs.Lifecycle as Lifecycle
 use Rattle.graph.proofs.OutLaws.{outBit-none}
-use Rattle.graph.proofs.Paths.{keep-zero, keep-out, keep-in}
+use Rattle.graph.proofs.Paths.{Heads, keep-zero, keep-out, keep-in}
+use Rattle.graph.proofs.MemberLaws.{word-pointer}
+use Rattle.graph.proofs.ReachLaws.{root-start, sink-start}
 use Rattle.graph.proofs.State.{Good}
 use Rattle.graph.proofs.TraceCorrect.{same-test}
 use Rattle.rules.specs.Buffers.{recOf, eachRecord, eachSlot, eight, usedWords, otherWords, allOf, numbers}
-use Rattle.rules.specs.View.{view, target}
-use Rattle.rules.specs.WellFormed.{names}
+use Rattle.rules.specs.View.{view, target, exactOut}
+use Rattle.rules.specs.WellFormed.{names, wellFormed}
 use Rattle.rules.specs.Collect.{Kind, Traced, freedBy, sweptRecord}
 use Rattle.rules.specs.Plain.{free, object, isFree, cellAt, has, keptNumbers, plainSwept, plainFreed}
 use Rattle.rules.specs.Steps.{State}
 use Rattle.rules.specs.Demands.{Led, heapOf, wordsOf, rec, rootsOf}
-use Rattle.rules.proofs.ListLaws.{recOf-above, map-id, length-each, recOf-each, eight-each, same-numbers, each-numbers}
-use Rattle.rules.proofs.BoolLaws.{and-split, and-false, or-last}
-use Rattle.rules.proofs.Invariant.{Inv, SlotWord, RootWord}
+use Rattle.rules.proofs.ListLaws.{recOf-above, allOf-all, map-id, length-each, recOf-each, eight-each, same-numbers, each-numbers}
+use Rattle.rules.proofs.BoolLaws.{and-false, or-true, or-right}
+use Rattle.rules.proofs.Invariant.{Inv, SlotWord, RootWord, formed-by}
 use Rattle.rules.proofs.Abstraction.{plainOf, cellOf, cellsOf, cells-size, at-free}
-use Rattle.rules.proofs.Simulation.{in-range}
-use Rattle.rules.proofs.PointerLaws.{named-used}
+use Rattle.rules.proofs.WellFormedLaws.{Names, names-used}
+use Rattle.rules.proofs.SaneLaws.{sane-exact}
 use Rattle.rules.proofs.CreateLaws.{nil-map}
-use Rattle.rules.proofs.TraceLaws.{Facts, head-obj, member-led, led-used, sink-led, root-led, word-led, plain-kept}
+use Rattle.rules.proofs.TraceLaws.{Fit, Facts, rules, obj-of, head-own, head-obj, word-target, plain-kept, member-led}
 
-module _ (s : State) (I : Inv s) (kind : Kind) (work map₀ : List ℕ) (t : Traced) (F : Facts s I t) where
-  abbrev n : ℕ
-  n = s .control .n
-
-  abbrev H : Heap
-  H = heapOf s
-
-  abbrev was : ℕ → ℕ
-  was x = rec s x
-
+-- who is freed, and what is left
+module _ (s : State) (kind : Kind) (work map₀ : List ℕ) (t : Traced) where
   abbrev pub dead : ℕ → Bool
   dead x = freedBy kind (s .control) (s .records) (s .slots) (s .roots) work map₀ t x
 
@@ -60,8 +54,29 @@ module _ (s : State) (I : Inv s) (kind : Kind) (work map₀ : List ℕ) (t : Tra
   abbrev pub slots′ : List ℕ
   slots′ = eachSlot (s .control .n) (λ x w. cond (freedBy kind (s .control) (s .records) (s .slots) (s .roots) work map₀ t x) 0 w) (s .slots)
 
+  abbrev pub state′ : State
+  state′ = record { control = s .control; records = recs′; slots = slots′; roots = s .roots }
+
+-- ---- in every well-formed heap
+
+module _ (s : State) (C : Fit s) (kind : Kind) (work map₀ : List ℕ) (t : Traced) (K : ℕ → Type 0) (F : Facts s C t K) where
+  abbrev H : Heap
+  H = heapOf s
+
+  abbrev was : ℕ → ℕ
+  was x = rec s x
+
+  abbrev gone? : ℕ → Bool
+  gone? x = dead s kind work map₀ t x
+
+  abbrev recs₁ : List ℕ
+  recs₁ = recs′ s kind work map₀ t
+
+  abbrev slots₁ : List ℕ
+  slots₁ = slots′ s kind work map₀ t
+
   abbrev now : ℕ → ℕ
-  now x = recOf (s .control .n) recs′ x
+  now x = recOf (s .control .n) recs₁ x
 
   -- does x keep its cluster, or have none
   abbrev stays : ℕ → Bool
@@ -69,36 +84,36 @@ module _ (s : State) (I : Inv s) (kind : Kind) (work map₀ : List ℕ) (t : Tra
 
   -- ---- three cases: free before, freed, kept
   data Case (x : ℕ) : Type 0 where
-    blank : was x ≡ 0 → dead x ≡ false → now x ≡ 0 → Case x
-    gone : Legal (s .control .n) (was x) → t .kept x ≡ false → dead x ≡ true → now x ≡ 0 → Case x
-    kept : Legal (s .control .n) (was x) → t .kept x ≡ true → dead x ≡ false → now x ≡ cond (stays x) (was x) (loose (was x)) → Case x
+    blank : was x ≡ 0 → gone? x ≡ false → now x ≡ 0 → Case x
+    gone : Legal (s .control .n) (was x) → t .kept x ≡ false → gone? x ≡ true → now x ≡ 0 → Case x
+    kept : Legal (s .control .n) (was x) → t .kept x ≡ true → gone? x ≡ false → now x ≡ cond (stays x) (was x) (loose (was x)) → Case x
 
-  at-rec : (x : ℕ) → Obj (s .control .n) x → now x ≡ cond (dead x) 0 (cond (stays x) (was x) (loose (was x)))
+  at-rec : (x : ℕ) → Obj (s .control .n) x → now x ≡ cond (gone? x) 0 (cond (stays x) (was x) (loose (was x)))
   unfolding sweptRecord
-  at-rec x b = recOf-each (s .control .n) _ (s .records) x (b .0) (b .1) (I .recs-long)
+  at-rec x b = recOf-each (s .control .n) _ (s .records) x (b .0) (b .1) (C .recs-long)
 
-  dead-legal : (x : ℕ) → Legal (s .control .n) (was x) → dead x ≡ not (t .kept x)
+  dead-legal : (x : ℕ) → Legal (s .control .n) (was x) → gone? x ≡ not (t .kept x)
   unfolding freedBy
   dead-legal x L = rw (L .used) refl
 
-  dead-blank : (x : ℕ) → was x ≡ 0 → dead x ≡ false
+  dead-blank : (x : ℕ) → was x ≡ 0 → gone? x ≡ false
   unfolding freedBy flag field
   dead-blank x e = rw e refl
 
   case : (x : ℕ) → Case x
-  case x = go (I .legal x)
+  case x = go (rules s C .fit x)
     where
       zero-now : was x ≡ 0 → Dec (Obj (s .control .n) x) → now x ≡ 0
       zero-now e (yes b) = at-rec x b ∙ rw (dead-blank x e, e) (unfold field in refl)
       zero-now e (no d) = outside x d
         where
-          outside : (x : ℕ) → (Obj (s .control .n) x → ⊥) → recOf (s .control .n) recs′ x ≡ 0
+          outside : (x : ℕ) → (Obj (s .control .n) x → ⊥) → recOf (s .control .n) recs₁ x ≡ 0
           outside zero d = unfold recOf in refl
           outside (suc i) d = go (decLe (suc i) (s .control .n))
             where
-              go : Dec (suc i ≤ s .control .n) → recOf (s .control .n) recs′ (suc i) ≡ 0
+              go : Dec (suc i ≤ s .control .n) → recOf (s .control .n) recs₁ (suc i) ≡ 0
               go (yes l) = absurd (d (omega arith, l))
-              go (no l) = recOf-above (s .control .n) recs′ (suc i) (omega (arith, l))
+              go (no l) = recOf-above (s .control .n) recs₁ (suc i) (omega (arith, l))
 
       obj? : (x : ℕ) → Dec (1 ≤ x) → Dec (x ≤ s .control .n) → Dec (Obj (s .control .n) x)
       obj? x (yes a) (yes b) = yes (a, b)
@@ -107,11 +122,11 @@ module _ (s : State) (I : Inv s) (kind : Kind) (work map₀ : List ℕ) (t : Tra
 
       legal : Legal (s .control .n) (was x) → (b : Bool) → t .kept x ≡ b → Case x
       legal L true e =
-          let d : dead x ≡ false = dead-legal x L ∙ ap not e in
-          kept L e d (at-rec x (in-range s I x (legal-nonzero (s .control .n) (was x) L)) ∙ rw d refl)
+          let d : gone? x ≡ false = dead-legal x L ∙ ap not e in
+          kept L e d (at-rec x (obj-of s C x (legal-nonzero (s .control .n) (was x) L)) ∙ rw d refl)
       legal L false e =
-          let d : dead x ≡ true = dead-legal x L ∙ ap not e in
-          gone L e d (at-rec x (in-range s I x (legal-nonzero (s .control .n) (was x) L)) ∙ rw d refl)
+          let d : gone? x ≡ true = dead-legal x L ∙ ap not e in
+          gone L e d (at-rec x (obj-of s C x (legal-nonzero (s .control .n) (was x) L)) ∙ rw d refl)
 
       go : (was x ≡ 0) ⊎ Legal (s .control .n) (was x) → Case x
       go (inl e) = blank e (dead-blank x e) (zero-now e (obj? x (decLe 1 x) (decLe x (s .control .n))))
@@ -131,19 +146,19 @@ module _ (s : State) (I : Inv s) (kind : Kind) (work map₀ : List ℕ) (t : Tra
 
   -- ---- the words
 
-  eight-at : (x : ℕ) → Obj (s .control .n) x → eight slots′ x ≡ map (λ w. cond (dead x) 0 w) (eight (s .slots) x)
+  eight-at : (x : ℕ) → Obj (s .control .n) x → eight slots₁ x ≡ map (λ w. cond (gone? x) 0 w) (eight (s .slots) x)
   eight-at x b = eight-each (s .control .n) _ (s .slots) x (b .0) (b .1)
 
-  eight-kept : (x : ℕ) → Obj (s .control .n) x → dead x ≡ false → eight slots′ x ≡ eight (s .slots) x
+  eight-kept : (x : ℕ) → Obj (s .control .n) x → gone? x ≡ false → eight slots₁ x ≡ eight (s .slots) x
   eight-kept x b e = eight-at x b ∙ map-id _ (eight (s .slots) x) (λ w. rw e refl)
 
-  pub used-kept : (x : ℕ) → Legal (s .control .n) (was x) → dead x ≡ false → now x ≡ cond (stays x) (was x) (loose (was x))
-      → usedWords (s .control .n) recs′ slots′ x ≡ wordsOf s x
+  pub used-kept : (x : ℕ) → Legal (s .control .n) (was x) → gone? x ≡ false → now x ≡ cond (stays x) (was x) (loose (was x))
+      → usedWords (s .control .n) recs₁ slots₁ x ≡ wordsOf s x
   unfolding usedWords
   used-kept x L d e =
-      ap₂ (λ (k : ℕ) (l : List ℕ). take k l) (kept-field width same-width x e) (eight-kept x (in-range s I x (legal-nonzero (s .control .n) (was x) L)) d)
+      ap₂ (λ (k : ℕ) (l : List ℕ). take k l) (kept-field width same-width x e) (eight-kept x (obj-of s C x (legal-nonzero (s .control .n) (was x) L)) d)
 
-  used-none : (x : ℕ) → now x ≡ 0 → usedWords (s .control .n) recs′ slots′ x ≡ []
+  used-none : (x : ℕ) → now x ≡ 0 → usedWords (s .control .n) recs₁ slots₁ x ≡ []
   unfolding usedWords field
   used-none x e = rw e refl
 
@@ -163,14 +178,18 @@ module _ (s : State) (I : Inv s) (kind : Kind) (work map₀ : List ℕ) (t : Tra
           either true = L
           either false = loose-legal (was x) (s .control .n) L
 
-  empty′ : (x : ℕ) → 1 ≤ x → x ≤ s .control .n → allOf isNil (otherWords (s .control .n) recs′ slots′ x) ≡ true
+  empty-was : (x : ℕ) → 1 ≤ x → x ≤ s .control .n → allOf isNil (otherWords (s .control .n) (s .records) (s .slots) x) ≡ true
+  unfolding isNil
+  empty-was x p q = allOf-all _ _ (λ w m. eq-eqb w 0 (rules s C .empty x w p q m))
+
+  empty′ : (x : ℕ) → 1 ≤ x → x ≤ s .control .n → allOf isNil (otherWords (s .control .n) recs₁ slots₁ x) ≡ true
   unfolding otherWords
   empty′ x p q = go (case x)
     where
-      same : (k : ℕ) → width (now x) ≡ k → k ≡ width (was x) → dead x ≡ false → allOf isNil (drop (width (now x)) (eight slots′ x)) ≡ true
-      same k e f d = ap₂ (λ (k : ℕ) (l : List ℕ). allOf isNil (drop k l)) (e ∙ f) (eight-kept x (p, q) d) ∙ I .empty x p q
+      same : (k : ℕ) → width (now x) ≡ k → k ≡ width (was x) → gone? x ≡ false → allOf isNil (drop (width (now x)) (eight slots₁ x)) ≡ true
+      same k e f d = ap₂ (λ (k : ℕ) (l : List ℕ). allOf isNil (drop k l)) (e ∙ f) (eight-kept x (p, q) d) ∙ empty-was x p q
 
-      go : Case x → allOf isNil (drop (width (now x)) (eight slots′ x)) ≡ true
+      go : Case x → allOf isNil (drop (width (now x)) (eight slots₁ x)) ≡ true
       go (blank e d z) = same (width (now x)) refl (ap width z ∙ sym (ap width e)) d
       go (gone L k d z) =
           ap (λ (l : List ℕ). allOf isNil (drop (width (now x)) l)) (eight-at x (p, q) ∙ rw d refl) ∙ nil-map (eight (s .slots) x) (width (now x))
@@ -178,70 +197,59 @@ module _ (s : State) (I : Inv s) (kind : Kind) (work map₀ : List ℕ) (t : Tra
 
   -- ---- the kept
 
-  -- what a path leads to is kept
-  led-kept : (x : ℕ) → Led s x → (t .kept x ≡ true) × Obj (s .control .n) x
-  led-kept x r = let b = in-range s I x (led-used s I x r) in (F .kept-is x b .1 r, b)
+  in-kept : (x : ℕ) → K x → (t .kept x ≡ true) × Obj (s .control .n) x
+  in-kept x r = let b = obj-of s C x (F .used x r) in (F .kept-is x b .1 r, b)
 
-  -- and is in use after the sweep
-  still-used : (x : ℕ) → Led s x → flag 0 (now x) ≡ true
+  -- they are in use after the sweep
+  still-used : (x : ℕ) → K x → flag 0 (now x) ≡ true
   still-used x r = go (case x)
     where
       go : Case x → flag 0 (now x) ≡ true
-      go (blank e d z) = absurd (led-used s I x r e)
-      go (gone L k d z) = absurd (true≢false (sym (led-kept x r .0) ∙ k))
+      go (blank e d z) = absurd (F .used x r e)
+      go (gone L k d z) = absurd (true≢false (sym (in-kept x r .0) ∙ k))
       go (kept L k d z) = kept-field (flag 0) (λ q. loose-flag q 0 refl (eqb-false 0 3 refl)) x z ∙ L .used
 
-  names′ : (w : ℕ) → names (s .control .n) (s .records) (s .slots) w ≡ true → Led s w → names (s .control .n) recs′ slots′ w ≡ true
-  unfolding names
-  names′ w e r = rw (and-split (isPointer (s .control .n) w) (flag 0 (was w)) e .0) (still-used w r)
+  names′ : (w : ℕ) → K w → names (s .control .n) recs₁ slots₁ w ≡ true
+  names′ w r = names-used _ _ _ w ∙ still-used w r
 
-  -- a word of a kept object names a kept object
-  led-word : (x w : ℕ) → Led s x → List·Memᴰ w (wordsOf s x) → names (s .control .n) (s .records) (s .slots) w ≡ true → Led s w
-  led-word x w r m e = let u = named-used s I w e in word-led s I x w r m (u .0) (u .1)
-
-  named′ : (x w : ℕ) → List·Memᴰ w (usedWords (s .control .n) recs′ slots′ x) → SlotWord (s .control .n) recs′ slots′ w
+  named′ : (x w : ℕ) → List·Memᴰ w (usedWords (s .control .n) recs₁ slots₁ x) → SlotWord (s .control .n) recs₁ slots₁ w
   named′ x w m = go (case x)
     where
-      go : Case x → SlotWord (s .control .n) recs′ slots′ w
+      word : K x → List·Memᴰ w (wordsOf s x) → (w ≡ 0) ⊎ ((2 ^ 31 ≤ w) ⊎ Names (s .control .n) (s .records) w)
+          → SlotWord (s .control .n) recs₁ slots₁ w
+      word r p (inl e) = unfold isNil in (rw (eq-eqb w 0 e) refl)
+      word r p (inr (inl l)) = unfold isImmediate in (rw (le-leb (2 ^ 31) w l, or-true (isNil w)) refl)
+      word r p (inr (inr N)) = or-right (isNil w || isImmediate w) _ (names′ w (F .leads x w r (word-target s C x w p (N .low) (N .high))))
+
+      go : Case x → SlotWord (s .control .n) recs₁ slots₁ w
       go (blank e d z) = absurd (List·Memᴰ·not-nil (rw (used-none x z) at m))
       go (gone L k d z) = absurd (List·Memᴰ·not-nil (rw (used-none x z) at m))
       go (kept L k d z) =
           let p : List·Memᴰ w (wordsOf s x) = rw (used-kept x L d z) at m in
-          let r = F .kept-is x (in-range s I x (legal-nonzero (s .control .n) (was x) L)) .0 k in
-          or-last (isNil w || isImmediate w) _ _ (I .named x w p) (λ e. names′ w e (led-word x w r p e))
+          word (F .kept-is x (obj-of s C x (legal-nonzero (s .control .n) (was x) L)) .0 k) p (rules s C .named x w p)
 
-  rooted′ : (w : ℕ) → List·Memᴰ w (rootsOf s) → RootWord (s .control .n) recs′ slots′ w
-  rooted′ w m = or-last (isNil w) _ _ (I .rooted w m) (λ e. names′ w e (root-led s I w m (λ z. absurd (omega (arith, named-used s I w e .0, z)))))
+  begun : (x : ℕ) → x ≢ 0 → List·Memᴰ x (starts H (rootsOf s)) → K x
+  begun x nz m = F .begins x (word-pointer _ x nz m)
+
+  rooted′ : (w : ℕ) → List·Memᴰ w (rootsOf s) → RootWord (s .control .n) recs₁ slots₁ w
+  rooted′ w m = go (rules s C .rooted w m)
+    where
+      go : (w ≡ 0) ⊎ Names (s .control .n) (s .records) w → RootWord (s .control .n) recs₁ slots₁ w
+      go (inl e) = unfold isNil in (rw (eq-eqb w 0 e) refl)
+      go (inr N) = or-right (isNil w) _ (names′ w (begun w (λ z. absurd (omega (arith, N .low, z))) (root-start H (rootsOf s) w m)))
 
   -- ---- the clusters
 
-  -- a member of a cluster whose head was reached is kept
-  member-kept : (x : ℕ) → Legal (s .control .n) (was x) → H .cluster x ≢ 0 → t .heads (H .cluster x) ≡ true → t .kept x ≡ true
-  member-kept x L nz h =
-      let b = in-range s I x (legal-nonzero (s .control .n) (was x) L) in
-      let k : t .kept (H .cluster x) ≡ true = sym (F .heads-is x b nz) ∙ h in
-      F .kept-is x b .1 (member-led s I x nz (F .kept-is (H .cluster x) (head-obj s I x nz) .0 k))
-
-  -- the freed are in no cluster that stays
-  dead-loose : (x : ℕ) → dead x ≡ true → keep (t .heads) (H .cluster) x ≡ 0
-  dead-loose x e = go (case x)
-    where
-      go : Case x → keep (t .heads) (H .cluster) x ≡ 0
-      go (blank z d w) = absurd (true≢false (sym e ∙ d))
-      go (kept L k d z) = absurd (true≢false (sym e ∙ d))
-      go (gone L k d z) = at (ℕ-discrete (H .cluster x) 0) (t .heads (H .cluster x)) refl
-        where
-          at : Dec (H .cluster x ≡ 0) → (b : Bool) → t .heads (H .cluster x) ≡ b → keep (t .heads) (H .cluster) x ≡ 0
-          at (yes c) b h = keep-zero (t .heads) (H .cluster) x c
-          at (no c) true h = absurd (true≢false (sym (member-kept x L c h) ∙ k))
-          at (no c) false h = keep-out (t .heads) (H .cluster) (H .cluster x) x refl h
-
   no-out : (x : ℕ) → H .cluster x ≡ 0 → H .out x ≡ false
-  no-out x e = I .good .exact x ∙ outBit-none (H .kids) (H .sink) (H .cluster) x e
+  no-out x e = sane-exact (rules s C) x ∙ outBit-none (H .kids) (H .sink) (H .cluster) x e
 
   -- the heap after the sweep
   abbrev after : Heap
-  after = Lifecycle.collected H (t .heads) dead
+  after = Lifecycle.collected H (t .heads) (dead s kind work map₀ t)
+
+  sunk : (x : ℕ) → Obj (s .control .n) x → H .sink x ≡ true → K x
+  unfolding view
+  sunk x b e = begun x (λ z. absurd (omega (arith, b .0, z))) (sink-start H (rootsOf s) x b e)
 
   sink-at : (x : ℕ) → flag 2 (now x) ≡ H .sink x
   unfolding view flag field
@@ -252,27 +260,27 @@ module _ (s : State) (I : Inv s) (kind : Kind) (work map₀ : List ℕ) (t : Tra
       go (gone L k d z) = ap (flag 2) z ∙ none (H .sink x) refl
         where
           none : (b : Bool) → H .sink x ≡ b → false ≡ H .sink x
-          none true e = absurd (true≢false (sym (led-kept x (sink-led s I x (in-range s I x (legal-nonzero (s .control .n) (was x) L)) e) .0) ∙ k))
+          none true e = absurd (true≢false (sym (in-kept x (sunk x (obj-of s C x (legal-nonzero (s .control .n) (was x) L)) e) .0) ∙ k))
           none false e = sym e
       go (kept L k d z) = kept-field (flag 2) (λ q. loose-flag q 2 refl (eqb-false 2 3 refl)) x z
 
-  written-at : (x : ℕ) → flag 1 (now x) ≡ (not (dead x) && H .written x)
+  written-at : (x : ℕ) → flag 1 (now x) ≡ (not (gone? x) && H .written x)
   unfolding view flag field
   written-at x = go (case x)
     where
-      go : Case x → flag 1 (now x) ≡ (not (dead x) && H .written x)
+      go : Case x → flag 1 (now x) ≡ (not (gone? x) && H .written x)
       go (blank e d z) = rw (z, d, e) refl
       go (gone L k d z) = rw (z, d) refl
       go (kept L k d z) = rw d (kept-field (flag 1) (λ q. loose-flag q 1 refl (eqb-false 1 3 refl)) x z)
 
-  cluster-at : (x : ℕ) → cluster (now x) ≡ keep (t .heads) (H .cluster) x
+  cluster-at : (x : ℕ) → cluster (now x) ≡ cond (gone? x) 0 (keep (t .heads) (H .cluster) x)
   unfolding view field
   cluster-at x = go (case x)
     where
-      go : Case x → cluster (now x) ≡ keep (t .heads) (H .cluster) x
-      go (blank e d z) = ap cluster z ∙ sym (keep-zero (t .heads) (H .cluster) x (rw e refl))
-      go (gone L k d z) = ap cluster z ∙ sym (dead-loose x d)
-      go (kept L k d z) = ap cluster z ∙ at (eqb (H .cluster x) 0) (t .heads (H .cluster x)) refl refl
+      go : Case x → cluster (now x) ≡ cond (gone? x) 0 (keep (t .heads) (H .cluster) x)
+      go (blank e d z) = rw d (ap cluster z ∙ sym (keep-zero (t .heads) (H .cluster) x (rw e refl)))
+      go (gone L k d z) = rw d (ap cluster z)
+      go (kept L k d z) = rw d (ap cluster z ∙ at (eqb (H .cluster x) 0) (t .heads (H .cluster x)) refl refl)
         where
           at : (a b : Bool) → eqb (H .cluster x) 0 ≡ a → t .heads (H .cluster x) ≡ b → cluster (cond (a || b) (was x) (loose (was x)))
               ≡ keep (t .heads) (H .cluster) x
@@ -280,22 +288,17 @@ module _ (s : State) (I : Inv s) (kind : Kind) (work map₀ : List ℕ) (t : Tra
           at false true e h = sym (keep-in (t .heads) (H .cluster) (H .cluster x) x refl h)
           at false false e h = loose-cluster (was x) ∙ sym (keep-out (t .heads) (H .cluster) (H .cluster x) x refl h)
 
-  out-at : (x : ℕ) → flag 3 (now x) ≡ (t .heads (H .cluster x) && H .out x)
+  out-at : (x : ℕ) → flag 3 (now x) ≡ (not (gone? x) && (t .heads (H .cluster x) && H .out x))
   unfolding view flag field
   out-at x = go (case x)
     where
       none : H .out x ≡ false → false ≡ (t .heads (H .cluster x) && H .out x)
       none e = rw e (sym (and-false (t .heads (H .cluster x))))
 
-      go : Case x → flag 3 (now x) ≡ (t .heads (H .cluster x) && H .out x)
-      go (blank e d z) = ap (flag 3) z ∙ none (no-out x (rw e refl))
-      go (gone L k d z) = ap (flag 3) z ∙ at (ℕ-discrete (H .cluster x) 0) (t .heads (H .cluster x)) refl
-        where
-          at : Dec (H .cluster x ≡ 0) → (b : Bool) → t .heads (H .cluster x) ≡ b → false ≡ (t .heads (H .cluster x) && H .out x)
-          at (yes c) b h = none (no-out x c)
-          at (no c) true h = absurd (true≢false (sym (member-kept x L c h) ∙ k))
-          at (no c) false h = rw h refl
-      go (kept L k d z) = ap (flag 3) z ∙ at (eqb (H .cluster x) 0) (t .heads (H .cluster x)) refl refl
+      go : Case x → flag 3 (now x) ≡ (not (gone? x) && (t .heads (H .cluster x) && H .out x))
+      go (blank e d z) = rw d (ap (flag 3) z ∙ none (no-out x (rw e refl)))
+      go (gone L k d z) = rw d (ap (flag 3) z)
+      go (kept L k d z) = rw d (ap (flag 3) z ∙ at (eqb (H .cluster x) 0) (t .heads (H .cluster x)) refl refl)
         where
           at : (a b : Bool) → eqb (H .cluster x) 0 ≡ a → t .heads (H .cluster x) ≡ b → flag 3 (cond (a || b) (was x) (loose (was x)))
               ≡ (b && H .out x)
@@ -304,17 +307,17 @@ module _ (s : State) (I : Inv s) (kind : Kind) (work map₀ : List ℕ) (t : Tra
           at false true e h = refl
           at false false e h = loose-out (was x)
 
-  kids-at : (x : ℕ) → map (target (s .control .n)) (usedWords (s .control .n) recs′ slots′ x)
-      ≡ cond (dead x) [] (map (target (s .control .n)) (wordsOf s x))
+  kids-at : (x : ℕ) → map (target (s .control .n)) (usedWords (s .control .n) recs₁ slots₁ x)
+      ≡ cond (gone? x) [] (map (target (s .control .n)) (wordsOf s x))
   kids-at x = go (case x)
     where
-      go : Case x → map (target (s .control .n)) (usedWords (s .control .n) recs′ slots′ x)
-          ≡ cond (dead x) [] (map (target (s .control .n)) (wordsOf s x))
+      go : Case x → map (target (s .control .n)) (usedWords (s .control .n) recs₁ slots₁ x)
+          ≡ cond (gone? x) [] (map (target (s .control .n)) (wordsOf s x))
       go (blank e d z) = ap (map (target (s .control .n))) (used-none x z) ∙ rw d (sym (ap (map (target (s .control .n))) (was-none x e)))
       go (gone L k d z) = ap (map (target (s .control .n))) (used-none x z) ∙ rw d refl
       go (kept L k d z) = ap (map (target (s .control .n))) (used-kept x L d z) ∙ rw d refl
 
-  view′ : view (s .control .n) recs′ slots′ ≡ after
+  view′ : view (s .control .n) recs₁ slots₁ ≡ after
   unfolding view Lifecycle.collected flag field
   view′ = λ i. record {
     n = s .control .n;
@@ -325,86 +328,52 @@ module _ (s : State) (I : Inv s) (kind : Kind) (work map₀ : List ℕ) (t : Tra
     out = fun-ext out-at i;
   }
 
-  abbrev pub state′ : State
-  state′ = record { control = s .control; records = recs′; slots = slots′; roots = s .roots }
+  -- ---- the heap left is well formed
 
-  pub swept-inv : Inv state′
-  swept-inv = record {
-    sound = I .sound;
-    recs-long = unfold eachRecord in
-        (rw (length-each 1 (s .control .n) (sweptRecord kind (s .control) (s .records) (s .slots) (s .roots) work map₀ t) (s .records)) (I .recs-long));
-    slots-long = unfold eachSlot slotsLen in
-        (rw (length-each 0 (8 * s .control .n) (λ j w. cond (freedBy kind (s .control) (s .records) (s .slots) (s .roots) work map₀ t (j / 8 + 1)) 0 w) (s .slots)) (I .slots-long));
-    roots-long = I .roots-long;
-    legal = legal′;
-    empty = empty′;
-    named = named′;
-    rooted = rooted′;
-    good = subst (λ (K : Heap). Good K (s .control .«write_loss»)) (sym view′) (collect-good H (s .control .«write_loss») (t .heads) dead (I .good) dead-loose);
-  }
-
-  -- ---- the plain heap
-
-  pub same-kept : (x : ℕ) → Obj (s .control .n) x → t .kept x ≡ has x (keptNumbers (plainOf s))
-  same-kept x b =
-      let p = plain-kept s I x b in
-      let q = F .kept-is x b in
-      same-test _ _ (λ e. p .1 (q .0 e)) (λ e. q .1 (p .0 e))
-
-  cell-at : (x : ℕ) → Obj (s .control .n) x → cellOf (s .control .n) recs′ slots′ x
-      ≡ cond (has x (keptNumbers (plainOf s))) (cellOf (s .control .n) (s .records) (s .slots) x) free
-  unfolding cellOf R.free
-  cell-at x b = go (case x)
+  -- what is freed was not kept
+  live : (x : ℕ) → (rec s x ≢ 0 → t .kept x ≡ true) → gone? x ≡ false
+  live x h = go (case x)
     where
-      both : (c : Bool) → free ≡ cond c free free
-      both true = refl
-      both false = refl
+      go : Case x → gone? x ≡ false
+      go (blank e d z) = d
+      go (gone L k d z) = absurd (true≢false (sym (h (legal-nonzero (s .control .n) (was x) L)) ∙ k))
+      go (kept L k d z) = d
 
-      go : Case x → cond (eqb (now x) 0) free (object (usedWords (s .control .n) recs′ slots′ x) (flag 2 (now x)))
-          ≡ cond (has x (keptNumbers (plainOf s))) (cond (eqb (was x) 0) free (object (wordsOf s x) (flag 2 (was x)))) free
-      go (blank e d z) = rw (z, e) (both (has x (keptNumbers (plainOf s))))
-      go (gone L k d z) = rw (z, sym (same-kept x b) ∙ k) refl
-      go (kept L k d z) =
-          rw (
-            sym (same-kept x b) ∙ k,
-            used-kept x L d z,
-            kept-field (flag 2) (λ q. loose-flag q 2 refl (eqb-false 2 3 refl)) x z,
-            ne-eqb (now x) 0 (λ y. true≢false (sym (kept-field (flag 0) (λ q. loose-flag q 0 refl (eqb-false 0 3 refl)) x z ∙ L .used) ∙ ap (flag 0) y ∙ (unfold flag field in refl))),
-            ne-eqb (was x) 0 (legal-nonzero (s .control .n) (was x) L),
-          ) refl
+  heads′ : Heads (view (s .control .n) recs₁ slots₁ .cluster)
+  heads′ = subst (λ (E : Heap). Heads (E .cluster)) (sym view′)
+      (collect-heads H (t .heads) (dead s kind work map₀ t) (head-own s C) (λ x nz h. live (H .cluster x) (λ u. sym (F .heads-is x nz) ∙ h)))
 
-  pub swept-cells : cellsOf (s .control .n) recs′ slots′ ≡ plainSwept (plainOf s) (keptNumbers (plainOf s))
-  unfolding cellsOf plainSwept
-  swept-cells =
-      same-numbers _ _ 1 (s .control .n) (λ x p q. cell-at x (p, omega arith))
-      ∙ sym (each-numbers (cellOf (s .control .n) (s .records) (s .slots)) (λ x cell. cond (has x (keptNumbers (plainOf s))) cell free) 1 (s .control .n))
-      ∙ ap (λ (k : ℕ). Rattle.rules.specs.Buffers.eachFrom 1 k (λ x cell. cond (has x (keptNumbers (plainOf s))) cell free) (map (cellOf (s .control .n) (s .records) (s .slots)) (numbers 1 (s .control .n))))
-      (sym (cells-size (s .control .n) (s .records) (s .slots)))
-
-  pub same-freed : (x : ℕ) → dead x ≡ plainFreed (plainOf s) (keptNumbers (plainOf s)) x
-  unfolding plainFreed
-  same-freed x = go (case x)
+  -- a kept object points at no freed one
+  points-live : (x y : ℕ) → gone? x ≡ false → List·Memᴰ y (H .kids x) → gone? y ≡ false
+  unfolding view
+  points-live x y e m = live y (λ u. go (case x) (λ z. absurd (omega (arith, obj-of s C y u .0, z))))
     where
-      is-free : isFree (cellAt (plainOf s .cells) x) ≡ R.free (was x)
-      is-free = at-free (s .control .n) (s .records) (s .slots) x
+      go : Case x → y ≢ 0 → t .kept y ≡ true
+      go (blank q d z) nz = absurd (List·Memᴰ·not-nil (rw (was-none x q) at m))
+      go (gone L k d z) nz = absurd (true≢false (sym d ∙ e))
+      go (kept L k d z) nz =
+          in-kept y (F .leads x y (F .kept-is x (obj-of s C x (legal-nonzero (s .control .n) (was x) L)) .0 k) (word-pointer (H .kids x) y nz m)) .0
 
-      go : Case x → dead x ≡ (not (isFree (cellAt (plainOf s .cells) x)) && not (has x (keptNumbers (plainOf s))))
-      go (blank e d z) = d ∙ sym (rw is-free (unfold R.free in (rw e refl)))
-      go (gone L k d z) =
-          d ∙ sym (rw (is-free, sym (same-kept x (in-range s I x (legal-nonzero (s .control .n) (was x) L))) ∙ k) (unfold R.free in (rw (ne-eqb (was x) 0 (legal-nonzero (s .control .n) (was x) L)) refl)))
-      go (kept L k d z) =
-          d ∙ sym (rw (is-free, sym (same-kept x (in-range s I x (legal-nonzero (s .control .n) (was x) L))) ∙ k) (and-false (not (R.free (was x)))))
+  exact′ : (x : ℕ) → view (s .control .n) recs₁ slots₁ .out x
+      ≡ exactOut (view (s .control .n) recs₁ slots₁) x
+  unfolding exactOut
+  exact′ x = subst (λ (E : Heap). E .out x ≡ outBit (E .kids) (E .sink) (E .cluster) x) (sym view′)
+      (collect-exact H (t .heads) (dead s kind work map₀ t) (sane-exact (rules s C))
+      (λ y z e m. unfold Lifecycle.collected in (rw (points-live y z e m) refl)) x)
 
-  -- ---- demand 2: freed exactly if no path leads there
+  pub swept-formed : wellFormed (s .control .n) (s .control .r) recs₁ slots₁ (s .roots) ≡ true
+  swept-formed = formed-by _ _ _ _ _ legal′ empty′ named′ heads′ exact′ rooted′
 
-  pub freed-is : (x : ℕ) → inUse (was x) ≡ true → (now x ≡ 0) ↔ (Led s x → ⊥)
+  -- ---- freed exactly if not to be kept
+
+  pub freed-is : (x : ℕ) → inUse (was x) ≡ true → (now x ≡ 0) ↔ (K x → ⊥)
   freed-is x u = go (case x)
     where
-      go : Case x → (now x ≡ 0) ↔ (Led s x → ⊥)
+      go : Case x → (now x ≡ 0) ↔ (K x → ⊥)
       go (blank e d z) = absurd (false≢true (unfold flag field in (sym (ap (λ (r : ℕ). flag 0 r) e)) ∙ u))
-      go (gone L k d z) = (λ y r. true≢false (sym (led-kept x r .0) ∙ k), λ h. z)
+      go (gone L k d z) = (λ y r. true≢false (sym (in-kept x r .0) ∙ k), λ h. z)
       go (kept L k d z) =
-          let r = F .kept-is x (in-range s I x (legal-nonzero (s .control .n) (was x) L)) .0 k in
+          let r = F .kept-is x (obj-of s C x (legal-nonzero (s .control .n) (was x) L)) .0 k in
           (λ y. absurd (false≢true (unfold flag field in (sym (ap (λ (q : ℕ). flag 0 q) y)) ∙ still-used x r)), λ h. absurd (h r))
 
   -- ---- who is in use after it, and which clusters stay
@@ -419,41 +388,163 @@ module _ (s : State) (I : Inv s) (kind : Kind) (work map₀ : List ℕ) (t : Tra
       go (blank e d z) = unkept (t .kept x) refl ∙ sym (ap inUse z ∙ none)
         where
           unkept : (c : Bool) → t .kept x ≡ c → t .kept x ≡ false
-          unkept true f = absurd (led-used s I x (F .kept-is x b .0 f) e)
+          unkept true f = absurd (F .used x (F .kept-is x b .0 f) e)
           unkept false f = f
       go (gone L k d z) = k ∙ sym (ap inUse z ∙ none)
       go (kept L k d z) = k ∙ sym (still-used x (F .kept-is x b .0 k))
 
-  pub dead-is : (x : ℕ) → (dead x ≡ true) ↔ (Obj (s .control .n) x × (inUse (was x) ≡ true) × (now x ≡ 0))
+  pub dead-is : (x : ℕ) → (gone? x ≡ true) ↔ (Obj (s .control .n) x × (inUse (was x) ≡ true) × (now x ≡ 0))
   dead-is x = go (case x)
     where
-      go : Case x → (dead x ≡ true) ↔ (Obj (s .control .n) x × (inUse (was x) ≡ true) × (now x ≡ 0))
+      go : Case x → (gone? x ≡ true) ↔ (Obj (s .control .n) x × (inUse (was x) ≡ true) × (now x ≡ 0))
       go (blank e d z) =
           (λ f. absurd (true≢false (sym f ∙ d)), λ f. absurd (false≢true (unfold flag field in (sym (ap (λ (r : ℕ). flag 0 r) e)) ∙ f .1)))
-      go (gone L k d z) = (λ f. (in-range s I x (legal-nonzero (s .control .n) (was x) L), L .used, z), λ f. d)
+      go (gone L k d z) = (λ f. (obj-of s C x (legal-nonzero (s .control .n) (was x) L), L .used, z), λ f. d)
       go (kept L k d z) =
           (λ f. absurd (true≢false (sym f ∙ d)), λ f. absurd (false≢true (sym (kept-now x (f .0) ∙ ap inUse (f .2) ∙ (unfold flag field in refl)) ∙ k)))
 
   -- the head of x's cluster is in use after it, exactly if the walk reached it
-  head-now : (x : ℕ) → Obj (s .control .n) x → H .cluster x ≢ 0 → t .heads (H .cluster x) ≡ inUse (now (H .cluster x))
-  head-now x b nz = F .heads-is x b nz ∙ kept-now (H .cluster x) (head-obj s I x nz)
+  head-now : (x : ℕ) → H .cluster x ≢ 0 → t .heads (H .cluster x) ≡ inUse (now (H .cluster x))
+  head-now x nz = F .heads-is x nz ∙ kept-now (H .cluster x) (head-obj s C x nz)
 
-  pub cluster-stays : (x : ℕ) → Obj (s .control .n) x → now (cluster (was x)) ≢ 0 → cluster (now x) ≡ cluster (was x)
+  cluster-left : (x : ℕ) → (gone? x ≡ true → keep (t .heads) (H .cluster) x ≡ 0) → now (cluster (was x)) ≢ 0 → cluster (now x) ≡ cluster (was x)
   unfolding view
-  cluster-stays x b h = cluster-at x ∙ go (ℕ-discrete (H .cluster x) 0)
+  cluster-left x g h = cluster-at x ∙ same (gone? x) refl ∙ go (ℕ-discrete (H .cluster x) 0)
     where
+      same : (b : Bool) → gone? x ≡ b → cond b 0 (keep (t .heads) (H .cluster) x) ≡ keep (t .heads) (H .cluster) x
+      same true e = sym (g e)
+      same false e = refl
+
       go : Dec (H .cluster x ≡ 0) → keep (t .heads) (H .cluster) x ≡ H .cluster x
       go (yes e) = keep-zero (t .heads) (H .cluster) x e ∙ sym e
-      go (no e) = keep-in (t .heads) (H .cluster) (H .cluster x) x refl (head-now x b e ∙ used (legal′ (H .cluster x)))
+      go (no e) = keep-in (t .heads) (H .cluster) (H .cluster x) x refl (head-now x e ∙ used (legal′ (H .cluster x)))
         where
           used : (now (H .cluster x) ≡ 0) ⊎ Legal (s .control .n) (now (H .cluster x)) → inUse (now (H .cluster x)) ≡ true
           used (inl z) = absurd (h z)
           used (inr L) = L .used
 
-  pub cluster-goes : (x : ℕ) → Obj (s .control .n) x → now (cluster (was x)) ≡ 0 → cluster (now x) ≡ 0
+  pub cluster-stays : (x : ℕ) → now x ≢ 0 → now (cluster (was x)) ≢ 0 → cluster (now x) ≡ cluster (was x)
+  cluster-stays x u = cluster-left x (λ e. absurd (u (dead-is x .0 e .2)))
+
+  pub cluster-goes : (x : ℕ) → now (cluster (was x)) ≡ 0 → cluster (now x) ≡ 0
   unfolding view
-  cluster-goes x b h = cluster-at x ∙ go (ℕ-discrete (H .cluster x) 0)
+  cluster-goes x h = cluster-at x ∙ freed (gone? x) (go (ℕ-discrete (H .cluster x) 0))
     where
+      freed : (b : Bool) → keep (t .heads) (H .cluster) x ≡ 0 → cond b 0 (keep (t .heads) (H .cluster) x) ≡ 0
+      freed true e = refl
+      freed false e = e
+
       go : Dec (H .cluster x ≡ 0) → keep (t .heads) (H .cluster) x ≡ 0
       go (yes e) = keep-zero (t .heads) (H .cluster) x e
-      go (no e) = keep-out (t .heads) (H .cluster) (H .cluster x) x refl (head-now x b e ∙ ap inUse h ∙ (unfold flag field in refl))
+      go (no e) = keep-out (t .heads) (H .cluster) (H .cluster x) x refl (head-now x e ∙ ap inUse h ∙ (unfold flag field in refl))
+
+  -- what a kept object keeps
+  pub kept-leaves : (x : ℕ) → now x ≢ 0 → (inUse (now x) ≡ inUse (was x)) × (usedWords (s .control .n) recs₁ slots₁ x ≡ wordsOf s x) × (width (now x) ≡ width (was x))
+      × (isWritten (now x) ≡ isWritten (was x)) × (isSink (now x) ≡ isSink (was x))
+  kept-leaves x u = go (case x)
+    where
+      go : Case x → (inUse (now x) ≡ inUse (was x)) × (usedWords (s .control .n) recs₁ slots₁ x ≡ wordsOf s x) × (width (now x) ≡ width (was x))
+          × (isWritten (now x) ≡ isWritten (was x)) × (isSink (now x) ≡ isSink (was x))
+      go (blank e d z) = absurd (u z)
+      go (gone L k d z) = absurd (u z)
+      go (kept L k d z) = (
+        kept-field (flag 0) (λ q. loose-flag q 0 refl (eqb-false 0 3 refl)) x z,
+        used-kept x L d z,
+        kept-field width same-width x z,
+        kept-field (flag 1) (λ q. loose-flag q 1 refl (eqb-false 1 3 refl)) x z,
+        kept-field (flag 2) (λ q. loose-flag q 2 refl (eqb-false 2 3 refl)) x z,
+      )
+
+  -- ---- with the invariant
+
+  module _ (I : Inv s) (led : (x : ℕ) → K x ↔ Led s x) where
+    -- a member of a cluster whose head was reached is kept
+    member-kept : (x : ℕ) → Legal (s .control .n) (was x) → H .cluster x ≢ 0 → t .heads (H .cluster x) ≡ true → t .kept x ≡ true
+    member-kept x L nz h =
+        let k : t .kept (H .cluster x) ≡ true = sym (F .heads-is x nz) ∙ h in
+        let r = led (H .cluster x) .0 (F .kept-is (H .cluster x) (head-obj s C x nz) .0 k) in
+        F .kept-is x (obj-of s C x (legal-nonzero (s .control .n) (was x) L)) .1 (led x .1 (member-led s I x nz r))
+
+    -- the freed are in no cluster that stays
+    dead-loose : (x : ℕ) → gone? x ≡ true → keep (t .heads) (H .cluster) x ≡ 0
+    dead-loose x e = go (case x)
+      where
+        go : Case x → keep (t .heads) (H .cluster) x ≡ 0
+        go (blank z d w) = absurd (true≢false (sym e ∙ d))
+        go (kept L k d z) = absurd (true≢false (sym e ∙ d))
+        go (gone L k d z) = at (ℕ-discrete (H .cluster x) 0) (t .heads (H .cluster x)) refl
+          where
+            at : Dec (H .cluster x ≡ 0) → (b : Bool) → t .heads (H .cluster x) ≡ b → keep (t .heads) (H .cluster) x ≡ 0
+            at (yes c) b h = keep-zero (t .heads) (H .cluster) x c
+            at (no c) true h = absurd (true≢false (sym (member-kept x L c h) ∙ k))
+            at (no c) false h = keep-out (t .heads) (H .cluster) (H .cluster x) x refl h
+
+    pub whole-stays : (x : ℕ) → now (cluster (was x)) ≢ 0 → cluster (now x) ≡ cluster (was x)
+    whole-stays x = cluster-left x (dead-loose x)
+
+    pub swept-inv : Inv (state′ s kind work map₀ t)
+    swept-inv = record {
+      sound = I .sound;
+      recs-long = unfold eachRecord in
+          (rw (length-each 1 (s .control .n) (sweptRecord kind (s .control) (s .records) (s .slots) (s .roots) work map₀ t) (s .records)) (I .recs-long));
+      slots-long = unfold eachSlot slotsLen in
+          (rw (length-each 0 (8 * s .control .n) (λ j w. cond (freedBy kind (s .control) (s .records) (s .slots) (s .roots) work map₀ t (j / 8 + 1)) 0 w) (s .slots)) (I .slots-long));
+      roots-long = I .roots-long;
+      legal = legal′;
+      empty = empty′;
+      named = named′;
+      rooted = rooted′;
+      good = subst (λ (E : Heap). Good E (s .control .«write_loss»)) (sym view′) (collect-good H (s .control .«write_loss») (t .heads) (dead s kind work map₀ t) (I .good) dead-loose);
+    }
+
+    -- ---- the plain heap
+
+    pub same-kept : (x : ℕ) → Obj (s .control .n) x → t .kept x ≡ has x (keptNumbers (plainOf s))
+    same-kept x b =
+        let p = plain-kept s C x b in
+        let q = F .kept-is x b in
+        same-test _ _ (λ e. p .1 (led x .0 (q .0 e))) (λ e. q .1 (led x .1 (p .0 e)))
+
+    cell-at : (x : ℕ) → Obj (s .control .n) x → cellOf (s .control .n) recs₁ slots₁ x
+        ≡ cond (has x (keptNumbers (plainOf s))) (cellOf (s .control .n) (s .records) (s .slots) x) free
+    unfolding cellOf R.free
+    cell-at x b = go (case x)
+      where
+        both : (c : Bool) → free ≡ cond c free free
+        both true = refl
+        both false = refl
+
+        go : Case x → cond (eqb (now x) 0) free (object (usedWords (s .control .n) recs₁ slots₁ x) (flag 2 (now x)))
+            ≡ cond (has x (keptNumbers (plainOf s))) (cond (eqb (was x) 0) free (object (wordsOf s x) (flag 2 (was x)))) free
+        go (blank e d z) = rw (z, e) (both (has x (keptNumbers (plainOf s))))
+        go (gone L k d z) = rw (z, sym (same-kept x b) ∙ k) refl
+        go (kept L k d z) =
+            rw (
+              sym (same-kept x b) ∙ k,
+              used-kept x L d z,
+              kept-field (flag 2) (λ q. loose-flag q 2 refl (eqb-false 2 3 refl)) x z,
+              ne-eqb (now x) 0 (λ y. true≢false (sym (kept-field (flag 0) (λ q. loose-flag q 0 refl (eqb-false 0 3 refl)) x z ∙ L .used) ∙ ap (flag 0) y ∙ (unfold flag field in refl))),
+              ne-eqb (was x) 0 (legal-nonzero (s .control .n) (was x) L),
+            ) refl
+
+    pub swept-cells : cellsOf (s .control .n) recs₁ slots₁ ≡ plainSwept (plainOf s) (keptNumbers (plainOf s))
+    unfolding cellsOf plainSwept
+    swept-cells =
+        same-numbers _ _ 1 (s .control .n) (λ x p q. cell-at x (p, omega arith))
+        ∙ sym (each-numbers (cellOf (s .control .n) (s .records) (s .slots)) (λ x cell. cond (has x (keptNumbers (plainOf s))) cell free) 1 (s .control .n))
+        ∙ ap (λ (k : ℕ). Rattle.rules.specs.Buffers.eachFrom 1 k (λ x cell. cond (has x (keptNumbers (plainOf s))) cell free) (map (cellOf (s .control .n) (s .records) (s .slots)) (numbers 1 (s .control .n))))
+        (sym (cells-size (s .control .n) (s .records) (s .slots)))
+
+    pub same-freed : (x : ℕ) → gone? x ≡ plainFreed (plainOf s) (keptNumbers (plainOf s)) x
+    unfolding plainFreed
+    same-freed x = go (case x)
+      where
+        is-free : isFree (cellAt (plainOf s .cells) x) ≡ R.free (was x)
+        is-free = at-free (s .control .n) (s .records) (s .slots) x
+
+        go : Case x → gone? x ≡ (not (isFree (cellAt (plainOf s .cells) x)) && not (has x (keptNumbers (plainOf s))))
+        go (blank e d z) = d ∙ sym (rw is-free (unfold R.free in (rw e refl)))
+        go (gone L k d z) =
+            d ∙ sym (rw (is-free, sym (same-kept x (obj-of s C x (legal-nonzero (s .control .n) (was x) L))) ∙ k) (unfold R.free in (rw (ne-eqb (was x) 0 (legal-nonzero (s .control .n) (was x) L)) refl)))
+        go (kept L k d z) =
+            d ∙ sym (rw (is-free, sym (same-kept x (obj-of s C x (legal-nonzero (s .control .n) (was x) L))) ∙ k) (and-false (not (R.free (was x)))))

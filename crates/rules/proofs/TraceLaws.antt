@@ -1,120 +1,158 @@
--- What both walks of a collection keep, in a heap with the invariant: what pointers reach, in the buffers and in the plain heap.
+-- What both walks of a collection keep, in every well-formed heap; and with the invariant: what pointers reach, in the buffers and in the plain heap.
 -- Assumes nothing.
 use Prim.Native.Nat.{ℕ, _≤_}
 use mathlib.Core.Path.{_≡_, refl, sym, ap, _∙_, fun-ext}
-use mathlib.Core.Bool.{Bool, true, false, cond}
+use mathlib.Core.Bool.{Bool, true, false, cond, false≢true}
 use mathlib.Core.List.{List, [], _∷_, _++_, List·Memᴰ, List·Memᴰ·append-cases, List·Memᴰ·not-nil}
 use mathlib.Core.Logic.{_≢_, _⊎_, inl, inr, _↔_}
 use native.Mathlib.Omega.{arith}
-use lib.Dec.{leb}
+use lib.Dec.{leb, eqb}
 use borrow.Author.Tests.{le-leb}
-use Rattle.layout.specs.Field.{field}
+use Rattle.layout.specs.Field.{field, flag}
+use Rattle.records.specs.Record.{inUse, isSink}
 use Rattle.graph.specs.Numbers.{Obj, gather, count}
-use Rattle.graph.specs.Heap.{Heap, pointers, targets, starts, Reach, start, along}
-use Rattle.graph.specs.Trace.{unclustered}
-use Rattle.graph.proofs.Paths.{connected-head}
-use Rattle.graph.proofs.MemberLaws.{word-pointer, pointer-word, pointer-nonzero, reach-member}
-use Rattle.graph.proofs.ReachLaws.{reach-all, reach-mono, root-start, sink-start}
-use Rattle.graph.proofs.TraceCorrect.{Sound, sound-starts, traced-correct, plain-sound, plain-scans, same-test}
+use Rattle.graph.specs.Heap.{Heap, pointers, targets, withMembers, starts, Reach, start, along}
+use Rattle.graph.proofs.NumberLaws.{in-left}
+use Rattle.graph.proofs.MemberLaws.{word-pointer, pointer-word, pointer-nonzero, member-of, reach-member}
+use Rattle.graph.proofs.ReachLaws.{reach-all, reach-mono}
+use Rattle.graph.proofs.TraceCorrect.{Sound, sound-starts, traced-correct, connected-same, plain-correct, same-test}
 use Rattle.rules.specs.Buffers.{usedWords}
 use Rattle.rules.specs.View.{view, target}
 use Rattle.rules.specs.Collect.{Kind, plainly, byClusters, Traced, trace}
 use Rattle.rules.specs.Plain.{has, plainWords, plainStarts, keptNumbers, rounds}
 use Rattle.rules.specs.Steps.{State}
-use Rattle.rules.specs.Demands.{Led, heapOf, wordsOf, rec, rootsOf}
-use Rattle.rules.proofs.Invariant.{Inv}
+use Rattle.rules.specs.Demands.{Led, KeptBy, heapOf, wordsOf, rec, rootsOf, startsOf}
+use Rattle.rules.proofs.Invariant.{Inv, inv-formed}
 use Rattle.rules.proofs.Abstraction.{plainOf, cells-size, at-sink, at-words}
-use Rattle.rules.proofs.Simulation.{in-range}
+use Rattle.rules.proofs.WellFormedLaws.{Names, Sane, Checked, sane, in-or-out}
+use Rattle.rules.proofs.SaneLaws.{view-closed, sane-exact, sane-targets, sane-roots}
 use Rattle.rules.proofs.ListLaws.{map-of, map-in}
-use Rattle.rules.proofs.PointerLaws.{gather-of, kids-in-use, roots-in-use, roots-low, sinks-in-use}
+use Rattle.rules.proofs.PointerLaws.{gather-of}
 use Rattle.rules.proofs.RoundLaws.{rounds-reach}
 
-module _ (s : State) (I : Inv s) where
+-- what the tests of a collection let pass
+abbrev pub Fit : State → Type 0
+Fit s = Checked (s .control .n) (s .control .r) (s .records) (s .slots) (s .roots)
+
+pub inv-fit : (s : State) → Inv s → Fit s
+inv-fit s I =
+    record { size = I .sound .sizes .most; recs-long = I .recs-long; slots-long = I .slots-long; roots-long = I .roots-long; formed = inv-formed s I }
+
+module _ (s : State) (C : Fit s) where
   abbrev pub H : Heap
   H = heapOf s
 
   abbrev pub from : List ℕ
   from = starts H (rootsOf s)
 
+  pub rules : Sane (s .control .n) (s .control .r) (s .records) (s .slots) (s .roots)
+  rules = sane _ _ _ _ _ (C .formed)
+
   abbrev Used : ℕ → Type 0
   Used y = rec s y ≢ 0
 
-  targets-used : (p q : ℕ) → List·Memᴰ q (targets H p) → Used q
-  targets-used p q m = go (kids-in-use s I p q (pointer-word (H .kids p) q m)) (pointer-nonzero (H .kids p) q m)
+  pub obj-of : (x : ℕ) → Used x → Obj (s .control .n) x
+  obj-of x u = go (in-or-out (s .control .n) (s .records) x)
     where
-      go : (q ≡ 0) ⊎ Used q → q ≢ 0 → Used q
-      go (inl e) nz = absurd (nz e)
-      go (inr u) nz = u
+      go : Obj (s .control .n) x ⊎ (rec s x ≡ 0) → Obj (s .control .n) x
+      go (inl b) = b
+      go (inr z) = absurd (u z)
+
+  -- an object in use has a record
+  in-use : (x : ℕ) → inUse (rec s x) ≡ true → Used x
+  unfolding flag field
+  in-use x u z = false≢true (sym (ap (λ (r : ℕ). flag 0 r) z) ∙ u)
+
+  targets-used : (p q : ℕ) → List·Memᴰ q (targets H p) → Used q
+  targets-used p q m = in-use q (sane-targets rules (C .size) p q m .used)
+
+  -- who has a cluster is in use
+  pub member-used : (x : ℕ) → H .cluster x ≢ 0 → Used x
+  unfolding view field
+  member-used x nz z = nz (rw z refl)
 
   starts-used : (p : ℕ) → List·Memᴰ p (pointers from) → Used p
   unfolding starts view
   starts-used p m = go (List·Memᴰ·append-cases (rootsOf s) (pointer-word from p m)) (pointer-nonzero from p m)
     where
-      root : (p ≡ 0) ⊎ Used p → p ≢ 0 → Used p
+      root : (p ≡ 0) ⊎ Names (s .control .n) (s .records) p → p ≢ 0 → Used p
       root (inl e) nz = absurd (nz e)
-      root (inr u) nz = u
+      root (inr N) nz = in-use p (N .used)
+
+      sink : isSink (rec s p) ≡ true → Used p
+      sink e z = false≢true (unfold flag field in (sym (ap (λ (r : ℕ). isSink r) z)) ∙ e)
 
       go : List·Memᴰ p (rootsOf s) ⊎ List·Memᴰ p (gather (s .control .n) (H .sink) (λ x. x ∷ [])) → p ≢ 0 → Used p
-      go (inl m) nz = root (roots-in-use s I p m) nz
-      go (inr m) nz = sinks-in-use s I p (unfold view in (gather-of (s .control .n) (H .sink) p m .2))
-
-  pub led-used : (x : ℕ) → Led s x → Used x
-  led-used x r = reach-all (targets H) (pointers from) Used starts-used (λ p q u m. targets-used p q m) r
-
-  obj-of : (x : ℕ) → Used x → Obj (s .control .n) x
-  obj-of x u = in-range s I x u
+      go (inl m) nz = root (rules .rooted p m) nz
+      go (inr m) nz = sink (unfold view in (gather-of (s .control .n) (H .sink) p m .2))
 
   nonzero : (x : ℕ) → 1 ≤ x → x ≢ 0
   nonzero x p z = absurd (omega (arith, p, z))
 
-  pub sink-led : (x : ℕ) → Obj (s .control .n) x → H .sink x ≡ true → Led s x
-  unfolding view
-  sink-led x b e = start (word-pointer from x (nonzero x (b .0)) (sink-start H (rootsOf s) x b e))
+  -- ---- heads
 
-  pub root-led : (x : ℕ) → List·Memᴰ x (rootsOf s) → x ≢ 0 → Led s x
-  root-led x m nz = start (word-pointer from x nz (root-start H (rootsOf s) x m))
+  pub head-own : (x : ℕ) → H .cluster x ≢ 0 → H .cluster (H .cluster x) ≡ H .cluster x
+  unfolding view
+  head-own x nz = rules .heads x nz
+
+  pub head-obj : (x : ℕ) → H .cluster x ≢ 0 → Obj (s .control .n) (H .cluster x)
+  head-obj x nz = obj-of (H .cluster x) (member-used (H .cluster x) (λ z. nz (sym (head-own x nz) ∙ z)))
 
   -- ---- the heap is sound for both walks
 
   pub sound : Sound H from
   unfolding view
-  sound = sound-starts H (rootsOf s) (I .good .conn) (I .good .zero-none) (I .good .closed) (λ x b. I .good .exact x) (roots-low s I)
+  sound = sound-starts H (rootsOf s) head-own (view-closed (s .control .n) (s .records) (s .slots)) (λ x b. sane-exact rules x) (sane-roots rules)
 
   -- ---- what a walk tells
 
-  pub record Facts (t : Traced) : Type 0 where
-    pub kept-is : (x : ℕ) → Obj (s .control .n) x → (t .kept x ≡ true) ↔ Led s x
-    pub heads-is : (x : ℕ) → Obj (s .control .n) x → H .cluster x ≢ 0 → t .heads (H .cluster x) ≡ t .kept (H .cluster x)
+  -- kept are those of K, which has the starts and with an object its pointers
+  pub record Facts (t : Traced) (K : ℕ → Type 0) : Type 0 where
+    pub kept-is : (x : ℕ) → Obj (s .control .n) x → (t .kept x ≡ true) ↔ K x
+    pub heads-is : (x : ℕ) → H .cluster x ≢ 0 → t .heads (H .cluster x) ≡ t .kept (H .cluster x)
     pub few : t .scanned ≤ count (s .control .n) (t .kept)
+    pub used : (x : ℕ) → K x → Used x
+    pub begins : (x : ℕ) → List·Memᴰ x (pointers from) → K x
+    pub leads : (x y : ℕ) → K x → List·Memᴰ y (targets H x) → K y
 
-  head-own : (x : ℕ) → H .cluster x ≢ 0 → H .cluster (H .cluster x) ≡ H .cluster x
-  head-own x nz = connected-head (H .kids) (H .cluster) (I .good .conn) x nz
+  -- a walk that keeps what is reached in steps that pointers are among
+  reach-facts : (t : Traced) (next : ℕ → List ℕ) → ((x y : ℕ) → List·Memᴰ y (targets H x) → List·Memᴰ y (next x))
+      → ((x y : ℕ) → Used x → List·Memᴰ y (next x) → Used y)
+      → ((x : ℕ) → Obj (s .control .n) x → (t .kept x ≡ true) ↔ Reach next (pointers from) x)
+      → ((x : ℕ) → H .cluster x ≢ 0 → t .heads (H .cluster x) ≡ t .kept (H .cluster x))
+      → t .scanned ≤ count (s .control .n) (t .kept) → Facts t (λ x. Reach next (pointers from) x)
+  reach-facts t next more all kept heads few =
+      record {
+        kept-is = kept;
+        heads-is = heads;
+        few = few;
+        used = λ x r. reach-all next (pointers from) Used starts-used all r;
+        begins = λ x m. start m;
+        leads = λ x y r m. along r (more x y m);
+      }
 
-  pub head-obj : (x : ℕ) → H .cluster x ≢ 0 → Obj (s .control .n) (H .cluster x)
-  head-obj x nz = (positive (H .cluster x) nz, unfold view in (I .good .range (H .cluster x) (λ z. nz (sym (head-own x nz) ∙ z))))
-    where
-      positive : (c : ℕ) → c ≢ 0 → 1 ≤ c
-      positive c d = omega (arith, d)
-
-  pub trace-facts : (kind : Kind) → Facts (trace kind H from)
+  -- each kind keeps what it is to keep
+  pub trace-facts : (kind : Kind) → Facts (trace kind H from) (KeptBy kind s)
   unfolding trace view
   trace-facts plainly =
-      let c = traced-correct (unclustered H) from (plain-sound H from (sound .starts-in) (sound .targets-in)) in
-      record { kept-is = c .kept-is; heads-is = λ x b nz. refl; few = c .finished .scanned-le }
+      let c = plain-correct H from (sound .starts-in) (sound .targets-in) in
+      reach-facts (trace plainly H from) (targets H) (λ x y m. m) (λ x y u m. targets-used x y m) (c .kept-is) (λ x nz. refl) (omega (arith, c .scans))
   trace-facts byClusters =
       let c = traced-correct H from sound in
-      record {
-        kept-is = c .kept-is;
-        heads-is = λ x b nz.
-            let h = c .finished .head-kept (H .cluster x) (head-obj x nz) (head-own x nz) in
-            same-test _ _ (h .1) (h .0);
-        few = c .finished .scanned-le;
-      }
+      reach-facts (trace byClusters H from) (withMembers H) (λ x y m. in-left y (targets H x) _ m)
+      (λ x y u m. members x y u (List·Memᴰ·append-cases (targets H x) m)) (c .kept-is)
+      (λ x nz. let h = c .finished .head-kept (H .cluster x) (head-obj x nz) (head-own x nz) in same-test _ _ (h .1) (h .0)) (c .finished .scanned-le)
+    where
+      members : (x y : ℕ) → Used x → List·Memᴰ y (targets H x) ⊎ List·Memᴰ y (gather (s .control .n) (λ z. eqb (H .cluster z) x) (λ z. z ∷ [])) → Used y
+      members x y u (inl m) = targets-used x y m
+      members x y u (inr m) =
+          let e = member-of (s .control .n) (H .cluster) x y m .1 in
+          member-used y (λ z. nonzero x (obj-of x u .0) (sym e ∙ z))
 
   -- a plain collection scans what it keeps
   pub plain-few : trace plainly H from .scanned ≡ count (s .control .n) (trace plainly H from .kept)
   unfolding trace view
-  plain-few = plain-scans H from (sound .starts-in) (sound .targets-in)
+  plain-few = plain-correct H from (sound .starts-in) (sound .targets-in) .scans
 
   -- ---- what the plain heap keeps
 
@@ -149,25 +187,30 @@ module _ (s : State) (I : Inv s) where
           let a = map-of (target (s .control .n)) (words p) q (pointer-word (H .kids p) q m) in
           at p q (a .0) (leb (a .0) (s .control .n)) (a .1) (a .2) (pointer-nonzero (H .kids p) q m)
 
-  -- a word that is the number of an object points at it
-  pub word-led : (x w : ℕ) → Led s x → List·Memᴰ w (words x) → 1 ≤ w → w ≤ s .control .n → Led s w
+  -- a word that is the number of an object is one of the pointers
+  pub word-target : (x w : ℕ) → List·Memᴰ w (words x) → 1 ≤ w → w ≤ s .control .n → List·Memᴰ w (targets H x)
   unfolding view target
-  word-led x w r m p q =
+  word-target x w m p q =
       let d : List·Memᴰ (target (s .control .n) w) (H .kids x) = map-in (target (s .control .n)) (words x) w m in
       let e : target (s .control .n) w ≡ w = rw (le-leb w (s .control .n) q) refl in
-      along r (word-pointer (H .kids x) w (nonzero w p) (rw e at d))
+      word-pointer (H .kids x) w (nonzero w p) (rw e at d)
 
   words-led : {x : ℕ} → Reach words from x → Obj (s .control .n) x → Led s x
   words-led (start {x = p} m) b = start (word-pointer from p (nonzero p (b .0)) m)
-  words-led (along {x = p} {y = q} r m) b = word-led p q (words-led r (has-words p q m)) m (b .0) (b .1)
+  words-led (along {x = p} {y = q} r m) b = along (words-led r (has-words p q m)) (word-target p q m (b .0) (b .1))
 
   pub plain-kept : (x : ℕ) → Obj (s .control .n) x → (has x (keptNumbers (plainOf s)) ≡ true) ↔ Led s x
   plain-kept x b =
       let t = rounds-reach (s .control .n) words from has-words x b in
       (λ e. words-led (t .0 (sym (ap (has x) numbers-kept) ∙ e)) b, λ r. ap (has x) numbers-kept ∙ t .1 (led-words x r))
 
-  -- ---- heads and members
+-- ---- with the invariant
 
-  pub member-led : (x : ℕ) → H .cluster x ≢ 0 → Led s (H .cluster x) → Led s x
-  unfolding view
-  member-led x nz r = reach-member H (H .cluster) (pointers from) (I .good .conn) (I .good .zero-none) x nz r
+module _ (s : State) (I : Inv s) where
+  -- both kinds are to keep what pointers reach
+  pub kept-led : (kind : Kind) (x : ℕ) → KeptBy kind s x ↔ Led s x
+  kept-led plainly x = (λ r. r, λ r. r)
+  kept-led byClusters x = connected-same (heapOf s) (startsOf s) (I .good .zero-none) (I .good .conn) x
+
+  pub member-led : (x : ℕ) → heapOf s .cluster x ≢ 0 → Led s (heapOf s .cluster x) → Led s x
+  member-led x nz r = reach-member (heapOf s) (heapOf s .cluster) (pointers (startsOf s)) (I .good .conn) (I .good .zero-none) x nz r

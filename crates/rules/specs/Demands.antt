@@ -15,7 +15,7 @@ use Rattle.layout.specs.declared.answers.Control.{Control}
 use Rattle.layout.specs.declared.answers.WordRead.{WordRead}
 use Rattle.layout.specs.declared.answers.Collected.{Collected}
 use Rattle.graph.specs.Numbers.{Obj, count}
-use Rattle.graph.specs.Heap.{Heap, pointers, targets, starts, Reach}
+use Rattle.graph.specs.Heap.{Heap, pointers, targets, withMembers, starts, Reach}
 use Rattle.graph.specs.Clusters.{size, outsOf}
 use Rattle.graph.specs.Trace.{postponed, Walk, traced, unclustered}
 use Rattle.graph.specs.Analysis.{items, begin, finish, walked}
@@ -171,7 +171,7 @@ pub record Demand1 : Type 0 where
       let from = starts H (take r roots) in
       Ended H (traced H from) × Ended H (traced (unclustered H) from) × ((limit : ℕ) → 1 ≤ limit → finish H limit (begin H from) .todo ≡ [])
 
--- ==== demand 2: every heap that the calls made
+-- ==== demand 2: every heap that the calls made; of collections and declarations every one that is accepted
 
 -- a state that an accepted create made and calls led to, accepted or refused, with any arguments and any buffers
 pub data Made : State → Type 0 where
@@ -212,28 +212,42 @@ Led s x = Reach (targets (heapOf s)) (pointers (startsOf s)) x
 abbrev pub collected : State → Kind → List ℕ → List ℕ → Collect.Outcome
 collected s kind work map = Collect.collect kind (s .control) (s .records) (s .slots) (s .roots) work map
 
--- the objects that a collection scans: all that a plain one keeps; by clusters no more, and as many as the walk over the clusters scans
+-- the objects that a collection is to keep: those that a path leads to; by clusters a path may also go from a head to a member
+abbrev pub KeptBy : Kind → State → ℕ → Type 0
+KeptBy plainly s x = Led s x
+KeptBy byClusters s x = Reach (withMembers (heapOf s)) (pointers (startsOf s)) x
+
+-- the objects that it scans: all that a plain one keeps; by clusters no more, and as many as the walk over the clusters scans
 abbrev pub Scans : State → Kind → Collected → Type 0
 Scans s plainly a = a .scanned ≡ a .kept
 Scans s byClusters a = (a .scanned ≤ a .kept) × (a .scanned ≡ traced (heapOf s) (startsOf s) .scanned)
 
--- what a collection does
+-- what an accepted collection with the outcome o does, if t is the state after it
+pub record Sweeps (s t : State) (kind : Kind) (o : Collect.Outcome) : Type 0 where
+  -- an object in use is freed exactly if it is not to be kept
+  pub frees : (x : ℕ) → Obj (s .control .n) x → inUse (rec s x) ≡ true → (rec t x ≡ 0) ↔ (KeptBy kind s x → ⊥)
+  -- the freed map holds the freed and no other number, and the count of freed is that of its ones
+  pub maps : (x : ℕ) → (holds x (take (mapLen (s .control .n)) (o .map)) ≡ true)
+      ↔ (Obj (s .control .n) x × (inUse (rec s x) ≡ true) × (rec t x ≡ 0))
+  pub freed : o .answer .freed ≡ length (numbersIn 0 (take (mapLen (s .control .n)) (o .map)))
+  -- kept are the objects in use after it
+  pub kept : o .answer .kept ≡ count (s .control .n) (λ x. inUse (rec t x))
+  pub scanned : Scans s kind (o .answer)
+  -- who is left was in use with the same words, width, written and sink bit; its cluster is as it was if the head is left too, and else none
+  pub leaves : (x : ℕ) → rec t x ≢ 0 → (inUse (rec t x) ≡ inUse (rec s x)) × (wordsOf t x ≡ wordsOf s x) × (width (rec t x) ≡ width (rec s x))
+      × (isWritten (rec t x) ≡ isWritten (rec s x)) × (isSink (rec t x) ≡ isSink (rec s x))
+  pub stays : (x : ℕ) → rec t x ≢ 0 → rec t (cluster (rec s x)) ≢ 0 → cluster (rec t x) ≡ cluster (rec s x)
+  pub goes : (x : ℕ) → rec t (cluster (rec s x)) ≡ 0 → cluster (rec t x) ≡ 0
+  -- the heap left is well formed, and the control record answered is the one handed in
+  pub formed : wellFormed (t .control .n) (t .control .r) (t .records) (t .slots) (t .roots) ≡ true
+  pub control : o .answer .control ≡ s .control
+
+-- and what it does in a heap that the calls made: either kind frees all that no path leads to, and no member of a cluster whose head it keeps
 pub record Collects (s : State) (kind : Kind) (work map : List ℕ) : Type 0 where
   pub accepted : collected s kind work map .answer .refusal ≡ 0
-  -- an object in use is freed exactly if it is not so reached
   pub frees : (x : ℕ) → Obj (s .control .n) x → inUse (rec s x) ≡ true → (recAfter (collect kind work map) s x ≡ 0) ↔ (Led s x → ⊥)
-  -- the freed map holds the freed and no other number, and the count of freed is that of its ones
-  pub maps : (x : ℕ) → (holds x (take (mapLen (s .control .n)) (collected s kind work map .map)) ≡ true)
-      ↔ (Obj (s .control .n) x × (inUse (rec s x) ≡ true) × (recAfter (collect kind work map) s x ≡ 0))
-  pub freed : collected s kind work map .answer .freed ≡ length (numbersIn 0 (take (mapLen (s .control .n)) (collected s kind work map .map)))
-  -- kept are the objects in use after it
-  pub kept : collected s kind work map .answer .kept ≡ count (s .control .n) (λ x. inUse (recAfter (collect kind work map) s x))
-  pub scanned : Scans s kind (collected s kind work map .answer)
-  -- a cluster is left as it was if its head is still in use, and else has no member
-  pub stays : (x : ℕ) → Obj (s .control .n) x → recAfter (collect kind work map) s (cluster (rec s x)) ≢ 0
+  pub stays : (x : ℕ) → recAfter (collect kind work map) s (cluster (rec s x)) ≢ 0
       → cluster (recAfter (collect kind work map) s x) ≡ cluster (rec s x)
-  pub goes : (x : ℕ) → Obj (s .control .n) x → recAfter (collect kind work map) s (cluster (rec s x)) ≡ 0
-      → cluster (recAfter (collect kind work map) s x) ≡ 0
 
 -- both kinds leave the same records, slots and map
 pub record SameEnd (s : State) (work map : List ℕ) : Type 0 where
@@ -336,6 +350,9 @@ refusalOf (analyse work) s = analysed s work .answer .refusal
 
 -- all of demand 2
 pub record Demand2 : Type 0 where
+  -- every accepted collection, in any heap
+  pub sweeps : (s : State) (kind : Kind) (work map : List ℕ) → refusalOf (collect kind work map) s ≡ 0
+      → Sweeps s (step (collect kind work map) s .after) kind (collected s kind work map)
   pub collects : (s : State) → Made s → (kind : Kind) (work map : List ℕ) → workLen (s .control .n) ≤ length work
       → mapLen (s .control .n) ≤ length map → Collects s kind work map
   pub sameEnd : (s : State) → Made s → (work map : List ℕ) → workLen (s .control .n) ≤ length work → mapLen (s .control .n) ≤ length map
@@ -343,7 +360,11 @@ pub record Demand2 : Type 0 where
   pub ruled : (s : State) → Made s → Ruled s
   pub analyses : (s : State) → Made s → (work : List ℕ) → refusalOf (analyse work) s ≡ 0 → Analyses s work
   pub writes : (s : State) → Made s → (i k w : ℕ) → refusalOf (write i k w) s ≡ 0 → Writes s i k w
-  pub declares : (s : State) → Made s → (i : ℕ) → refusalOf (declareSink i) s ≡ 0 → Declares s i
+  -- every accepted declaration, in any heap; a second one gives its refusal, or 0, and all as it was handed in
+  pub declares : (s : State) (i : ℕ) → refusalOf (declareSink i) s ≡ 0 → Declares s i
+  pub again : (s : State) (i : ℕ) → isSink (rec s i) ≡ true
+      → DeclareSink.declareSink (s .control) i (s .records) (s .slots) (s .roots)
+      ≡ record { answer = record { refusal = refusalOf (declareSink i) s; control = s .control }; records = s .records }
   -- an analysis that is lent enough work is accepted
   pub accepts : (s : State) → Made s → (work : List ℕ) → workLen (s .control .n) ≤ length work → refusalOf (analyse work) s ≡ 0
   -- the three buffers, handed on from call to call, are never too short
