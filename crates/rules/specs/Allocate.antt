@@ -56,20 +56,13 @@ module _ (c : Control) (width : ℕ) (recs slots : List ℕ) where
   unfoldable pub allocate : Outcome
   allocate =
       outcome allocateTests
-      (record {
-        answer = record { refusal = 0; object = given; control = withLast given c };
-        records = eachRecord (c .n) (λ x r. cond (eqb x given) (newRecord width) r) recs;
-        slots = eachSlot (c .n) (λ x w. cond (eqb x given) 0 w) slots;
-      })
-      (λ k. record { answer = record { refusal = k; object = 0; control = c }; records = recs; slots = slots })
+      (gives (record { refusal = 0; object = given; control = withLast given c })
+      (eachRecord (c .n) (λ x r. cond (eqb x given) (newRecord width) r) recs)
+      (eachSlot (c .n) (λ x w. cond (eqb x given) 0 w) slots))
+      (λ k. gives (record { refusal = k; object = 0; control = c }) recs slots)
 
   -- the form that is lent the control record leaves there what the other answers
   unfoldable pub allocateInPlace : OutcomeInPlace
   allocateInPlace =
       let o = allocate in
-      record {
-        answer = record { refusal = o .answer .refusal; object = o .answer .object };
-        control = o .answer .control;
-        records = o .records;
-        slots = o .slots;
-      }
+      givesInPlace (record { refusal = o .answer .refusal; object = o .answer .object }) (o .answer .control) (o .records) (o .slots)

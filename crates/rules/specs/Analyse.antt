@@ -70,9 +70,7 @@ module _ (c : Control) (recs slots roots work : List ℕ) where
   analyse =
       outcome analyseTests
       (let a = analysed in
-      record {
-        answer = record { refusal = 0; clusters = a .clusters; members = a .members; control = withAnalysis limitAfter (a .outLoss) c };
-        records = laid (a .heap) recs;
-        work = zeros (workLen (c .n)) work;
-      })
-      (λ m. record { answer = record { refusal = m; clusters = 0; members = 0; control = c }; records = recs; work = work })
+      gives (record { refusal = 0; clusters = a .clusters; members = a .members; control = withAnalysis limitAfter (a .outLoss) c })
+      (laid (a .heap) recs)
+      (zeros (workLen (c .n)) work))
+      (λ m. gives (record { refusal = m; clusters = 0; members = 0; control = c }) recs work)

@@ -75,24 +75,16 @@ module _ (kind : Kind) (c : Control) (recs slots roots work map : List ℕ) wher
   -- what is left after a walk that told this ("Collection")
   unfoldable pub sweep : Traced → Outcome
   sweep t =
-      record {
-        answer = record { refusal = 0; freed = count (c .n) (freedBy t); kept = count (c .n) (t .kept); scanned = t .scanned; control = c };
-        records = eachRecord (c .n) (sweptRecord t) recs;
-        slots = eachSlot (c .n) (λ x w. cond (freedBy t x) 0 w) slots;
-        work = zeros (workLen (c .n)) work;
-        map = eachFrom 0 (mapLen (c .n)) (λ j w. wordOf (freedBy t) j) map;
-      }
+      gives
+      (record { refusal = 0; freed = count (c .n) (freedBy t); kept = count (c .n) (t .kept); scanned = t .scanned; control = c })
+      (eachRecord (c .n) (sweptRecord t) recs)
+      (eachSlot (c .n) (λ x w. cond (freedBy t x) 0 w) slots)
+      (zeros (workLen (c .n)) work)
+      (eachFrom 0 (mapLen (c .n)) (λ j w. wordOf (freedBy t) j) map)
 
   -- the outcome ("Collection")
   unfoldable pub collect : Outcome
   collect =
       outcome collectTests
       (let H = view (c .n) recs slots in sweep (trace kind H (starts H (take (c .r) roots))))
-      (λ m.
-      record {
-        answer = record { refusal = m; freed = 0; kept = 0; scanned = 0; control = c };
-        records = recs;
-        slots = slots;
-        work = work;
-        map = map;
-      })
+      (λ m. gives (record { refusal = m; freed = 0; kept = 0; scanned = 0; control = c }) recs slots work map)

@@ -28,10 +28,5 @@ module _ (n r : ℕ) (recs slots roots : List ℕ) where
   unfoldable pub create : Outcome
   create =
       outcome createTests
-      (record {
-        answer = record { refusal = 0; control = newControl n r };
-        records = zeros n recs;
-        slots = zeros (slotsLen n) slots;
-        roots = zeros r roots;
-      })
-      (λ k. record { answer = record { refusal = k; control = newControl 0 0 }; records = recs; slots = slots; roots = roots })
+      (gives (record { refusal = 0; control = newControl n r }) (zeros n recs) (zeros (slotsLen n) slots) (zeros r roots))
+      (λ k. gives (record { refusal = k; control = newControl 0 0 }) recs slots roots)

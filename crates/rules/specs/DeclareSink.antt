@@ -34,8 +34,5 @@ module _ (c : Control) (i : ℕ) (recs slots roots : List ℕ) where
   unfoldable pub declareSink : Outcome
   declareSink =
       outcome declareTests
-      (record {
-        answer = record { refusal = 0; control = c };
-        records = cond (isSink (recOf (c .n) recs i)) recs (laid (declare (view (c .n) recs slots) i) recs);
-      })
-      (λ m. record { answer = record { refusal = m; control = c }; records = recs })
+      (gives (record { refusal = 0; control = c }) (cond (isSink (recOf (c .n) recs i)) recs (laid (declare (view (c .n) recs slots) i) recs)))
+      (λ m. gives (record { refusal = m; control = c }) recs)

@@ -156,13 +156,7 @@ pub record Demand1 : Type 0 where
   pub collected : (kind : Kind) (c : Control) (recs slots roots work map : List ℕ)
       → let o = Collect.collect kind c recs slots roots work map in
       Decided (Collect.collectTests kind c recs slots roots work map) o (λ o. o .answer .refusal)
-      (λ k. record {
-        answer = record { refusal = k; freed = 0; kept = 0; scanned = 0; control = c };
-        records = recs;
-        slots = slots;
-        work = work;
-        map = map;
-      })
+      (λ k. Collect.gives (record { refusal = k; freed = 0; kept = 0; scanned = 0; control = c }) recs slots work map)
       × Within (c .n) recs (o .records) × Within (slotsLen (c .n)) slots (o .slots) × Within (workLen (c .n)) work (o .work)
       × Within (mapLen (c .n)) map (o .map) × (o .answer .refusal ≡ 0 → Cleared (workLen (c .n)) (o .work)) × (o .answer .control ≡ c)
   -- in every well-formed heap the walks of both collections and of the analysis, which make a number of steps, are then at their end

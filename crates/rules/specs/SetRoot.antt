@@ -32,5 +32,5 @@ module _ (c : Control) (j w : ℕ) (recs roots : List ℕ) where
   unfoldable pub setRoot : Outcome
   setRoot =
       outcome setRootTests
-      (record { answer = record { refusal = 0; control = c }; roots = set roots j w })
-      (λ m. record { answer = record { refusal = m; control = c }; roots = roots })
+      (gives (record { refusal = 0; control = c }) (set roots j w))
+      (λ m. gives (record { refusal = m; control = c }) roots)

@@ -57,15 +57,11 @@ module _ (c : Control) (i k w : ℕ) (recs slots : List ℕ) where
   unfoldable pub write : Outcome
   write =
       outcome writeTests
-      (record {
-        answer = record { refusal = 0; control = withWriteLoss lossAfter c };
-        records = laid (store before i k (target (c .n) w)) recs;
-        slots = set slots (widthMax * (i - 1) + k) w;
-      })
-      (λ m. record { answer = record { refusal = m; control = c }; records = recs; slots = slots })
+      (gives (record { refusal = 0; control = withWriteLoss lossAfter c })
+      (laid (store before i k (target (c .n) w)) recs)
+      (set slots (widthMax * (i - 1) + k) w))
+      (λ m. gives (record { refusal = m; control = c }) recs slots)
 
   -- the form that is lent the control record leaves there what the other answers
   unfoldable pub writeInPlace : OutcomeInPlace
-  writeInPlace =
-      let o = write in
-      record { refusal = o .answer .refusal; control = o .answer .control; records = o .records; slots = o .slots }
+  writeInPlace = let o = write in givesInPlace (o .answer .refusal) (o .answer .control) (o .records) (o .slots)
