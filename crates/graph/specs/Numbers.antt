@@ -31,13 +31,13 @@ unfoldable pub gather : ℕ → (ℕ → Bool) → (ℕ → List ℕ) → List �
 gather zero t f = []
 gather (suc n) t f = gather n t f ++ cond (t (suc n)) (f (suc n)) []
 
--- the lowest of 1 to n that passes the test, 0 where none does
+-- a number that was found before, if it is not 0; else x, if x passes
 unfoldable pub lowestOf : ℕ → Bool → ℕ → ℕ
 lowestOf zero true x = x
 lowestOf zero false x = zero
 lowestOf (suc m) b x = suc m
 
--- by going up: what the numbers before gave decides first
+-- the lowest of 1 to n that passes the test, 0 where none does
 unfoldable pub lowest : (ℕ → Bool) → ℕ → ℕ
 lowest t zero = zero
 lowest t (suc n) = lowestOf (lowest t n) (t (suc n)) (suc n)

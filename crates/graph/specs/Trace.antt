@@ -1,4 +1,4 @@
--- The walk of a collection ("Collection"): what is to be visited stands in a list, an object's pointers in front of the rest.
+-- The walk of a collection ("Collection"): the visits to make are a list, an object's pointers in front of the rest.
 use Prim.Native.Nat.{ℕ, zero, suc, _+_, _*_}
 use mathlib.Core.Bool.{Bool, true, false, not, cond, _&&_, _||_}
 use mathlib.Core.List.{List, [], _∷_, _++_}
@@ -15,7 +15,7 @@ pub data Flag : Type 0 where
   marked postponed reached : Flag
   deriving Discrete as Flag-discrete
 
--- which flag stands at which object ("Collection")
+-- which objects have which flag ("Collection")
 abbrev pub Flags : Type 0
 Flags = Flag → ℕ → Bool
 
@@ -35,7 +35,7 @@ sameFlag reached reached = true
 unfoldable pub setFlag : Flags → Flag → ℕ → Bool → Flags
 setFlag s f o b g x = cond (sameFlag f g && eqb x o) b (s g x)
 
--- no flag stands anywhere
+-- no object has a flag
 unfoldable pub noFlags : Flags
 noFlags f x = false
 
@@ -73,7 +73,7 @@ module _ (H : Heap) where
   scanIf true false m o w = w
   scanIf false c m o w = w
 
-  -- the out members of h's cluster among 1 to k that are not marked are scanned, the highest first, so that their pointers stand by number in the end
+  -- the out members of h's cluster among 1 to k that are not marked are scanned, the highest first, so that in the end their pointers are in number order
   unfoldable pub scanOuts : ℕ → ℕ → Walk → Walk
   scanOuts h zero w = w
   scanOuts h (suc k) w = scanOuts h k (scanIf (out (suc k)) (eqb (cluster (suc k)) h) (w .flags marked (suc k)) (suc k) w)

@@ -1,4 +1,4 @@
--- Small heaps and what the walks make of them, by value: what no law pins down, such as the order of visits, shows here.
+-- Small heaps and what the walks make of them, by value.
 use Prim.Native.Nat.{ℕ, zero, suc}
 use mathlib.Core.Bool.{Bool, true, false, _||_}
 use mathlib.Core.List.{List, [], _∷_, _++_, map}

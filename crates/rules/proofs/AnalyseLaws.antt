@@ -24,7 +24,7 @@ use Rattle.rules.specs.Calls.{analyse}
 use Rattle.rules.specs.Analyse as Analyse
 use Rattle.rules.specs.Plain.{Cell, plainStep}
 use Rattle.rules.specs.Steps.{State, step}
-use Rattle.rules.specs.Demands.{heapOf, wordsOf, rec, rootsOf}
+use Rattle.rules.specs.Demands.{heapOf, wordsOf, rec, rootsOf, limitIn}
 use Rattle.rules.proofs.ListLaws.{same-numbers}
 use Rattle.rules.proofs.Invariant.{Inv}
 use Rattle.rules.proofs.Abstraction.{plainOf, cellOf, cellsOf}
@@ -130,10 +130,10 @@ module _ (s : State) (I : Inv s) (work : List ℕ) where
   -- the buffers hold the heap that the rule gives
   pub analyse-ruled : Analyse.analyse (s .control) (s .records) (s .slots) (s .roots) work .answer .refusal ≡ 0
       → heapOf (step (analyse work) s .after)
-      ≡ Graph.analyse rule (heapOf s) (Analyse.limitAfter (s .control) (s .records) (s .slots) (s .roots) work) (rootsOf s) .heap
+      ≡ Graph.analyse rule (heapOf s) (limitIn s work) (rootsOf s) .heap
   unfolding step Analyse.analyse Analyse.limitAfter analysed withAnalysis
   analyse-ruled =
-      all-by (λ (o : Analyse.Outcome). o .answer .refusal ≡ 0 → view (o .answer .control .n) (o .records) (s .slots) ≡ Graph.analyse rule H limit roots .heap) _ _ _
+      all-by (λ (o : Analyse.Outcome). o .answer .refusal ≡ 0 → view (o .answer .control .n) (o .records) (s .slots) ≡ Graph.analyse rule H (o .answer .control .limit) roots .heap) _ _ _
       (λ z e. after-view) (λ m e. absurd (suc-ne-zero m e))
 
   pub analyse-inv : Inv (step (analyse work) s .after)
@@ -148,6 +148,6 @@ module _ (s : State) (I : Inv s) (work : List ℕ) where
         (λ z. ap (λ (l : List Cell). record { last = s .control .last; roots = rootsOf s; cells = l }) after-cells) (λ m. refl);
   }
 
-  pub limit-low : 1 ≤ Analyse.limitAfter (s .control) (s .records) (s .slots) (s .roots) work
-  unfolding Analyse.limitAfter
-  limit-low = low
+  pub limit-low : Analyse.analyse (s .control) (s .records) (s .slots) (s .roots) work .answer .refusal ≡ 0 → 1 ≤ limitIn s work
+  unfolding Analyse.analyse Analyse.limitAfter withAnalysis
+  limit-low = all-by (λ (o : Analyse.Outcome). o .answer .refusal ≡ 0 → 1 ≤ o .answer .control .limit) _ _ _ (λ z e. low) (λ m e. absurd (suc-ne-zero m e))

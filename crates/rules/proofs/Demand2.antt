@@ -6,7 +6,7 @@ use Rattle.rules.proofs.WriteLaws.{write-ruled}
 use Rattle.rules.proofs.WriteFacts.{write-does}
 use Rattle.rules.proofs.DeclareLaws.{declare-ruled, declare-does, declare-twice}
 use Rattle.rules.proofs.AnalyseLaws.{analyse-ruled}
-use Rattle.rules.proofs.AnalyseFacts.{analyse-does, analyse-accepts}
+use Rattle.rules.proofs.AnalyseFacts.{analyse-does, analyse-accepts, analyse-adjusts}
 use Rattle.rules.proofs.CollectLaws.{collect-sweeps, collect-does, same-end}
 use Rattle.rules.proofs.Calls.{made-inv}
 use Rattle.rules.proofs.Unmet.{unmet}
@@ -18,6 +18,7 @@ demand2 = record {
   sameEnd = λ s m work map lw lm. same-end s (made-inv m) work map lw lm;
   ruled = λ s m. record { analysed = analyse-ruled s (made-inv m); written = write-ruled s (made-inv m); declared = declare-ruled s (made-inv m) };
   analyses = λ s m work e. analyse-does s (made-inv m) work e;
+  adjusts = analyse-adjusts;
   writes = λ s m i k w e. write-does s (made-inv m) i k w e;
   declares = λ s i e. declare-does s i e;
   again = λ s i e. declare-twice s i e;

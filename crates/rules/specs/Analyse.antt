@@ -45,7 +45,7 @@ pub record Outcome : Type 0 where
   pub records : List ℕ
   pub work : List ℕ
 
--- an answer and what stands in the buffers, as an outcome
+-- an answer and the buffers after the call, as an outcome
 abbrev pub gives : Analysed → List ℕ → List ℕ → Outcome
 gives a recs work = record { answer = a; records = recs; work = work }
 

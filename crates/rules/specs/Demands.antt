@@ -1,5 +1,5 @@
 -- The demands on the definitions: what holds of every input (1), of every heap that the calls made (2), and of every list of calls (3).
-use Prim.Native.Nat.{ℕ, _+_, _-_, _*_, _≤_, _<_}
+use Prim.Native.Nat.{ℕ, _+_, _-_, _*_, _≤_, _<_, _/_, min, max}
 use mathlib.Core.Path.{_≡_}
 use mathlib.Core.Bool.{Bool, true, false, not, _&&_, _||_, cond}
 use mathlib.Core.List.{List, [], _∷_}
@@ -14,13 +14,13 @@ use Rattle.layout.specs.Refusal.{Test}
 use Rattle.layout.specs.declared.answers.Control.{Control}
 use Rattle.layout.specs.declared.answers.WordRead.{WordRead}
 use Rattle.layout.specs.declared.answers.Collected.{Collected}
-use Rattle.graph.specs.Numbers.{Obj, count}
+use Rattle.graph.specs.Numbers.{Obj, count, sum}
 use Rattle.graph.specs.Heap.{Heap, pointers, targets, withMembers, starts, Reach}
 use Rattle.graph.specs.Clusters.{size, outsOf}
 use Rattle.graph.specs.Trace.{postponed, Walk, traced, unclustered}
-use Rattle.graph.specs.Analysis.{items, begin, finish, walked}
+use Rattle.graph.specs.Analysis.{begin, finish, walked}
 use Rattle.graph.specs.Analysis as Graph
-use Rattle.graph.specs.DepthFirst.{Done}
+use Rattle.graph.specs.DepthFirst.{Forms}
 use Rattle.graph.specs.Writes.{store, declare}
 use Rattle.rules.specs.Buffers.{recOf, eight, usedWords}
 use Rattle.rules.specs.View.{target, view}
@@ -32,7 +32,7 @@ use Rattle.rules.specs.Show as Show
 use Rattle.rules.specs.Write as Write
 use Rattle.rules.specs.SetRoot as SetRoot
 use Rattle.rules.specs.DeclareSink as DeclareSink
-use Rattle.rules.specs.Analyse.{rule, least, outPerTen, limitAfter}
+use Rattle.rules.specs.Analyse.{rule}
 use Rattle.rules.specs.Analyse as Analyse
 use Rattle.rules.specs.Collect.{Kind, plainly, byClusters}
 use Rattle.rules.specs.Collect as Collect
@@ -255,9 +255,9 @@ pub record SameEnd (s : State) (work map : List ℕ) : Type 0 where
 abbrev pub analysed : State → List ℕ → Analyse.Outcome
 analysed s work = Analyse.analyse (s .control) (s .records) (s .slots) (s .roots) work
 
--- the size limit that an analysis goes by
+-- the size limit that an analysis goes by: the one in the control record that it answers
 abbrev pub limitIn : State → List ℕ → ℕ
-limitIn s work = limitAfter (s .control) (s .records) (s .slots) (s .roots) work
+limitIn s work = analysed s work .answer .control .limit
 
 -- after an accepted analysis, write or declaration the buffers hold exactly the heap of its rule
 pub record Ruled (s : State) : Type 0 where
@@ -273,31 +273,29 @@ pub record Ruled (s : State) : Type 0 where
 abbrev pub walkedIn : State → List ℕ → ℕ → ℕ
 walkedIn s work = walked (heapOf s) (limitIn s work) (rootsOf s)
 
--- the members of cluster c then, and the pointers that leave it
+-- the number of members of cluster c then ("Analysis": s)
 abbrev pub membersIn : State → List ℕ → ℕ → ℕ
 membersIn s work c = size (s .control .n) (walkedIn s work) c
 
--- the out pointers of cluster c then
+-- the out pointers of cluster c then ("Analysis": p)
 abbrev pub outsIn : State → List ℕ → ℕ → ℕ
 outsIn s work c = outsOf (s .control .n) (heapOf s .kids) (heapOf s .sink) (walkedIn s work) c
 
 -- what an accepted analysis does to the clusters
 pub record Analyses (s : State) (work : List ℕ) : Type 0 where
-  -- the walk is the recursive one, depth first and in slot order, and no other end of that walk is possible
-  pub depthFirst : (seen : ℕ → Bool)
-      × Done (heapOf s) (limitIn s work) (items 0 (startsOf s)) (λ x. false) (heapOf s .cluster) seen (walkedIn s work)
-  pub oneEnd : (seen : ℕ → Bool) (cl : ℕ → ℕ)
-      → Done (heapOf s) (limitIn s work) (items 0 (startsOf s)) (λ x. false) (heapOf s .cluster) seen cl
-      → cl ≡ walkedIn s work
+  -- its walk is the recursive one, depth first and in slot order, which no other clusters come from
+  pub depthFirst : Forms (heapOf s) (limitIn s work) (rootsOf s) (walkedIn s work)
+  pub oneEnd : (cl : ℕ → ℕ) → Forms (heapOf s) (limitIn s work) (rootsOf s) cl → cl ≡ walkedIn s work
   -- a reached object is put into a new cluster, unless it was in one, is written or is a sink
   pub formed : (x : ℕ) → Led s x → cluster (rec s x) ≡ 0 → isWritten (rec s x) ≡ false → isSink (rec s x) ≡ false
       → (walkedIn s work x ≢ 0) × (cluster (rec s (walkedIn s work x)) ≡ 0)
   pub sizes : (c : ℕ) → c ≢ 0 → cluster (rec s c) ≡ 0 → membersIn s work c ≤ limitIn s work
-  -- a new cluster is deleted exactly if 10p > 25s or s < 4
+  -- a new cluster is deleted exactly if 2p > 5s or s < 4
   pub deleted : (x : ℕ) → walkedIn s work x ≢ 0 → cluster (rec s (walkedIn s work x)) ≡ 0
       → let c = walkedIn s work x in
       cluster (recAfter (analyse work) s x)
-      ≡ cond (ltb (outPerTen * membersIn s work c) (10 * outsIn s work c) || ltb (membersIn s work c) least) 0 c
+      ≡ cond (ltb (5 * membersIn s work c) (2 * outsIn s work c) || ltb (membersIn s work c) 4) 0 c
+  pub unwritten : (x : ℕ) → isWritten (recAfter (analyse work) s x) ≡ false
   -- an older cluster keeps its members and their out bits, and gets no other member
   pub older : (x : ℕ) → cluster (rec s x) ≢ 0
       → (cluster (recAfter (analyse work) s x) ≡ cluster (rec s x)) × (isOut (recAfter (analyse work) s x) ≡ isOut (rec s x))
@@ -308,6 +306,18 @@ pub record Analyses (s : State) (work : List ℕ) : Type 0 where
       ≡ count (s .control .n) (λ h. eqb (cluster (rec s h)) 0 && eqb (cluster (recAfter (analyse work) s h)) h)
   pub members : analysed s work .answer .members
       ≡ count (s .control .n) (λ x. eqb (cluster (rec s x)) 0 && not (eqb (cluster (recAfter (analyse work) s x)) 0))
+
+-- the control record that an accepted analysis of any buffers answers
+pub record Adjusts (s : State) (work : List ℕ) : Type 0 where
+  pub same : let c = analysed s work .answer .control in (c .n ≡ s .control .n) × (c .r ≡ s .control .r) × (c .last ≡ s .control .last)
+  -- the limit is first a sixteenth of the objects in use, later half or twice what it was, and always held to 8 to 4,095
+  pub first : s .control .limit ≡ 0 → limitIn s work ≡ max 8 (min 4095 (count (s .control .n) (λ x. inUse (rec s x)) / 16))
+  pub halved : s .control .limit ≢ 0 → s .control .«out_loss» < s .control .«write_loss» → limitIn s work ≡ max 8 (min 4095 (s .control .limit / 2))
+  pub doubled : s .control .limit ≢ 0 → s .control .«write_loss» ≤ s .control .«out_loss» → limitIn s work ≡ max 8 (min 4095 (2 * s .control .limit))
+  pub writeLoss : analysed s work .answer .control .«write_loss» ≡ 0
+  -- the members of the new clusters with 2p > 5s
+  pub outLoss : analysed s work .answer .control .«out_loss»
+      ≡ sum (s .control .n) (λ h. cond (eqb (cluster (rec s h)) 0 && eqb (walkedIn s work h) h && ltb (5 * membersIn s work h) (2 * outsIn s work h)) (membersIn s work h) 0)
 
 -- the word in slot k of object i points into the cluster of i
 abbrev pub PointsIn : State → ℕ → ℕ → Type 0
@@ -353,6 +363,7 @@ pub record Demand2 : Type 0 where
       → SameEnd s work map
   pub ruled : (s : State) → Made s → Ruled s
   pub analyses : (s : State) → Made s → (work : List ℕ) → refusalOf (analyse work) s ≡ 0 → Analyses s work
+  pub adjusts : (s : State) (work : List ℕ) → refusalOf (analyse work) s ≡ 0 → Adjusts s work
   pub writes : (s : State) → Made s → (i k w : ℕ) → refusalOf (write i k w) s ≡ 0 → Writes s i k w
   -- every accepted declaration, in any heap; a second one gives its refusal, or 0, and all as it was handed in
   pub declares : (s : State) (i : ℕ) → refusalOf (declareSink i) s ≡ 0 → Declares s i
