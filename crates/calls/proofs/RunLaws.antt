@@ -69,22 +69,22 @@ module _ (l : Line) (c : Control) (recs slots roots work map : List ℕ) (x : Ra
       ∙ ap (λ (o : Allocate.Outcome). gives (ran (o .answer .refusal) (o .answer .object) 0 0 (o .answer .control)) (o .records) (o .slots) roots work map) g
       ∙ ap (run c recs slots roots work map) (sym e)
 
-  pub ends-read : (i k : ℕ) (a : WordRead) → l ≡ line.Read i k → x ≡ ran (a .refusal) (a .word) 0 0 c
+  pub ends-read : (i k : ℕ) (a : WordRead) → l ≡ line.Read i k → x ≡ ran (a .refusal) (a .word) 0 0 (a .control)
       → a ≡ Read.read c i k recs slots
       → gives x recs slots roots work map ≡ run c recs slots roots work map l
   unfolding run Run.read
   ends-read i k a e f g =
       ap (λ (z : Ran). gives z recs slots roots work map) f
-      ∙ ap (λ (b : WordRead). gives (ran (b .refusal) (b .word) 0 0 c) recs slots roots work map) g
+      ∙ ap (λ (b : WordRead). gives (ran (b .refusal) (b .word) 0 0 (b .control)) recs slots roots work map) g
       ∙ ap (run c recs slots roots work map) (sym e)
 
-  pub ends-show : (i : ℕ) (a : Part) → l ≡ line.Show i → x ≡ ran (a .refusal) (a .start) (a .length) 0 c
+  pub ends-show : (i : ℕ) (a : Part) → l ≡ line.Show i → x ≡ ran (a .refusal) (a .start) (a .length) 0 (a .control)
       → a ≡ Show.show c i recs slots .answer
       → gives x recs slots roots work map ≡ run c recs slots roots work map l
   unfolding run Run.show
   ends-show i a e f g =
       ap (λ (z : Ran). gives z recs slots roots work map) f
-      ∙ ap (λ (b : Part). gives (ran (b .refusal) (b .start) (b .length) 0 c) recs slots roots work map) g
+      ∙ ap (λ (b : Part). gives (ran (b .refusal) (b .start) (b .length) 0 (b .control)) recs slots roots work map) g
       ∙ ap (run c recs slots roots work map) (sym e)
 
   pub ends-write : (i k w : ℕ) (a : Done) (recs′ slots′ : List ℕ) → l ≡ line.Write i k w → x ≡ ran (a .refusal) 0 0 0 (a .control)
@@ -96,22 +96,22 @@ module _ (l : Line) (c : Control) (recs slots roots work map : List ℕ) (x : Ra
       ∙ ap (λ (o : Write.Outcome). gives (ran (o .answer .refusal) 0 0 0 (o .answer .control)) (o .records) (o .slots) roots work map) g
       ∙ ap (run c recs slots roots work map) (sym e)
 
-  pub ends-root : (j w : ℕ) (a : Done) (roots′ : List ℕ) → l ≡ line.Root j w → x ≡ ran (a .refusal) 0 0 0 c
+  pub ends-root : (j w : ℕ) (a : Done) (roots′ : List ℕ) → l ≡ line.Root j w → x ≡ ran (a .refusal) 0 0 0 (a .control)
       → SetRoot.gives a roots′ ≡ SetRoot.setRoot c j w recs roots
       → gives x recs slots roots′ work map ≡ run c recs slots roots work map l
   unfolding run Run.setRoot
   ends-root j w a roots′ e f g =
       ap (λ (z : Ran). gives z recs slots roots′ work map) f
-      ∙ ap (λ (o : SetRoot.Outcome). gives (ran (o .answer .refusal) 0 0 0 c) recs slots (o .roots) work map) g
+      ∙ ap (λ (o : SetRoot.Outcome). gives (ran (o .answer .refusal) 0 0 0 (o .answer .control)) recs slots (o .roots) work map) g
       ∙ ap (run c recs slots roots work map) (sym e)
 
-  pub ends-sink : (i : ℕ) (a : Done) (recs′ : List ℕ) → l ≡ line.Sink i → x ≡ ran (a .refusal) 0 0 0 c
+  pub ends-sink : (i : ℕ) (a : Done) (recs′ : List ℕ) → l ≡ line.Sink i → x ≡ ran (a .refusal) 0 0 0 (a .control)
       → DeclareSink.gives a recs′ ≡ DeclareSink.declareSink c i recs slots roots
       → gives x recs′ slots roots work map ≡ run c recs slots roots work map l
   unfolding run Run.declareSink
   ends-sink i a recs′ e f g =
       ap (λ (z : Ran). gives z recs′ slots roots work map) f
-      ∙ ap (λ (o : DeclareSink.Outcome). gives (ran (o .answer .refusal) 0 0 0 c) (o .records) slots roots work map) g
+      ∙ ap (λ (o : DeclareSink.Outcome). gives (ran (o .answer .refusal) 0 0 0 (o .answer .control)) (o .records) slots roots work map) g
       ∙ ap (run c recs slots roots work map) (sym e)
 
   pub ends-analyse : (a : Analysed) (recs′ work′ : List ℕ) → l ≡ line.Analyse → x ≡ ran (a .refusal) (a .clusters) (a .members) 0 (a .control)
@@ -125,22 +125,22 @@ module _ (l : Line) (c : Control) (recs slots roots work map : List ℕ) (x : Ra
 
   ends-collect : (kind : Collect.Kind) (m : Line) (a : Collected) (recs′ slots′ work′ map′ : List ℕ)
       → run c recs slots roots work map m ≡ Run.collect c recs slots roots work map kind → l ≡ m
-      → x ≡ ran (a .refusal) (a .freed) (a .kept) (a .scanned) c
+      → x ≡ ran (a .refusal) (a .freed) (a .kept) (a .scanned) (a .control)
       → Collect.gives a recs′ slots′ work′ map′ ≡ Collect.collect kind c recs slots roots work map
       → gives x recs′ slots′ roots work′ map′ ≡ run c recs slots roots work map l
   unfolding Run.collect
   ends-collect kind m a recs′ slots′ work′ map′ d e f g =
       ap (λ (z : Ran). gives z recs′ slots′ roots work′ map′) f
-      ∙ ap (λ (o : Collect.Outcome). gives (ran (o .answer .refusal) (o .answer .freed) (o .answer .kept) (o .answer .scanned) c) (o .records) (o .slots) roots (o .work) (o .map)) g
+      ∙ ap (λ (o : Collect.Outcome). gives (ran (o .answer .refusal) (o .answer .freed) (o .answer .kept) (o .answer .scanned) (o .answer .control)) (o .records) (o .slots) roots (o .work) (o .map)) g
       ∙ runs-as _ m d e
 
-  pub ends-plain : (a : Collected) (recs′ slots′ work′ map′ : List ℕ) → l ≡ line.CollectPlain → x ≡ ran (a .refusal) (a .freed) (a .kept) (a .scanned) c
+  pub ends-plain : (a : Collected) (recs′ slots′ work′ map′ : List ℕ) → l ≡ line.CollectPlain → x ≡ ran (a .refusal) (a .freed) (a .kept) (a .scanned) (a .control)
       → Collect.gives a recs′ slots′ work′ map′ ≡ Collect.collect Collect.plainly c recs slots roots work map
       → gives x recs′ slots′ roots work′ map′ ≡ run c recs slots roots work map l
   unfolding run
   ends-plain a recs′ slots′ work′ map′ e f g = ends-collect Collect.plainly line.CollectPlain a recs′ slots′ work′ map′ refl e f g
 
-  pub ends-clusters : (a : Collected) (recs′ slots′ work′ map′ : List ℕ) → l ≡ line.CollectClusters → x ≡ ran (a .refusal) (a .freed) (a .kept) (a .scanned) c
+  pub ends-clusters : (a : Collected) (recs′ slots′ work′ map′ : List ℕ) → l ≡ line.CollectClusters → x ≡ ran (a .refusal) (a .freed) (a .kept) (a .scanned) (a .control)
       → Collect.gives a recs′ slots′ work′ map′ ≡ Collect.collect Collect.byClusters c recs slots roots work map
       → gives x recs′ slots′ roots work′ map′ ≡ run c recs slots roots work map l
   unfolding run

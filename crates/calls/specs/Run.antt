@@ -27,7 +27,7 @@ pub record Outcome : Type 0 where
 abbrev pub gives : Ran → List ℕ → List ℕ → List ℕ → List ℕ → List ℕ → Outcome
 gives a recs slots roots work map = record { answer = a; records = recs; slots = slots; roots = roots; work = work; map = map }
 
--- a refusal, 0 if accepted, the values that the call answers, and the control record
+-- a refusal, 0 if accepted, the values that the call answers, and the control record that it answers
 abbrev pub ran : ℕ → ℕ → ℕ → ℕ → Control → Ran
 ran refusal a b c control = record { refusal = refusal; a = a; b = b; c = c; control = control }
 
@@ -47,11 +47,13 @@ module _ (c : Control) (recs slots roots work map : List ℕ) where
       gives (ran (o .answer .refusal) (o .answer .object) 0 0 (o .answer .control)) (o .records) (o .slots) roots work map
 
   unfoldable pub read : ℕ → ℕ → Outcome
-  read i k = let a = Read.read c i k recs slots in gives (ran (a .refusal) (a .word) 0 0 c) recs slots roots work map
+  read i k = let a = Read.read c i k recs slots in gives (ran (a .refusal) (a .word) 0 0 (a .control)) recs slots roots work map
 
   -- where the part stands that is shown
   unfoldable pub show : ℕ → Outcome
-  show i = let a = Show.show c i recs slots .answer in gives (ran (a .refusal) (a .start) (a .length) 0 c) recs slots roots work map
+  show i =
+      let a = Show.show c i recs slots .answer in
+      gives (ran (a .refusal) (a .start) (a .length) 0 (a .control)) recs slots roots work map
 
   unfoldable pub write : ℕ → ℕ → ℕ → Outcome
   write i k w =
@@ -59,12 +61,14 @@ module _ (c : Control) (recs slots roots work map : List ℕ) where
       gives (ran (o .answer .refusal) 0 0 0 (o .answer .control)) (o .records) (o .slots) roots work map
 
   unfoldable pub setRoot : ℕ → ℕ → Outcome
-  setRoot j w = let o = SetRoot.setRoot c j w recs roots in gives (ran (o .answer .refusal) 0 0 0 c) recs slots (o .roots) work map
+  setRoot j w =
+      let o = SetRoot.setRoot c j w recs roots in
+      gives (ran (o .answer .refusal) 0 0 0 (o .answer .control)) recs slots (o .roots) work map
 
   unfoldable pub declareSink : ℕ → Outcome
   declareSink i =
       let o = DeclareSink.declareSink c i recs slots roots in
-      gives (ran (o .answer .refusal) 0 0 0 c) (o .records) slots roots work map
+      gives (ran (o .answer .refusal) 0 0 0 (o .answer .control)) (o .records) slots roots work map
 
   unfoldable pub analyse : Outcome
   analyse =
@@ -74,7 +78,7 @@ module _ (c : Control) (recs slots roots work map : List ℕ) where
   unfoldable pub collect : Collect.Kind → Outcome
   collect kind =
       let o = Collect.collect kind c recs slots roots work map in
-      gives (ran (o .answer .refusal) (o .answer .freed) (o .answer .kept) (o .answer .scanned) c) (o .records) (o .slots) roots (o .work) (o .map)
+      gives (ran (o .answer .refusal) (o .answer .freed) (o .answer .kept) (o .answer .scanned) (o .answer .control)) (o .records) (o .slots) roots (o .work) (o .map)
 
   -- the call of the line; a line without one does nothing
   unfoldable pub run : Line → Outcome

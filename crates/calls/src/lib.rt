@@ -44,18 +44,10 @@ fn answer(refusal: u32, a: u32, b: u32, c: u32, control: Control) -> Ran
     }
 }
 
-// Of a call that changes the control record.
-fn of_changed(a: Done) -> Ran
+fn of_done(a: Done) -> Ran
     ensures { λ x. ⌜ x ≡ Run.ran (a .refusal) 0 0 0 (a .control) ⌝ }
 {
     answer(a.refusal, 0, 0, 0, a.control)
-}
-
-// Of a call that leaves the control record c.
-fn of_done(a: Done, c: Control) -> Ran
-    ensures { λ x. ⌜ x ≡ Run.ran (a .refusal) 0 0 0 c ⌝ }
-{
-    answer(a.refusal, 0, 0, 0, c)
 }
 
 fn of_allocated(a: Allocated) -> Ran
@@ -64,16 +56,16 @@ fn of_allocated(a: Allocated) -> Ran
     answer(a.refusal, a.object, 0, 0, a.control)
 }
 
-fn of_read(a: WordRead, c: Control) -> Ran
-    ensures { λ x. ⌜ x ≡ Run.ran (a .refusal) (a .word) 0 0 c ⌝ }
+fn of_read(a: WordRead) -> Ran
+    ensures { λ x. ⌜ x ≡ Run.ran (a .refusal) (a .word) 0 0 (a .control) ⌝ }
 {
-    answer(a.refusal, a.word, 0, 0, c)
+    answer(a.refusal, a.word, 0, 0, a.control)
 }
 
-fn of_part(a: Part, c: Control) -> Ran
-    ensures { λ x. ⌜ x ≡ Run.ran (a .refusal) (a .start) (a .length) 0 c ⌝ }
+fn of_part(a: Part) -> Ran
+    ensures { λ x. ⌜ x ≡ Run.ran (a .refusal) (a .start) (a .length) 0 (a .control) ⌝ }
 {
-    answer(a.refusal, a.start, a.length, 0, c)
+    answer(a.refusal, a.start, a.length, 0, a.control)
 }
 
 fn of_analysed(a: Analysed) -> Ran
@@ -82,10 +74,10 @@ fn of_analysed(a: Analysed) -> Ran
     answer(a.refusal, a.clusters, a.members, 0, a.control)
 }
 
-fn of_collected(a: Collected, c: Control) -> Ran
-    ensures { λ x. ⌜ x ≡ Run.ran (a .refusal) (a .freed) (a .kept) (a .scanned) c ⌝ }
+fn of_collected(a: Collected) -> Ran
+    ensures { λ x. ⌜ x ≡ Run.ran (a .refusal) (a .freed) (a .kept) (a .scanned) (a .control) ⌝ }
 {
-    answer(a.refusal, a.freed, a.kept, a.scanned, c)
+    answer(a.refusal, a.freed, a.kept, a.scanned, a.control)
 }
 
 // The line's call; a line without one does nothing.
@@ -103,17 +95,17 @@ pub fn run(
 {
     match line {
         Line::Nothing => answer(0, 0, 0, 0, c),
-        Line::Create(n, r) => of_changed(create(n, r, records, slots, roots)),
+        Line::Create(n, r) => of_done(create(n, r, records, slots, roots)),
         Line::Allocate(width) => of_allocated(allocate(c, width, records, slots)),
-        Line::Read(i, k) => of_read(read(c, i, k, records, slots), c),
-        Line::Show(i) => of_part(show_part(c, i, records, slots), c),
-        Line::Write(i, k, w) => of_changed(write(c, i, k, w, records, slots)),
-        Line::Root(j, w) => of_done(set_root(c, j, w, records, roots), c),
-        Line::Sink(i) => of_done(declare_sink(c, i, records, slots, roots), c),
+        Line::Read(i, k) => of_read(read(c, i, k, records, slots)),
+        Line::Show(i) => of_part(show_part(c, i, records, slots)),
+        Line::Write(i, k, w) => of_done(write(c, i, k, w, records, slots)),
+        Line::Root(j, w) => of_done(set_root(c, j, w, records, roots)),
+        Line::Sink(i) => of_done(declare_sink(c, i, records, slots, roots)),
         Line::Analyse => of_analysed(analyse(c, records, slots, roots, work)),
-        Line::CollectPlain => of_collected(collect_plain(c, records, slots, roots, work, map), c),
+        Line::CollectPlain => of_collected(collect_plain(c, records, slots, roots, work, map)),
         Line::CollectClusters => {
-            of_collected(collect_clusters(c, records, slots, roots, work, map), c)
+            of_collected(collect_clusters(c, records, slots, roots, work, map))
         }
         Line::Wrote(_, _) => answer(0, 0, 0, 0, c),
         Line::Loaded(_, _) => answer(0, 0, 0, 0, c),

@@ -29,7 +29,7 @@ use Rattle.graph.proofs.State.{Good}
 use Rattle.rules.specs.Buffers.{recOf, eachRecord, eachSlot, eight, usedWords, otherWords, allOf}
 use Rattle.rules.specs.View.{view, target}
 use Rattle.rules.specs.WellFormed.{names}
-use Rattle.rules.specs.Calls.{allocate, gave}
+use Rattle.rules.specs.Calls.{allocate, allocateInPlace, gave}
 use Rattle.rules.specs.Allocate.{candidates, firstOf, given}
 use Rattle.rules.specs.Allocate as Allocate
 use Rattle.rules.specs.Plain.{Plain, Played, Cell, object, plainGiven, answer, plainStep}
@@ -130,20 +130,20 @@ module _ (s : State) (I : Inv s) (i v : ℕ) (low : 1 ≤ i) (high : i ≤ s .co
       go (no e) = rw (rec-other x e) (I .legal x)
 
   -- a word that named an object in use still does
-  names′ : (w : ℕ) → names n (s .records) (s .slots) w ≡ true → names n recs′ slots′ w ≡ true
+  names′ : (w : ℕ) → names n (s .records) w ≡ true → names n recs′ w ≡ true
   names′ w e =
       go (unfold names in (ap (λ (r : ℕ). isPointer n w && flag 0 r) (rec-other w (λ j. named-used s I w e .2 (ap (rec s) j ∙ blank)))))
     where
-      go : names n recs′ slots′ w ≡ names n (s .records) (s .slots) w → names n recs′ slots′ w ≡ true
+      go : names n recs′ w ≡ names n (s .records) w → names n recs′ w ≡ true
       go h = h ∙ e
 
-  named′ : (x w : ℕ) → List·Memᴰ w (usedWords n recs′ slots′ x) → SlotWord n recs′ slots′ w
+  named′ : (x w : ℕ) → List·Memᴰ w (usedWords n recs′ slots′ x) → SlotWord n recs′ w
   named′ x w m = go (ℕ-discrete x i)
     where
-      zero-word : (w : ℕ) → w ≡ 0 → SlotWord n recs′ slots′ w
+      zero-word : (w : ℕ) → w ≡ 0 → SlotWord n recs′ w
       zero-word w e = unfold isNil in (rw e refl)
 
-      go : Dec (x ≡ i) → SlotWord n recs′ slots′ w
+      go : Dec (x ≡ i) → SlotWord n recs′ w
       go (yes e) = zero-word w (mem-replicate v 0 w (rw (e, used-at) at m))
       go (no e) = or-last (isNil w || isImmediate w) _ _ (I .named x w (rw (used-other x e) at m)) (names′ w)
 
@@ -278,3 +278,8 @@ module _ (s : State) (I : Inv s) (v : ℕ) where
           ap (λ (l : List Cell). record { last = given (s .control) v (s .records) (s .slots); roots = rootsOf s; cells = l })
           (given-cells s I (given (s .control) v (s .records) (s .slots)) v (F .low) (F .high) (F .blank) (F .narrow))
           ∙ ap (λ (x : ℕ). record { last = x; roots = rootsOf s; cells = set (cellsOf (s .control .n) (s .records) (s .slots)) (x - 1) (object (replicate v 0) false) }) same-given
+
+-- the form that is lent the control record leaves the same state
+pub allocated-in-place : (s : State) (v : ℕ) → step (allocateInPlace v) s ≡ step (allocate v) s
+unfolding step Allocate.allocateInPlace
+allocated-in-place s v = refl

@@ -4,24 +4,27 @@ use Prim.Native.Nat.{ℕ}
 use mathlib.Core.Path.{_≡_, sym, subst}
 use mathlib.Core.List.{List}
 use Rattle.rules.specs.Create.{create}
-use Rattle.rules.specs.Calls.{Call, allocate, read, show, write, setRoot, declareSink, collect, analyse}
-use Rattle.rules.specs.Plain.{answer}
+use Rattle.rules.specs.Calls.{Call, allocate, allocateInPlace, read, show, write, writeInPlace, setRoot, declareSink, collect, analyse}
+use Rattle.rules.specs.Plain.{Played}
 use Rattle.rules.specs.Steps.{State, created, step}
 use Rattle.rules.specs.Demands.{Made, new, called}
 use Rattle.rules.proofs.Invariant.{Inv}
+use Rattle.rules.proofs.ReadLaws.{read-stays, show-stays}
 use Rattle.rules.proofs.SetRootLaws.{root-inv}
-use Rattle.rules.proofs.WriteLaws.{write-inv}
+use Rattle.rules.proofs.WriteLaws.{write-inv, written-in-place}
 use Rattle.rules.proofs.DeclareLaws.{declare-inv}
 use Rattle.rules.proofs.AnalyseLaws.{analyse-inv}
 use Rattle.rules.proofs.CreateLaws.{accepted, zeroed-inv}
-use Rattle.rules.proofs.AllocateLaws.{allocate-inv}
+use Rattle.rules.proofs.AllocateLaws.{allocate-inv, allocated-in-place}
 use Rattle.rules.proofs.CollectLaws.{collect-inv}
 
 pub step-inv : (call : Call) (s : State) → Inv s → Inv (step call s .after)
 step-inv (allocate width) s I = allocate-inv s I width
-step-inv (read i k) s I = unfold step answer in I
-step-inv (show i) s I = unfold step answer in I
+step-inv (allocateInPlace width) s I = subst (λ (p : Played State). Inv (p .after)) (sym (allocated-in-place s width)) (allocate-inv s I width)
+step-inv (read i k) s I = subst Inv (sym (read-stays s i k)) I
+step-inv (show i) s I = subst Inv (sym (show-stays s i)) I
 step-inv (write i k w) s I = write-inv s I i k w
+step-inv (writeInPlace i k w) s I = subst (λ (p : Played State). Inv (p .after)) (sym (written-in-place s i k w)) (write-inv s I i k w)
 step-inv (setRoot j w) s I = root-inv s I j w
 step-inv (declareSink i) s I = declare-inv s I i
 step-inv (collect kind work map) s I = collect-inv s I kind work map

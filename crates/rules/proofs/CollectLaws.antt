@@ -136,7 +136,7 @@ module _ (s : State) (kind : Kind) (work map₀ : List ℕ) where
     collected-after : step (collect kind work map₀) s .after ≡ state′ s kind work map₀ told
     unfolding step answer
     collected-after =
-        ap (λ (o : Outcome). record { control = s .control; records = o .records; slots = o .slots; roots = s .roots }) collected-is ∙ (unfold sweep in refl)
+        ap (λ (o : Outcome). record { control = o .answer .control; records = o .records; slots = o .slots; roots = s .roots }) collected-is ∙ (unfold sweep in refl)
 
     pub collect-sweeps : Sweeps s (step (collect kind work map₀) s .after) kind (collected s kind work map₀)
     collect-sweeps =
@@ -159,7 +159,7 @@ module _ (s : State) (I : Inv s) (kind : Kind) (work map₀ : List ℕ) where
   known = trace-facts s fit kind
 
   abbrev stateOf : Outcome → State
-  stateOf o = record { control = s .control; records = o .records; slots = o .slots; roots = s .roots }
+  stateOf o = record { control = o .answer .control; records = o .records; slots = o .slots; roots = s .roots }
 
   pub collect-inv : Inv (step (collect kind work map₀) s .after)
   unfolding step Collect.collect answer sweep

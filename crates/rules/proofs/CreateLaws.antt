@@ -137,7 +137,7 @@ module _ (n r : ℕ) (recs slots roots : List ℕ) where
       good = subst (λ (H : Heap). Good H 0) (sym same) (create-good n);
     }
       where
-        root : (w : ℕ) → w ≡ 0 → (isNil w || Rattle.rules.specs.WellFormed.names n (zeros n recs) (zeros (slotsLen n) slots) w) ≡ true
+        root : (w : ℕ) → w ≡ 0 → (isNil w || Rattle.rules.specs.WellFormed.names n (zeros n recs) w) ≡ true
         root w e = unfold isNil in (rw e refl)
 
     pub zeroed-plain : plainOf zeroed ≡ plainCreated n r

@@ -151,7 +151,7 @@ module _ (s : State) (I : Inv s) where
               cell x ∙ rw (upd-other (H .sink) (suc i) x true y) (unfold cellOf view flag field in refl)
 
   abbrev stateOf : Declare.Outcome → State
-  stateOf o = record { control = s .control; records = o .records; slots = s .slots; roots = s .roots }
+  stateOf o = record { control = o .answer .control; records = o .records; slots = s .slots; roots = s .roots }
 
   pub declare-inv : (i : ℕ) → Inv (step (declareSink i) s .after)
   unfolding step Declare.declareSink answer
@@ -201,7 +201,7 @@ module _ (s : State) (I : Inv s) where
       → heapOf (step (declareSink i) s .after) ≡ declare (heapOf s) i
   unfolding step Declare.declareSink answer
   declare-ruled i =
-      all-by (λ (o : Declare.Outcome). o .answer .refusal ≡ 0 → view (s .control .n) (o .records) (s .slots) ≡ declare (heapOf s) i) _ _ _
+      all-by (λ (o : Declare.Outcome). o .answer .refusal ≡ 0 → view (o .answer .control .n) (o .records) (s .slots) ≡ declare (heapOf s) i) _ _ _
       (λ z e. done-view i (facts i z) _ refl) (λ m e. absurd (suc-ne-zero m e))
 
 -- ---- every accepted declaration
@@ -246,7 +246,7 @@ module _ (s : State) (i : ℕ) (accepted : refusalOf (declareSink i) s ≡ 0) wh
       ≡ record { control = s .control; records = cond sunk (s .records) laid-recs; slots = s .slots; roots = s .roots }
   unfolding step Declare.declareSink answer
   declared-after =
-      ap (λ (o : Declare.Outcome). record { control = s .control; records = o .records; slots = s .slots; roots = s .roots }) (outcome-zero _ _ _ none)
+      ap (λ (o : Declare.Outcome). record { control = o .answer .control; records = o .records; slots = s .slots; roots = s .roots }) (outcome-zero _ _ _ none)
 
   abbrev now : Bool → ℕ → ℕ
   now b x = recOf (s .control .n) (cond b (s .records) laid-recs) x

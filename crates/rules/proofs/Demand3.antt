@@ -9,17 +9,20 @@ use lib.ListN.{length, take, drop, replicate, length-drop, take-append-drop}
 use lib.Seq.{take-add, drop-drop}
 use borrow.Author.Tests.{eqb-true}
 use Rattle.layout.specs.Limits.{slotsLen}
+use Rattle.layout.specs.declared.answers.Control.{Control}
 use Rattle.records.specs.Record.{width}
 use Rattle.layout.specs.Word.{isNil}
 use Rattle.layout.specs.ControlRecord.{withLast, withWriteLoss, withAnalysis, newControl}
 use Rattle.rules.specs.Buffers.{eight, usedWords, otherWords, allOf, numbers}
-use Rattle.rules.specs.Collect.{plainly, byClusters}
+use Rattle.rules.specs.Collect.{byClusters}
 use Rattle.rules.specs.Collect as Collect
 use Rattle.rules.specs.Allocate as Allocate
 use Rattle.rules.specs.Write as Write
+use Rattle.rules.specs.SetRoot as SetRoot
+use Rattle.rules.specs.DeclareSink as DeclareSink
 use Rattle.rules.specs.Analyse as Analyse
-use Rattle.rules.specs.Calls.{Call, allocate, read, show, write, setRoot, declareSink, collect, analyse}
-use Rattle.rules.specs.Plain.{Plain, Cell, eightOf, plainSlots, plainStep, plainCreated, answer}
+use Rattle.rules.specs.Calls.{Call, allocate, allocateInPlace, read, show, write, writeInPlace, setRoot, declareSink, collect, analyse}
+use Rattle.rules.specs.Plain.{Plain, Played, Cell, eightOf, plainSlots, plainStep, plainCreated, answer}
 use Rattle.rules.specs.Steps.{State, step, answersOf, afterAll}
 use Rattle.rules.specs.Demands.{Lent, ScansFew, Alike, Demand3, PlainKeeps, wordsOf, rec}
 use Rattle.rules.proofs.ListLaws.{length-eight}
@@ -27,14 +30,14 @@ use Rattle.rules.proofs.BoolLaws.{and-split}
 use Rattle.rules.proofs.Invariant.{Inv}
 use Rattle.rules.proofs.Abstraction.{plainOf, cellOf, cellsOf, cell-words}
 use Rattle.rules.proofs.Simulation.{Same, all-by, used-length}
-use Rattle.rules.proofs.ReadLaws.{read-same, show-same}
+use Rattle.rules.proofs.ReadLaws.{read-same, show-same, read-stays, show-stays}
 use Rattle.rules.proofs.SetRootLaws.{root-same}
-use Rattle.rules.proofs.WriteLaws.{write-same}
+use Rattle.rules.proofs.WriteLaws.{write-same, written-in-place}
 use Rattle.rules.proofs.DeclareLaws.{declare-same}
 use Rattle.rules.proofs.AnalyseLaws.{analyse-same}
 use Rattle.rules.proofs.RoundLaws.{plain-reach}
 use Rattle.rules.proofs.CreateLaws.{accepted, zeroed-inv, zeroed-plain}
-use Rattle.rules.proofs.AllocateLaws.{allocate-same}
+use Rattle.rules.proofs.AllocateLaws.{allocate-same, allocated-in-place}
 use Rattle.rules.proofs.CollectLaws.{collect-same, collect-is, scans-few}
 use Rattle.rules.proofs.Calls.{step-inv}
 
@@ -80,19 +83,29 @@ module _ (s : State) (I : Inv s) where
 -- ---- demand 3
 
 -- n and r stay
-pub sizes-kept : (call : Call) (s : State) → (step call s .after .control .n ≡ s .control .n) × (step call s .after .control .r ≡ s .control .r)
-unfolding step answer Allocate.allocate Write.write Analyse.analyse withLast withWriteLoss withAnalysis
-sizes-kept (allocate width) s =
-    all-by (λ (o : Allocate.Outcome). (o .answer .control .n ≡ s .control .n) × (o .answer .control .r ≡ s .control .r)) _ _ _ (λ z. (refl, refl)) (λ m. (refl, refl))
-sizes-kept (read i k) s = (refl, refl)
-sizes-kept (show i) s = (refl, refl)
-sizes-kept (write i k w) s =
-    all-by (λ (o : Write.Outcome). (o .answer .control .n ≡ s .control .n) × (o .answer .control .r ≡ s .control .r)) _ _ _ (λ z. (refl, refl)) (λ m. (refl, refl))
-sizes-kept (setRoot j w) s = (refl, refl)
-sizes-kept (declareSink i) s = (refl, refl)
-sizes-kept (collect kind work map) s = (refl, refl)
-sizes-kept (analyse work) s =
-    all-by (λ (o : Analyse.Outcome). (o .answer .control .n ≡ s .control .n) × (o .answer .control .r ≡ s .control .r)) _ _ _ (λ z. (refl, refl)) (λ m. (refl, refl))
+abbrev Sizes : State → Control → Type 0
+Sizes s c = (c .n ≡ s .control .n) × (c .r ≡ s .control .r)
+
+allocate-sizes : (s : State) (width : ℕ) → Sizes s (Allocate.allocate (s .control) width (s .records) (s .slots) .answer .control)
+unfolding Allocate.allocate withLast
+allocate-sizes s width = all-by (λ (o : Allocate.Outcome). Sizes s (o .answer .control)) _ _ _ (λ z. (refl, refl)) (λ m. (refl, refl))
+
+write-sizes : (s : State) (i k w : ℕ) → Sizes s (Write.write (s .control) i k w (s .records) (s .slots) .answer .control)
+unfolding Write.write withWriteLoss
+write-sizes s i k w = all-by (λ (o : Write.Outcome). Sizes s (o .answer .control)) _ _ _ (λ z. (refl, refl)) (λ m. (refl, refl))
+
+pub sizes-kept : (call : Call) (s : State) → Sizes s (step call s .after .control)
+unfolding step answer Allocate.allocateInPlace Write.writeInPlace SetRoot.setRoot DeclareSink.declareSink Collect.collect Collect.sweep Analyse.analyse withAnalysis
+sizes-kept (allocate width) s = allocate-sizes s width
+sizes-kept (allocateInPlace width) s = allocate-sizes s width
+sizes-kept (read i k) s = subst (λ (t : State). Sizes s (t .control)) (sym (read-stays s i k)) (refl, refl)
+sizes-kept (show i) s = subst (λ (t : State). Sizes s (t .control)) (sym (show-stays s i)) (refl, refl)
+sizes-kept (write i k w) s = write-sizes s i k w
+sizes-kept (writeInPlace i k w) s = write-sizes s i k w
+sizes-kept (setRoot j w) s = all-by (λ (o : SetRoot.Outcome). Sizes s (o .answer .control)) _ _ _ (λ z. (refl, refl)) (λ m. (refl, refl))
+sizes-kept (declareSink i) s = all-by (λ (o : DeclareSink.Outcome). Sizes s (o .answer .control)) _ _ _ (λ z. (refl, refl)) (λ m. (refl, refl))
+sizes-kept (collect kind work map) s = all-by (λ (o : Collect.Outcome). Sizes s (o .answer .control)) _ _ _ (λ z. (refl, refl)) (λ m. (refl, refl))
+sizes-kept (analyse work) s = all-by (λ (o : Analyse.Outcome). Sizes s (o .answer .control)) _ _ _ (λ z. (refl, refl)) (λ m. (refl, refl))
 
 -- one call: what it is lent, and that it does what the plain heap does
 abbrev pub LentOne : ℕ → Call → Type 0
@@ -100,35 +113,39 @@ LentOne n call = Lent n (call ∷ [])
 
 lent-split : (n : ℕ) (call : Call) (l : List Call) → Lent n (call ∷ l) → LentOne n call × Lent n l
 lent-split n (allocate width) l h = (tt, h)
+lent-split n (allocateInPlace width) l h = (tt, h)
 lent-split n (read i k) l h = (tt, h)
 lent-split n (show i) l h = (tt, h)
 lent-split n (write i k w) l h = (tt, h)
+lent-split n (writeInPlace i k w) l h = (tt, h)
 lent-split n (setRoot j w) l h = (tt, h)
 lent-split n (declareSink i) l h = (tt, h)
 lent-split n (collect kind work map) l h = ((h .0, h .1, tt), h .2)
 lent-split n (analyse work) l h = (tt, h)
 
+-- a call whose step, of either heap, is that of another
+same-call : (call call′ : Call) (s : State) → step call s ≡ step call′ s → plainStep call (plainOf s) ≡ plainStep call′ (plainOf s) → Same call′ s → Same call s
+same-call call call′ s e f S = record {
+  answers = ap (λ (p : Played State). p .answers) e ∙ S .answers ∙ sym (ap (λ (p : Played Plain). p .answers) f);
+  after = ap (λ (p : Played State). plainOf (p .after)) e ∙ S .after ∙ sym (ap (λ (p : Played Plain). p .after) f);
+}
+
 pub step-same : (call : Call) (s : State) → Inv s → LentOne (s .control .n) call → Same call s
 step-same (allocate width) s I h = allocate-same s I width
+step-same (allocateInPlace width) s I h = same-call _ (allocate width) s (allocated-in-place s width) (unfold plainStep in refl) (allocate-same s I width)
 step-same (read i k) s I h = read-same s I i k
 step-same (show i) s I h = show-same s I i
 step-same (write i k w) s I h = write-same s I i k w
+step-same (writeInPlace i k w) s I h = same-call _ (write i k w) s (written-in-place s i k w) (unfold plainStep in refl) (write-same s I i k w)
 step-same (setRoot j w) s I h = root-same s I j w
 step-same (declareSink i) s I h = declare-same s I i
 step-same (collect kind work map) s I h = collect-same s I kind work map (h .0) (h .1)
 step-same (analyse work) s I h = analyse-same s I work
 
 step-scans : (call : Call) (s : State) → Inv s → LentOne (s .control .n) call → ScansFew s call
-step-scans (allocate width) s I h = tt
-step-scans (read i k) s I h = tt
-step-scans (show i) s I h = tt
-step-scans (write i k w) s I h = tt
-step-scans (setRoot j w) s I h = tt
-step-scans (declareSink i) s I h = tt
-step-scans (collect plainly work map) s I h = tt
-step-scans (collect byClusters work map) s I h =
-    subst (λ (o : Collect.Outcome). o .answer .scanned ≤ o .answer .kept) (sym (collect-is s I byClusters work map (h .0) (h .1))) (scans-few s I byClusters work map (h .0) (h .1))
-step-scans (analyse work) s I h = tt
+step-scans call s I h work map e =
+    let k : LentOne (s .control .n) (collect byClusters work map) = subst (LentOne (s .control .n)) e h in
+    subst (λ (o : Collect.Outcome). o .answer .scanned ≤ o .answer .kept) (sym (collect-is s I byClusters work map (k .0) (k .1))) (scans-few s I byClusters work map (k .0) (k .1))
 
 alike : (n r : ℕ) (calls : List Call) (s : State) (P : Plain) → Inv s → s .control .n ≡ n → s .control .r ≡ r → plainOf s ≡ P → Lent n calls
     → Alike n r calls s P

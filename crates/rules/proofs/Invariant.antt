@@ -29,11 +29,11 @@ use Rattle.rules.proofs.ListLaws.{allOf-all, allTo-all}
 -- ---- the invariant
 
 -- a word that a used slot may hold, and one that a root may hold
-abbrev pub SlotWord : ℕ → List ℕ → List ℕ → ℕ → Type 0
-SlotWord n recs slots w = (isNil w || isImmediate w || names n recs slots w) ≡ true
+abbrev pub SlotWord : ℕ → List ℕ → ℕ → Type 0
+SlotWord n recs w = (isNil w || isImmediate w || names n recs w) ≡ true
 
-abbrev pub RootWord : ℕ → List ℕ → List ℕ → ℕ → Type 0
-RootWord n recs slots w = (isNil w || names n recs slots w) ≡ true
+abbrev pub RootWord : ℕ → List ℕ → ℕ → Type 0
+RootWord n recs w = (isNil w || names n recs w) ≡ true
 
 pub record Inv (s : State) : Type 0 where
   pub sound : Sound (s .control)
@@ -43,8 +43,8 @@ pub record Inv (s : State) : Type 0 where
   -- the heap is well formed, but for what `good` says
   pub legal : (x : ℕ) → (rec s x ≡ 0) ⊎ Legal (s .control .n) (rec s x)
   pub empty : (x : ℕ) → 1 ≤ x → x ≤ s .control .n → allOf isNil (otherWords (s .control .n) (s .records) (s .slots) x) ≡ true
-  pub named : (x w : ℕ) → List·Memᴰ w (wordsOf s x) → SlotWord (s .control .n) (s .records) (s .slots) w
-  pub rooted : (w : ℕ) → List·Memᴰ w (rootsOf s) → RootWord (s .control .n) (s .records) (s .slots) w
+  pub named : (x w : ℕ) → List·Memᴰ w (wordsOf s x) → SlotWord (s .control .n) (s .records) w
+  pub rooted : (w : ℕ) → List·Memᴰ w (rootsOf s) → RootWord (s .control .n) (s .records) w
   -- clusters are connected, sinks have none, out bits are exact, and losses and members are together at most n
   pub good : Good (heapOf s) (s .control .«write_loss»)
 
@@ -77,17 +77,17 @@ module _ (n r : ℕ) (recs slots roots : List ℕ) where
 
   pub formed-by : ((x : ℕ) → (recOf n recs x ≡ 0) ⊎ Legal n (recOf n recs x))
       → ((x : ℕ) → 1 ≤ x → x ≤ n → allOf isNil (otherWords n recs slots x) ≡ true)
-      → ((x w : ℕ) → List·Memᴰ w (usedWords n recs slots x) → SlotWord n recs slots w)
+      → ((x w : ℕ) → List·Memᴰ w (usedWords n recs slots x) → SlotWord n recs w)
       → Heads (view n recs slots .cluster)
       → ((x : ℕ) → view n recs slots .out x ≡ exactOut (view n recs slots) x)
-      → ((w : ℕ) → List·Memᴰ w (take r roots) → RootWord n recs slots w)
+      → ((w : ℕ) → List·Memᴰ w (take r roots) → RootWord n recs w)
       → wellFormed n r recs slots roots ≡ true
   unfolding wellFormed emptyAt wordsAt outAt rootsNamed
   formed-by legal empty named heads exact rooted =
       rw (
         allTo-all n (legalAt n recs slots) (λ x p q. legal-at n recs slots x (legal x)),
         allTo-all n (λ x. allOf isNil (otherWords n recs slots x)) empty,
-        allTo-all n (λ x. allOf (λ w. isNil w || isImmediate w || names n recs slots w) (usedWords n recs slots x)) (λ x p q. allOf-all _ _ (named x)),
+        allTo-all n (λ x. allOf (λ w. isNil w || isImmediate w || names n recs w) (usedWords n recs slots x)) (λ x p q. allOf-all _ _ (named x)),
         allTo-all n (headAt n recs slots) (λ x p q. head-at x heads (ℕ-discrete _ _)),
         allTo-all n (λ x. Bool·beq (view n recs slots .out x) (exactOut (view n recs slots) x)) (λ x p q. beq-same _ _ (exact x)),
       )

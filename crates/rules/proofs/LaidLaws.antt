@@ -143,7 +143,7 @@ module _ (s : State) (I : Inv s) (kids′ : ℕ → List ℕ) (sink′ written�
         out = fun-ext (λ x. field-at (flag 3) out′ x (λ e. sym (no-out x (blank x e .2))) (laid-out (cl′ x) (out′ x) (sink′ x) (written′ x) (was x))) i;
       }
 
-      names-at : (w : ℕ) → names (s .control .n) recs′ slots′ w ≡ names (s .control .n) (s .records) (s .slots) w
+      names-at : (w : ℕ) → names (s .control .n) recs′ w ≡ names (s .control .n) (s .records) w
       unfolding names
       names-at w = ap (λ (b : Bool). isPointer (s .control .n) w && b) (laid-used-at w)
 
@@ -165,7 +165,7 @@ module _ (s : State) (I : Inv s) (kids′ : ℕ → List ℕ) (sink′ written�
 
         pub laid-inv : Sound control′ → 8 * s .control .n ≤ length slots′
             → ((x : ℕ) → 1 ≤ x → x ≤ s .control .n → allOf isNil (otherWords (s .control .n) (s .records) slots′ x) ≡ true)
-            → ((x w : ℕ) → List·Memᴰ w (usedWords (s .control .n) (s .records) slots′ x) → SlotWord (s .control .n) (s .records) (s .slots) w)
+            → ((x w : ℕ) → List·Memᴰ w (usedWords (s .control .n) (s .records) slots′ x) → SlotWord (s .control .n) (s .records) w)
             → Inv state′
         unfolding laid eachRecord
         laid-inv R long empty named = record {

@@ -39,7 +39,7 @@ module _ (s : State) (I : Inv s) where
   abbrev pub Used : ℕ → Type 0
   Used y = rec s y ≢ 0
 
-  pub named-used : (w : ℕ) → names (s .control .n) (s .records) (s .slots) w ≡ true → (1 ≤ w) × (w ≤ s .control .n) × Used w
+  pub named-used : (w : ℕ) → names (s .control .n) (s .records) w ≡ true → (1 ≤ w) × (w ≤ s .control .n) × Used w
   unfolding names flag field
   named-used w e =
       let t = and-split _ _ e in
@@ -47,11 +47,11 @@ module _ (s : State) (I : Inv s) where
       (r .0, r .1, λ z. false≢true (sym (ap (λ (x : ℕ). flag 0 x) z) ∙ t .1))
 
   -- a isPointer of any object is 0 or names an object in use
-  pub target-used : (w : ℕ) → SlotWord (s .control .n) (s .records) (s .slots) w → (target (s .control .n) w ≡ 0) ⊎ Used (target (s .control .n) w)
+  pub target-used : (w : ℕ) → SlotWord (s .control .n) (s .records) w → (target (s .control .n) w ≡ 0) ⊎ Used (target (s .control .n) w)
   unfolding isNil isImmediate target
   target-used w e = go (leb w (s .control .n)) refl
     where
-      word : leb w (s .control .n) ≡ true → (a b c : Bool) → eqb w 0 ≡ a → leb (2 ^ 31) w ≡ b → names (s .control .n) (s .records) (s .slots) w ≡ c
+      word : leb w (s .control .n) ≡ true → (a b c : Bool) → eqb w 0 ≡ a → leb (2 ^ 31) w ≡ b → names (s .control .n) (s .records) w ≡ c
           → (a || b || c) ≡ true → (w ≡ 0) ⊎ Used w
       word l true b c ea eb ec h = inl (eqb-true w 0 ea)
       word l false true c ea eb ec h = absurd (omega (arith, leb-true w (s .control .n) l, leb-true (2 ^ 31) w eb, I .sound .sizes .most))
@@ -72,7 +72,7 @@ module _ (s : State) (I : Inv s) where
   unfolding isNil
   roots-in-use y m = go _ _ refl refl (I .rooted y m)
     where
-      go : (a b : Bool) → eqb y 0 ≡ a → names (s .control .n) (s .records) (s .slots) y ≡ b → (a || b) ≡ true → (y ≡ 0) ⊎ Used y
+      go : (a b : Bool) → eqb y 0 ≡ a → names (s .control .n) (s .records) y ≡ b → (a || b) ≡ true → (y ≡ 0) ⊎ Used y
       go true b ea eb h = inl (eqb-true y 0 ea)
       go false true ea eb h = inr (named-used y eb .2)
       go false false ea eb h = absurd (false≢true h)
@@ -81,7 +81,7 @@ module _ (s : State) (I : Inv s) where
   unfolding isNil
   roots-low y m = go _ _ refl refl (I .rooted y m)
     where
-      go : (a b : Bool) → eqb y 0 ≡ a → names (s .control .n) (s .records) (s .slots) y ≡ b → (a || b) ≡ true → y ≤ s .control .n
+      go : (a b : Bool) → eqb y 0 ≡ a → names (s .control .n) (s .records) y ≡ b → (a || b) ≡ true → y ≤ s .control .n
       go true b ea eb h = omega (arith, eqb-true y 0 ea)
       go false true ea eb h = named-used y eb .1
       go false false ea eb h = absurd (false≢true h)

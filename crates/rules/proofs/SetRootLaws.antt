@@ -41,7 +41,7 @@ module _ (s : State) (I : Inv s) (j w : ℕ) where
 
   -- what the tests leave
   facts : first (SetRoot.setRootTests (s .control) j w (s .records) (s .roots)) ≡ 0
-      → (j < s .control .r) × RootWord (s .control .n) (s .records) (s .slots) w
+      → (j < s .control .r) × RootWord (s .control .n) (s .records) w
   unfolding SetRoot.setRootTests
   facts z =
       let t1 = first-passed 19 _ _ z in
@@ -52,7 +52,7 @@ module _ (s : State) (I : Inv s) (j w : ℕ) where
       (leb-false (s .control .r) j (t3 .0), word (isNil w) (isPointer (s .control .n) w) refl refl (not-false _ (t4 .0)) (t5 .0))
     where
       word : (a b : Bool) → isNil w ≡ a → isPointer (s .control .n) w ≡ b → (a || b) ≡ true → (b && not (R.legal (s .control .n) (rec s w))) ≡ false
-          → RootWord (s .control .n) (s .records) (s .slots) w
+          → RootWord (s .control .n) (s .records) w
       word true b ea eb e f = rw ea refl
       word false true ea eb e f = rw ea (is-named s I w eb (sym (inv-illegal s I w) ∙ f))
       word false false ea eb e f = absurd (mathlib.Core.Bool.false≢true e)
@@ -62,7 +62,7 @@ module _ (s : State) (I : Inv s) (j w : ℕ) where
   root-same = record {
     answers = same-by _ _ _ _ _ _ (λ (o : SetRoot.Outcome). did (o .answer .refusal) ∷ []) (λ (p : Played Plain). p .answers) root-tests (λ z. refl) (λ m. refl);
     after = same-by _ _ _ _ _ _
-        (λ (o : SetRoot.Outcome). plainOf (record { control = s .control; records = s .records; slots = s .slots; roots = o .roots }))
+        (λ (o : SetRoot.Outcome). plainOf (record { control = o .answer .control; records = s .records; slots = s .slots; roots = o .roots }))
         (λ (p : Played Plain). p .after) root-tests
         (λ z. λ i. record { last = s .control .last; roots = take-set-lt (s .control .r) (s .roots) j w (facts z .0) i; cells = plainOf s .cells })
         (λ m. refl);
@@ -71,7 +71,7 @@ module _ (s : State) (I : Inv s) (j w : ℕ) where
   pub root-inv : Inv (step (setRoot j w) s .after)
   unfolding step SetRoot.setRoot answer
   root-inv =
-      all-by (λ (o : SetRoot.Outcome). Inv (record { control = s .control; records = s .records; slots = s .slots; roots = o .roots })) _ _ _
+      all-by (λ (o : SetRoot.Outcome). Inv (record { control = o .answer .control; records = s .records; slots = s .slots; roots = o .roots })) _ _ _
       (λ z. record {
         sound = I .sound;
         recs-long = I .recs-long;
@@ -86,6 +86,6 @@ module _ (s : State) (I : Inv s) (j w : ℕ) where
       (λ m. I)
     where
       go : first (SetRoot.setRootTests (s .control) j w (s .records) (s .roots)) ≡ 0 → (v : ℕ) → (v ≡ w) ⊎ List·Memᴰ v (rootsOf s)
-          → RootWord (s .control .n) (s .records) (s .slots) v
+          → RootWord (s .control .n) (s .records) v
       go z v (inl e) = rw e (facts z .1)
       go z v (inr m) = I .rooted v m

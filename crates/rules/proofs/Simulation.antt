@@ -87,7 +87,7 @@ module _ (s : State) (I : Inv s) where
       go (inr L) = L .narrow
 
   -- a word that passes tests 6 and 23
-  pub is-named : (w : ℕ) → isPointer (s .control .n) w ≡ true → R.free (rec s w) ≡ false → names (s .control .n) (s .records) (s .slots) w ≡ true
+  pub is-named : (w : ℕ) → isPointer (s .control .n) w ≡ true → R.free (rec s w) ≡ false → names (s .control .n) (s .records) w ≡ true
   unfolding names R.free
   is-named w p f = rw p (go (I .legal w))
     where

@@ -209,19 +209,19 @@ module _ (s : State) (C : Fit s) (kind : Kind) (work map₀ : List ℕ) (t : Tra
       go (gone L k d z) = absurd (true≢false (sym (in-kept x r .0) ∙ k))
       go (kept L k d z) = kept-field (flag 0) (λ q. loose-flag q 0 refl (eqb-false 0 3 refl)) x z ∙ L .used
 
-  names′ : (w : ℕ) → K w → names (s .control .n) recs₁ slots₁ w ≡ true
-  names′ w r = names-used _ _ _ w ∙ still-used w r
+  names′ : (w : ℕ) → K w → names (s .control .n) recs₁ w ≡ true
+  names′ w r = names-used _ _ w ∙ still-used w r
 
-  named′ : (x w : ℕ) → List·Memᴰ w (usedWords (s .control .n) recs₁ slots₁ x) → SlotWord (s .control .n) recs₁ slots₁ w
+  named′ : (x w : ℕ) → List·Memᴰ w (usedWords (s .control .n) recs₁ slots₁ x) → SlotWord (s .control .n) recs₁ w
   named′ x w m = go (case x)
     where
       word : K x → List·Memᴰ w (wordsOf s x) → (w ≡ 0) ⊎ ((2 ^ 31 ≤ w) ⊎ Names (s .control .n) (s .records) w)
-          → SlotWord (s .control .n) recs₁ slots₁ w
+          → SlotWord (s .control .n) recs₁ w
       word r p (inl e) = unfold isNil in (rw (eq-eqb w 0 e) refl)
       word r p (inr (inl l)) = unfold isImmediate in (rw (le-leb (2 ^ 31) w l, or-true (isNil w)) refl)
       word r p (inr (inr N)) = or-right (isNil w || isImmediate w) _ (names′ w (F .leads x w r (word-target s C x w p (N .low) (N .high))))
 
-      go : Case x → SlotWord (s .control .n) recs₁ slots₁ w
+      go : Case x → SlotWord (s .control .n) recs₁ w
       go (blank e d z) = absurd (List·Memᴰ·not-nil (rw (used-none x z) at m))
       go (gone L k d z) = absurd (List·Memᴰ·not-nil (rw (used-none x z) at m))
       go (kept L k d z) =
@@ -231,10 +231,10 @@ module _ (s : State) (C : Fit s) (kind : Kind) (work map₀ : List ℕ) (t : Tra
   begun : (x : ℕ) → x ≢ 0 → List·Memᴰ x (starts H (rootsOf s)) → K x
   begun x nz m = F .begins x (word-pointer _ x nz m)
 
-  rooted′ : (w : ℕ) → List·Memᴰ w (rootsOf s) → RootWord (s .control .n) recs₁ slots₁ w
+  rooted′ : (w : ℕ) → List·Memᴰ w (rootsOf s) → RootWord (s .control .n) recs₁ w
   rooted′ w m = go (rules s C .rooted w m)
     where
-      go : (w ≡ 0) ⊎ Names (s .control .n) (s .records) w → RootWord (s .control .n) recs₁ slots₁ w
+      go : (w ≡ 0) ⊎ Names (s .control .n) (s .records) w → RootWord (s .control .n) recs₁ w
       go (inl e) = unfold isNil in (rw (eq-eqb w 0 e) refl)
       go (inr N) = or-right (isNil w) _ (names′ w (begun w (λ z. absurd (omega (arith, N .low, z))) (root-start H (rootsOf s) w m)))
 

@@ -18,7 +18,7 @@ use Rattle.rules.specs.SetRoot as SetRoot
 use Rattle.rules.specs.DeclareSink as DeclareSink
 use Rattle.rules.specs.Analyse as Analyse
 use Rattle.rules.specs.Collect as Collect
-use Rattle.rules.specs.Calls.{Call, allocate, read, show, write, setRoot, declareSink, collect, analyse}
+use Rattle.rules.specs.Calls.{Call, allocate, allocateInPlace, read, show, write, writeInPlace, setRoot, declareSink, collect, analyse}
 use Rattle.rules.specs.Steps.{State}
 use Rattle.rules.specs.Demands.{refusalOf}
 use Rattle.rules.proofs.Invariant.{Inv, inv-control, inv-sane, inv-formed}
@@ -51,7 +51,10 @@ unmet-first k (t ∷ l) e f = go (t .1) refl f (λ r. unmet-first k l r)
 abbrev Unmet : List Test → Type 0
 Unmet T = (meets 20 T ≡ false) × (meets 21 T ≡ false) × (meets 25 T ≡ false)
 
-unrefused : (T : List Test) (m : ℕ) → m ≡ first T → Unmet T → (m ≢ 20) × (m ≢ 21) × (m ≢ 25)
+abbrev Never : ℕ → Type 0
+Never m = (m ≢ 20) × (m ≢ 21) × (m ≢ 25)
+
+unrefused : (T : List Test) (m : ℕ) → m ≡ first T → Unmet T → Never m
 unrefused T m e u = (λ z. unmet-first 19 T (u .0) (sym e ∙ z), λ z. unmet-first 20 T (u .1) (sym e ∙ z), λ z. unmet-first 24 T (u .2) (sym e ∙ z))
 
 module _ (s : State) (I : Inv s) where
@@ -88,12 +91,23 @@ module _ (s : State) (I : Inv s) where
   unfolding meets Collect.collectTests
   collect-unmet kind work map = (rw (inv-control s I) refl, rw (inv-formed s I) refl, refl)
 
-  pub unmet : (call : Call) → (refusalOf call s ≢ 20) × (refusalOf call s ≢ 21) × (refusalOf call s ≢ 25)
-  unfolding Allocate.allocate Read.read Show.show Write.write SetRoot.setRoot DeclareSink.declareSink Analyse.analyse Collect.collect Collect.sweep
-  unmet (allocate width) = unrefused _ _ (answered _ _ _ (λ (o : Allocate.Outcome). o .answer .refusal) refl (λ k. refl)) (allocate-unmet width)
+  -- one name for both forms of allocate, and of write
+  allocate-never : (width : ℕ) → Never (refusalOf (allocate width) s)
+  unfolding Allocate.allocate
+  allocate-never width = unrefused _ _ (answered _ _ _ (λ (o : Allocate.Outcome). o .answer .refusal) refl (λ k. refl)) (allocate-unmet width)
+
+  write-never : (i k w : ℕ) → Never (refusalOf (write i k w) s)
+  unfolding Write.write
+  write-never i k w = unrefused _ _ (answered _ _ _ (λ (o : Write.Outcome). o .answer .refusal) refl (λ k. refl)) (write-unmet i k w)
+
+  pub unmet : (call : Call) → Never (refusalOf call s)
+  unfolding Allocate.allocateInPlace Read.read Show.show Write.writeInPlace SetRoot.setRoot DeclareSink.declareSink Analyse.analyse Collect.collect Collect.sweep
+  unmet (allocate width) = allocate-never width
+  unmet (allocateInPlace width) = allocate-never width
   unmet (read i k) = unrefused _ _ (answered _ _ _ (λ (a : WordRead). a .refusal) refl (λ k. refl)) (read-unmet i k)
   unmet (show i) = unrefused _ _ (answered _ _ _ (λ (o : Show.Outcome). o .answer .refusal) refl (λ k. refl)) (show-unmet i)
-  unmet (write i k w) = unrefused _ _ (answered _ _ _ (λ (o : Write.Outcome). o .answer .refusal) refl (λ k. refl)) (write-unmet i k w)
+  unmet (write i k w) = write-never i k w
+  unmet (writeInPlace i k w) = write-never i k w
   unmet (setRoot j w) = unrefused _ _ (answered _ _ _ (λ (o : SetRoot.Outcome). o .answer .refusal) refl (λ k. refl)) (root-unmet j w)
   unmet (declareSink i) = unrefused _ _ (answered _ _ _ (λ (o : DeclareSink.Outcome). o .answer .refusal) refl (λ k. refl)) (declare-unmet i)
   unmet (collect kind work map) =

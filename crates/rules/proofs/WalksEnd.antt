@@ -45,15 +45,15 @@ module _ (n r : ℕ) (recs slots roots : List ℕ) (formed : wellFormed n r recs
   from = starts H (take r roots)
 
   -- what the check says of heads and of roots
-  parts : (allTo n (headAt n recs slots) ≡ true) × (rootsNamed n r recs slots roots ≡ true)
+  parts : (allTo n (headAt n recs slots) ≡ true) × (rootsNamed n r recs roots ≡ true)
   unfolding wellFormed
   parts =
       fourth-sixth (allTo n (legalAt n recs slots)) (allTo n (emptyAt n recs slots)) (allTo n (wordsAt n recs slots)) (allTo n (headAt n recs slots))
-      (allTo n (outAt n recs slots)) (rootsNamed n r recs slots roots) formed
+      (allTo n (outAt n recs slots)) (rootsNamed n r recs roots) formed
 
   formed-roots : (y : ℕ) → List·Memᴰ y (take r roots) → y ≤ n
   unfolding rootsNamed names isNil
-  formed-roots y m = go (eqb y 0) (isPointer n y) refl refl (allOf-at (λ w. isNil w || names n recs slots w) (take r roots) y (parts .1) m)
+  formed-roots y m = go (eqb y 0) (isPointer n y) refl refl (allOf-at (λ w. isNil w || names n recs w) (take r roots) y (parts .1) m)
     where
       go : (a b : Bool) → eqb y 0 ≡ a → isPointer n y ≡ b → (a || (b && inUse (recOf n recs y))) ≡ true → y ≤ n
       go true b ea eb h = omega (arith, eqb-true y 0 ea)

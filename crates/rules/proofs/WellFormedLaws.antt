@@ -82,9 +82,9 @@ used-range n recs x e = go x e (decLe x n)
     go (suc i) u (yes l) = (omega arith, l)
     go (suc i) u (no l) = absurd (false≢true (sym unused ∙ sym (ap inUse (recOf-above n recs (suc i) (omega (arith, l)))) ∙ u))
 
-pub names-used : (n : ℕ) (recs slots : List ℕ) (w : ℕ) → names n recs slots w ≡ inUse (recOf n recs w)
+pub names-used : (n : ℕ) (recs : List ℕ) (w : ℕ) → names n recs w ≡ inUse (recOf n recs w)
 unfolding names isPointer
-names-used n recs slots w = go (inUse (recOf n recs w)) refl
+names-used n recs w = go (inUse (recOf n recs w)) refl
   where
     go : (b : Bool) → inUse (recOf n recs w) ≡ b → (Rattle.layout.specs.Limits.within 1 n w && b) ≡ b
     go true e = let l = used-range n recs w e in rw (in-within 1 n w (l .0) (l .1)) refl
@@ -133,9 +133,9 @@ pub exact-none : (n : ℕ) (recs slots : List ℕ) (x : ℕ) → cluster (recOf 
 unfolding exactOut view Rattle.graph.specs.Clusters.outBit
 exact-none n recs slots x e = rw e refl
 
-named-by : (n : ℕ) (recs slots : List ℕ) (w : ℕ) → names n recs slots w ≡ true → Names n recs w
-named-by n recs slots w e =
-    let u = sym (names-used n recs slots w) ∙ e in
+named-by : (n : ℕ) (recs : List ℕ) (w : ℕ) → names n recs w ≡ true → Names n recs w
+named-by n recs w e =
+    let u = sym (names-used n recs w) ∙ e in
     let l = used-range n recs w u in
     record { low = l .0; high = l .1; used = u }
 
@@ -154,7 +154,7 @@ module _ (n r : ℕ) (recs slots roots : List ℕ) where
         named = λ x w m. named (k .1) x w m (in-or-out n recs x);
         heads = λ x z. heads (h .1) x z (in-or-out n recs x);
         exact = λ x. exact (g .1) x (in-or-out n recs x);
-        rooted = λ w m. root w (allOf-at (λ v. isNil v || names n recs slots v) (take r roots) w (unfold rootsNamed in (f .1)) m);
+        rooted = λ w m. root w (allOf-at (λ v. isNil v || names n recs v) (take r roots) w (unfold rootsNamed in (f .1)) m);
       }
     where
       fit : allTo n (legalAt n recs slots) ≡ true → (x : ℕ) → Obj n x ⊎ (recOf n recs x ≡ 0) → (recOf n recs x ≡ 0) ⊎ Legal n (recOf n recs x)
@@ -165,22 +165,22 @@ module _ (n r : ℕ) (recs slots roots : List ℕ) where
           go (inl z) = inl (unfold free in (eqb-true (recOf n recs x) 0 z))
           go (inr z) = inr (legal-facts n (recOf n recs x) z)
 
-      word : (w : ℕ) → (isNil w || isImmediate w || names n recs slots w) ≡ true → (w ≡ 0) ⊎ ((2 ^ 31 ≤ w) ⊎ Names n recs w)
+      word : (w : ℕ) → (isNil w || isImmediate w || names n recs w) ≡ true → (w ≡ 0) ⊎ ((2 ^ 31 ≤ w) ⊎ Names n recs w)
       word w t = go (or-cases _ _ t)
         where
           two : (isNil w ≡ true) ⊎ (isImmediate w ≡ true) → (w ≡ 0) ⊎ ((2 ^ 31 ≤ w) ⊎ Names n recs w)
           two (inl z) = inl (unfold isNil in (eqb-true w 0 z))
           two (inr z) = inr (inl (unfold isImmediate in (leb-true (2 ^ 31) w z)))
 
-          go : ((isNil w || isImmediate w) ≡ true) ⊎ (names n recs slots w ≡ true) → (w ≡ 0) ⊎ ((2 ^ 31 ≤ w) ⊎ Names n recs w)
+          go : ((isNil w || isImmediate w) ≡ true) ⊎ (names n recs w ≡ true) → (w ≡ 0) ⊎ ((2 ^ 31 ≤ w) ⊎ Names n recs w)
           go (inl z) = two (or-cases _ _ z)
-          go (inr z) = inr (inr (named-by n recs slots w z))
+          go (inr z) = inr (inr (named-by n recs w z))
 
       named : allTo n (wordsAt n recs slots) ≡ true → (x w : ℕ) → List·Memᴰ w (usedWords n recs slots x) → Obj n x ⊎ (recOf n recs x ≡ 0)
           → (w ≡ 0) ⊎ ((2 ^ 31 ≤ w) ⊎ Names n recs w)
       named a x w m (inr z) = absurd (List·Memᴰ·not-nil (rw (used-none n recs slots x z) at m))
       named a x w m (inl (p, q)) = word w
-          (allOf-at (λ v. isNil v || isImmediate v || names n recs slots v) (usedWords n recs slots x) w
+          (allOf-at (λ v. isNil v || isImmediate v || names n recs v) (usedWords n recs slots x) w
           (unfold wordsAt in (allTo-at n (wordsAt n recs slots) a x p q)) m)
 
       heads : allTo n (headAt n recs slots) ≡ true → (x : ℕ) → cluster (recOf n recs x) ≢ 0 → Obj n x ⊎ (recOf n recs x ≡ 0)
@@ -201,12 +201,12 @@ module _ (n r : ℕ) (recs slots roots : List ℕ) where
           ap isOut z ∙ o ∙ sym (exact-none n recs slots x (cluster-none n recs x z))
       exact a x (inl (p, q)) = beq-true (isOut (recOf n recs x)) (exactOut (view n recs slots) x) (unfold outAt view in (allTo-at n (outAt n recs slots) a x p q))
 
-      root : (w : ℕ) → (isNil w || names n recs slots w) ≡ true → (w ≡ 0) ⊎ Names n recs w
+      root : (w : ℕ) → (isNil w || names n recs w) ≡ true → (w ≡ 0) ⊎ Names n recs w
       root w t = go (or-cases _ _ t)
         where
-          go : (isNil w ≡ true) ⊎ (names n recs slots w ≡ true) → (w ≡ 0) ⊎ Names n recs w
+          go : (isNil w ≡ true) ⊎ (names n recs w ≡ true) → (w ≡ 0) ⊎ Names n recs w
           go (inl z) = inl (unfold isNil in (eqb-true w 0 z))
-          go (inr z) = inr (named-by n recs slots w z)
+          go (inr z) = inr (named-by n recs w z)
 
   -- what the check's answer says besides
   pub record Checked : Type 0 where

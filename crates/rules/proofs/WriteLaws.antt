@@ -31,7 +31,7 @@ use Rattle.graph.proofs.State.{Good}
 use Rattle.graph.proofs.WritesLaws.{dissolving, staying, still-connected, points-clustered, write-fits}
 use Rattle.rules.specs.Buffers.{usedWords, otherWords, eight, allOf}
 use Rattle.rules.specs.View.{view, target, laid}
-use Rattle.rules.specs.Calls.{write, did}
+use Rattle.rules.specs.Calls.{write, writeInPlace, did}
 use Rattle.rules.specs.Write.{lossAfter}
 use Rattle.rules.specs.Write as Write
 use Rattle.rules.specs.Plain.{Plain, Played, Cell, free, object, cellAt, isSink, plainWords, objectTests, slotTests, namesFree, withCell, answer, plainStep}
@@ -46,7 +46,7 @@ use Rattle.rules.proofs.LaidLaws.{heap′, recs′, view-laid, laid-cel
 
 -- the slots and the plain heap's cells after a store, for any heap that is laid into the records with it
 module _ (s : State) (I : Inv s) (i k w : ℕ) (k-fits : k < width (rec s (suc i))) (there : rec s (suc i) ≢ 0)
-    (word : SlotWord (s .control .n) (s .records) (s .slots) w) where
+    (word : SlotWord (s .control .n) (s .records) w) where
   abbrev n : ℕ
   n = s .control .n
 
@@ -90,14 +90,14 @@ module _ (s : State) (I : Inv s) (i k w : ℕ) (k-fits : k < width (rec s (suc i
           ∙ drop-set-lt (width (rec s (suc i))) (eight (s .slots) (suc i)) k w k-fits)
       go (no e) = ap (drop (width (rec s x))) (eight-set-other (s .slots) i k w x k8 e)
 
-  named-after : (x v : ℕ) → List·Memᴰ v (usedWords n (s .records) slots′ x) → SlotWord n (s .records) (s .slots) v
+  named-after : (x v : ℕ) → List·Memᴰ v (usedWords n (s .records) slots′ x) → SlotWord n (s .records) v
   named-after x v m = go (ℕ-discrete x (suc i))
     where
-      at : (v ≡ w) ⊎ List·Memᴰ v (wordsOf s (suc i)) → SlotWord n (s .records) (s .slots) v
+      at : (v ≡ w) ⊎ List·Memᴰ v (wordsOf s (suc i)) → SlotWord n (s .records) v
       at (inl e) = rw e word
       at (inr p) = I .named (suc i) v p
 
-      go : Dec (x ≡ suc i) → SlotWord n (s .records) (s .slots) v
+      go : Dec (x ≡ suc i) → SlotWord n (s .records) v
       go (yes e) = at (mem-of-set (wordsOf s (suc i)) k w v (rw (e, used-after) at m))
       go (no e) = I .named x v (rw (used-other x e) at m)
 
@@ -184,7 +184,7 @@ module _ (s : State) (I : Inv s) where
     range : (1 ≤ i) × (i ≤ s .control .n)
     there : rec s i ≢ 0
     narrow : k < width (rec s i)
-    word : SlotWord (s .control .n) (s .records) (s .slots) w
+    word : SlotWord (s .control .n) (s .records) w
 
   facts : (i k w : ℕ) → first (Write.writeTests (s .control) i k w (s .records) (s .slots)) ≡ 0 → Passed i k w
   unfolding Write.writeTests R.free legalWord
@@ -205,7 +205,7 @@ module _ (s : State) (I : Inv s) where
       }
     where
       word : (a b c : Bool) → isNil w ≡ a → isPointer (s .control .n) w ≡ b → isImmediate w ≡ c → (a || b || c) ≡ true
-          → (b && not (R.legal (s .control .n) (rec s w))) ≡ false → SlotWord (s .control .n) (s .records) (s .slots) w
+          → (b && not (R.legal (s .control .n) (rec s w))) ≡ false → SlotWord (s .control .n) (s .records) w
       word true b c ea eb ec e f = rw ea refl
       word false true true ea eb ec e f = rw (ea, ec) refl
       word false true false ea eb ec e f = rw (ea, ec) (is-named s I w eb (sym (inv-illegal s I w) ∙ f))
@@ -293,3 +293,8 @@ module _ (s : State) (I : Inv s) where
       (λ (o : Write.Outcome). o .answer .refusal ≡ 0 → view (o .answer .control .n) (o .records) (o .slots)
       ≡ storeBy (dissolves (heapOf s) i k (target (s .control .n) w)) (heapOf s) i k (target (s .control .n) w)) _ _ _
       (λ z e. done i k w (facts i k w z) _ refl .2) (λ m e. absurd (suc-ne-zero m e))
+
+-- the form that is lent the control record leaves the same state
+pub written-in-place : (s : State) (i k w : ℕ) → step (writeInPlace i k w) s ≡ step (write i k w) s
+unfolding step Write.writeInPlace
+written-in-place s i k w = refl

@@ -3,12 +3,14 @@ use Prim.Native.Nat.{ℕ}
 use mathlib.Core.List.{List}
 use Rattle.rules.specs.Collect.{Kind}
 
--- each collection is lent work and map of its own, each analysis work of its own
+-- allocate and write in either form; each collection is lent work and map of its own, each analysis work of its own
 pub data Call : Type 0 where
   allocate : (width : ℕ) → Call
+  allocateInPlace : (width : ℕ) → Call
   read : (object slot : ℕ) → Call
   show : (object : ℕ) → Call
   write : (object slot word : ℕ) → Call
+  writeInPlace : (object slot word : ℕ) → Call
   setRoot : (index word : ℕ) → Call
   declareSink : (object : ℕ) → Call
   collect : (kind : Kind) (work map : List ℕ) → Call

@@ -36,7 +36,7 @@ use Rattle.rules.specs.Analyse.{rule}
 use Rattle.rules.specs.Analyse as Analyse
 use Rattle.rules.specs.Collect.{Kind, plainly, byClusters}
 use Rattle.rules.specs.Collect as Collect
-use Rattle.rules.specs.Calls.{Call, allocate, read, show, write, setRoot, declareSink, collect, analyse}
+use Rattle.rules.specs.Calls.{Call, allocate, allocateInPlace, read, show, write, writeInPlace, setRoot, declareSink, collect, analyse}
 use Rattle.rules.specs.Plain.{Plain, has, plainSize, plainWords, plainStarts, keptNumbers, plainCreated, plainStep, plainSlots}
 use Rattle.rules.specs.Steps.{State, created, step, answersOf, afterAll}
 
@@ -344,9 +344,11 @@ pub record Declares (s : State) (i : ℕ) : Type 0 where
 -- the refusal of a call, 0 if it is accepted
 abbrev pub refusalOf : Call → State → ℕ
 refusalOf (allocate width) s = Allocate.allocate (s .control) width (s .records) (s .slots) .answer .refusal
+refusalOf (allocateInPlace width) s = Allocate.allocateInPlace (s .control) width (s .records) (s .slots) .answer .refusal
 refusalOf (read i k) s = Read.read (s .control) i k (s .records) (s .slots) .refusal
 refusalOf (show i) s = Show.show (s .control) i (s .records) (s .slots) .answer .refusal
 refusalOf (write i k w) s = Write.write (s .control) i k w (s .records) (s .slots) .answer .refusal
+refusalOf (writeInPlace i k w) s = Write.writeInPlace (s .control) i k w (s .records) (s .slots) .refusal
 refusalOf (setRoot j w) s = SetRoot.setRoot (s .control) j w (s .records) (s .roots) .answer .refusal
 refusalOf (declareSink i) s = DeclareSink.declareSink (s .control) i (s .records) (s .slots) (s .roots) .answer .refusal
 refusalOf (collect kind work map) s = collected s kind work map .answer .refusal
@@ -384,25 +386,21 @@ pub record Demand2 : Type 0 where
 abbrev pub Lent : ℕ → List Call → Type 0
 Lent n [] = Unit {0}
 Lent n (allocate width ∷ l) = Lent n l
+Lent n (allocateInPlace width ∷ l) = Lent n l
 Lent n (read i k ∷ l) = Lent n l
 Lent n (show i ∷ l) = Lent n l
 Lent n (write i k w ∷ l) = Lent n l
+Lent n (writeInPlace i k w ∷ l) = Lent n l
 Lent n (setRoot j w ∷ l) = Lent n l
 Lent n (declareSink i ∷ l) = Lent n l
 Lent n (collect kind work map ∷ l) = (workLen n ≤ length work) × (mapLen n ≤ length map) × Lent n l
 Lent n (analyse work ∷ l) = Lent n l
 
--- a collection by clusters scans no more than it keeps
+-- if the call is a collection by clusters, it scans no more than it keeps
 abbrev pub ScansFew : State → Call → Type 0
-ScansFew s (allocate width) = Unit {0}
-ScansFew s (read i k) = Unit {0}
-ScansFew s (show i) = Unit {0}
-ScansFew s (write i k w) = Unit {0}
-ScansFew s (setRoot j w) = Unit {0}
-ScansFew s (declareSink i) = Unit {0}
-ScansFew s (collect plainly work map) = Unit {0}
-ScansFew s (collect byClusters work map) = collected s byClusters work map .answer .scanned ≤ collected s byClusters work map .answer .kept
-ScansFew s (analyse work) = Unit {0}
+ScansFew s call =
+    (work map : List ℕ) → call ≡ collect byClusters work map
+    → collected s byClusters work map .answer .scanned ≤ collected s byClusters work map .answer .kept
 
 -- the same for each call of a list
 abbrev pub EachScansFew : List Call → State → Type 0

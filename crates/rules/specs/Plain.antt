@@ -10,7 +10,7 @@ use Rattle.bitmap.specs.Bits.{wordOf}
 use Rattle.layout.specs.Refusal.{Test, outcome}
 use Rattle.graph.specs.Numbers.{count, gather, lowest}
 use Rattle.rules.specs.Buffers.{eachFrom, numbers}
-use Rattle.rules.specs.Calls.{Call, allocate, read, show, write, setRoot, declareSink, collect, analyse, Answer, gave, gotWord, gotWords, did, swept}
+use Rattle.rules.specs.Calls.{Call, allocate, allocateInPlace, read, show, write, writeInPlace, setRoot, declareSink, collect, analyse, Answer, gave, gotWord, gotWords, did, swept}
 
 -- free, or an object: its words, as many as its width, and whether it is a sink
 pub data Cell : Type 0 where
@@ -132,18 +132,28 @@ pub record Played (A : Type 0) : Type 0 where
 unfoldable pub answer : {A : Type 0} → Answer → A → Played A
 answer a s = record { answers = a ∷ []; after = s }
 
--- each call of the game; an analysis does nothing
-unfoldable pub plainStep : Call → Plain → Played Plain
-plainStep (allocate width) P =
+-- allocate, in either form
+abbrev pub plainAllocate : ℕ → Plain → Played Plain
+plainAllocate width P =
     outcome ((3, ltb widthMax width) ∷ (24, eqb (plainGiven P) 0) ∷ [])
     (let i = plainGiven P in answer (gave 0 i) (record { last = i; roots = P .roots; cells = set (P .cells) (i - 1) (object (replicate width 0) false) }))
     (λ m. answer (gave m 0) P)
-plainStep (read i k) P = outcome (slotTests P i k) (answer (gotWord 0 (getD (plainWords P i) k 0)) P) (λ m. answer (gotWord m 0) P)
-plainStep (show i) P = outcome (objectTests P i) (answer (gotWords 0 (plainWords P i)) P) (λ m. answer (gotWords m []) P)
-plainStep (write i k w) P =
+
+-- write, in either form
+abbrev pub plainWrite : ℕ → ℕ → ℕ → Plain → Played Plain
+plainWrite i k w P =
     outcome (slotTests P i k ++ ((6, not (legalWord (plainSize P) w)) ∷ (23, namesFree P w) ∷ []))
     (answer (did 0) (withCell P i (object (set (plainWords P i) k w) (isSink (cellAt (P .cells) i)))))
     (λ m. answer (did m) P)
+
+-- each call of the game; an analysis does nothing
+unfoldable pub plainStep : Call → Plain → Played Plain
+plainStep (allocate width) P = plainAllocate width P
+plainStep (allocateInPlace width) P = plainAllocate width P
+plainStep (read i k) P = outcome (slotTests P i k) (answer (gotWord 0 (getD (plainWords P i) k 0)) P) (λ m. answer (gotWord m 0) P)
+plainStep (show i) P = outcome (objectTests P i) (answer (gotWords 0 (plainWords P i)) P) (λ m. answer (gotWords m []) P)
+plainStep (write i k w) P = plainWrite i k w P
+plainStep (writeInPlace i k w) P = plainWrite i k w P
 plainStep (setRoot j w) P =
     outcome ((7, leb (length (P .roots)) j) ∷ (6, not (isNil w || isPointer (plainSize P) w)) ∷ (23, namesFree P w) ∷ [])
     (answer (did 0) (record { last = P .last; roots = set (P .roots) j w; cells = P .cells }))

@@ -4,7 +4,7 @@ use mathlib.Core.List.{List, [], _∷_, _++_}
 use lib.ListN.{take}
 use Rattle.layout.specs.declared.answers.Control.{Control}
 use Rattle.layout.specs.Limits.{mapLen}
-use Rattle.rules.specs.Calls.{Call, allocate, read, show, write, setRoot, declareSink, collect, analyse, Answer, gave, gotWord, gotWords, did, swept}
+use Rattle.rules.specs.Calls.{Call, allocate, allocateInPlace, read, show, write, writeInPlace, setRoot, declareSink, collect, analyse, Answer, gave, gotWord, gotWords, did, swept}
 use Rattle.rules.specs.Plain.{Played, answer}
 use Rattle.rules.specs.Create as Create
 use Rattle.rules.specs.Allocate as Allocate
@@ -29,27 +29,37 @@ created n r recs slots roots =
     let o = Create.create n r recs slots roots in
     record { control = o .answer .control; records = o .records; slots = o .slots; roots = o .roots }
 
--- a call in a state: what the game sees of its answer, and the state after it
+-- a call in a state: what the game sees of its answer, and the state after it, with the control record that the call answers or leaves in place
 unfoldable pub step : Call → State → Played State
 step (allocate width) s =
     let o = Allocate.allocate (s .control) width (s .records) (s .slots) in
     answer (gave (o .answer .refusal) (o .answer .object))
     (record { control = o .answer .control; records = o .records; slots = o .slots; roots = s .roots })
-step (read i k) s = let a = Read.read (s .control) i k (s .records) (s .slots) in answer (gotWord (a .refusal) (a .word)) s
-step (show i) s = let o = Show.show (s .control) i (s .records) (s .slots) in answer (gotWords (o .answer .refusal) (o .words)) s
+step (allocateInPlace width) s =
+    let o = Allocate.allocateInPlace (s .control) width (s .records) (s .slots) in
+    answer (gave (o .answer .refusal) (o .answer .object)) (record { control = o .control; records = o .records; slots = o .slots; roots = s .roots })
+step (read i k) s =
+    let a = Read.read (s .control) i k (s .records) (s .slots) in
+    answer (gotWord (a .refusal) (a .word)) (record { control = a .control; records = s .records; slots = s .slots; roots = s .roots })
+step (show i) s =
+    let o = Show.show (s .control) i (s .records) (s .slots) in
+    answer (gotWords (o .answer .refusal) (o .words)) (record { control = o .answer .control; records = s .records; slots = s .slots; roots = s .roots })
 step (write i k w) s =
     let o = Write.write (s .control) i k w (s .records) (s .slots) in
     answer (did (o .answer .refusal)) (record { control = o .answer .control; records = o .records; slots = o .slots; roots = s .roots })
+step (writeInPlace i k w) s =
+    let o = Write.writeInPlace (s .control) i k w (s .records) (s .slots) in
+    answer (did (o .refusal)) (record { control = o .control; records = o .records; slots = o .slots; roots = s .roots })
 step (setRoot j w) s =
     let o = SetRoot.setRoot (s .control) j w (s .records) (s .roots) in
-    answer (did (o .answer .refusal)) (record { control = s .control; records = s .records; slots = s .slots; roots = o .roots })
+    answer (did (o .answer .refusal)) (record { control = o .answer .control; records = s .records; slots = s .slots; roots = o .roots })
 step (declareSink i) s =
     let o = DeclareSink.declareSink (s .control) i (s .records) (s .slots) (s .roots) in
-    answer (did (o .answer .refusal)) (record { control = s .control; records = o .records; slots = s .slots; roots = s .roots })
+    answer (did (o .answer .refusal)) (record { control = o .answer .control; records = o .records; slots = s .slots; roots = s .roots })
 step (collect kind work map) s =
     let o = Collect.collect kind (s .control) (s .records) (s .slots) (s .roots) work map in
     answer (swept (o .answer .refusal) (o .answer .freed) (o .answer .kept) (take (mapLen (s .control .n)) (o .map)))
-    (record { control = s .control; records = o .records; slots = o .slots; roots = s .roots })
+    (record { control = o .answer .control; records = o .records; slots = o .slots; roots = s .roots })
 step (analyse work) s =
     let o = Analyse.analyse (s .control) (s .records) (s .slots) (s .roots) work in
     record { answers = []; after = record { control = o .answer .control; records = o .records; slots = s .slots; roots = s .roots } }

@@ -16,7 +16,7 @@ use Rattle.rules.specs.DeclareSink as DeclareSink
 use Rattle.rules.specs.Analyse as Analyse
 use Rattle.rules.specs.Collect.{plainly, byClusters}
 use Rattle.rules.specs.Collect as Collect
-use Rattle.rules.specs.Calls.{Call, allocate, read, show, write, setRoot, declareSink, collect, analyse}
+use Rattle.rules.specs.Calls.{Call, allocate, allocateInPlace, read, show, write, writeInPlace, setRoot, declareSink, collect, analyse}
 use Rattle.rules.specs.Steps.{State, created, step, afterAll}
 
 -- ---- what is told of a call
@@ -26,6 +26,9 @@ unfoldable pub answered : Call → State → List ℕ
 answered (allocate width) s =
     let a = Allocate.allocate (s .control) width (s .records) (s .slots) .answer in
     a .refusal ∷ a .object ∷ []
+answered (allocateInPlace width) s =
+    let a = Allocate.allocateInPlace (s .control) width (s .records) (s .slots) .answer in
+    a .refusal ∷ a .object ∷ []
 answered (read i k) s =
     let a = Read.read (s .control) i k (s .records) (s .slots) in
     a .refusal ∷ a .word ∷ []
@@ -33,6 +36,7 @@ answered (show i) s =
     let o = Show.show (s .control) i (s .records) (s .slots) in
     o .answer .refusal ∷ o .words
 answered (write i k w) s = Write.write (s .control) i k w (s .records) (s .slots) .answer .refusal ∷ []
+answered (writeInPlace i k w) s = Write.writeInPlace (s .control) i k w (s .records) (s .slots) .refusal ∷ []
 answered (setRoot j w) s = SetRoot.setRoot (s .control) j w (s .records) (s .roots) .answer .refusal ∷ []
 answered (declareSink i) s = DeclareSink.declareSink (s .control) i (s .records) (s .slots) (s .roots) .answer .refusal ∷ []
 answered (collect kind work map) s =
@@ -251,6 +255,9 @@ ownRows =
     ∷ fresh (given 3 0 0 (0 ∷ replicate 2 (rec 1 0 0)) (one 0 ++ one 3 ++ one 0) 2) (allocate 1) (0 ∷ 1 ∷ []) (0 ∷ 0 ∷ [])
     ∷ onH [] (read 1 1) (0 ∷ 3 ∷ []) (0 ∷ 1 ∷ 1 ∷ 1 ∷ 1 ∷ 1 ∷ 1 ∷ [])
     ∷ onH [] (show 1) (0 ∷ 2 ∷ 3 ∷ 0 ∷ []) (0 ∷ 1 ∷ 1 ∷ 1 ∷ 1 ∷ 1 ∷ 1 ∷ [])
+    -- in place: 7 and 8 are given one after the other; a pointer inside the cluster is cleared
+    ∷ onH (allocateInPlace 1 ∷ []) (allocateInPlace 1) (0 ∷ 8 ∷ []) (0 ∷ 1 ∷ 1 ∷ 1 ∷ 1 ∷ 1 ∷ 1 ∷ 0 ∷ 0 ∷ [])
+    ∷ onH [] (writeInPlace 1 0 0) (0 ∷ []) (6 ∷ 0 ∷ 0 ∷ 0 ∷ 0 ∷ 0 ∷ 0 ∷ [])
     ∷ []
 
 -- ---- two refusals that both hold: the first in the order is given

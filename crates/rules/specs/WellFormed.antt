@@ -10,11 +10,11 @@ use Rattle.layout.specs.Word.{isNil, isPointer, isImmediate}
 use Rattle.rules.specs.Buffers.{short, recOf, usedWords, otherWords, allOf, allTo}
 use Rattle.rules.specs.View.{view, exactOut}
 
-module _ (n : ℕ) (recs slots : List ℕ) where
-  -- the word names an object in use
-  unfoldable pub names : ℕ → Bool
-  names w = isPointer n w && inUse (recOf n recs w)
+-- the word names an object in use
+unfoldable pub names : ℕ → List ℕ → ℕ → Bool
+names n recs w = isPointer n w && inUse (recOf n recs w)
 
+module _ (n : ℕ) (recs slots : List ℕ) where
   -- the record is 0 or legal
   unfoldable pub legalAt : ℕ → Bool
   legalAt x = free (recOf n recs x) || legal n (recOf n recs x)
@@ -25,7 +25,7 @@ module _ (n : ℕ) (recs slots : List ℕ) where
 
   -- the used slots are nil, immediates, or name objects in use
   unfoldable pub wordsAt : ℕ → Bool
-  wordsAt x = allOf (λ w. isNil w || isImmediate w || names w) (usedWords n recs slots x)
+  wordsAt x = allOf (λ w. isNil w || isImmediate w || names n recs w) (usedWords n recs slots x)
 
   -- the object that the cluster number names carries that number too
   unfoldable pub headAt : ℕ → Bool
@@ -38,14 +38,14 @@ module _ (n : ℕ) (recs slots : List ℕ) where
   outAt x = Bool·beq (view n recs slots .out x) (exactOut (view n recs slots) x)
 
 -- a root is nil or names an object in use
-unfoldable pub rootsNamed : ℕ → ℕ → List ℕ → List ℕ → List ℕ → Bool
-rootsNamed n r recs slots roots = allOf (λ w. isNil w || names n recs slots w) (take r roots)
+unfoldable pub rootsNamed : ℕ → ℕ → List ℕ → List ℕ → Bool
+rootsNamed n r recs roots = allOf (λ w. isNil w || names n recs w) (take r roots)
 
 -- all rules together
 unfoldable pub wellFormed : ℕ → ℕ → List ℕ → List ℕ → List ℕ → Bool
 wellFormed n r recs slots roots =
     allTo n (legalAt n recs slots) && allTo n (emptyAt n recs slots) && allTo n (wordsAt n recs slots)
-    && allTo n (headAt n recs slots) && allTo n (outAt n recs slots) && rootsNamed n r recs slots roots
+    && allTo n (headAt n recs slots) && allTo n (outAt n recs slots) && rootsNamed n r recs roots
 
 -- what the check answers for any slices: none is too short, n is a size, and the heap is well formed
 unfoldable pub checked : ℕ → ℕ → List ℕ → List ℕ → List ℕ → Bool

@@ -356,7 +356,7 @@ module _ (n r : ℕ) (recs roots : List ℕ) where
   pub roots-begin : rootsFrom 0 ≡ rootsOk n r recs roots
   unfolding rootsFrom rootsOk used
   roots-begin =
-      ap (λ (t : ℕ → Bool). allOf t (take r roots)) (fun-ext {A = ℕ} {B = λ _. Bool} (λ v. ap (λ (b : Bool). isNil v || b) (sym (unfold names in (names-used n recs recs v)))))
+      ap (λ (t : ℕ → Bool). allOf t (take r roots)) (fun-ext {A = ℕ} {B = λ _. Bool} (λ v. ap (λ (b : Bool). isNil v || b) (sym (unfold names in (names-used n recs v)))))
 
   pub roots-end : (j : ℕ) → r ≤ j → rootsFrom j ≡ true
   unfolding rootsFrom allOf

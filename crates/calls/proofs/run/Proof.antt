@@ -16,8 +16,8 @@ enum-known-line c = search needs
 create-requires : tie.Need-create-requires
 create-requires c κs = search needs
 
-of-changed-requires : tie.Need-of-changed-requires
-of-changed-requires c κs = search needs
+of-done-requires : tie.Need-of-done-requires
+of-done-requires c κs = search needs
 
 enum-known-line-2 : tie.Need-enum-known-line-2
 enum-known-line-2 c = search needs
@@ -52,8 +52,8 @@ enum-known-line-5 c = search needs
 write-requires : tie.Need-write-requires
 write-requires c κs = search needs
 
-of-changed-requires-2 : tie.Need-of-changed-requires-2
-of-changed-requires-2 c κs = search needs
+of-done-requires-2 : tie.Need-of-done-requires-2
+of-done-requires-2 c κs = search needs
 
 enum-known-line-6 : tie.Need-enum-known-line-6
 enum-known-line-6 c = search needs
@@ -61,8 +61,8 @@ enum-known-line-6 c = search needs
 set-root-requires : tie.Need-set-root-requires
 set-root-requires c κs = search needs
 
-of-done-requires : tie.Need-of-done-requires
-of-done-requires c κs = search needs
+of-done-requires-3 : tie.Need-of-done-requires-3
+of-done-requires-3 c κs = search needs
 
 enum-known-line-7 : tie.Need-enum-known-line-7
 enum-known-line-7 c = search needs
@@ -70,8 +70,8 @@ enum-known-line-7 c = search needs
 declare-sink-requires : tie.Need-declare-sink-requires
 declare-sink-requires c κs = search needs
 
-of-done-requires-2 : tie.Need-of-done-requires-2
-of-done-requires-2 c κs = search needs
+of-done-requires-4 : tie.Need-of-done-requires-4
+of-done-requires-4 c κs = search needs
 
 enum-told-2 : tie.Need-enum-told-2
 enum-told-2 c = search needs
@@ -131,7 +131,7 @@ same-length-3 : tie.Need-same-length-3
 same-length-3 c = search needs
 
 returns-2 : tie.Need-returns-2
-returns-2 c = ends-create _ _ _ _ _ _ _ _ _ _ _ _ _ _ (c .before .before .before .before .before .before .before .before .before .before .before .before .line .given .1) (c .of-changed .ensures) (c .before .before .before .before .before .before .before .create .ensures)
+returns-2 c = ends-create _ _ _ _ _ _ _ _ _ _ _ _ _ _ (c .before .before .before .before .before .before .before .before .before .before .before .before .line .given .1) (c .of-done .ensures) (c .before .before .before .before .before .before .before .create .ensures)
 
 same-length-4 : tie.Need-same-length-4
 same-length-4 c = search needs
@@ -167,7 +167,7 @@ same-length-11 : tie.Need-same-length-11
 same-length-11 c = search needs
 
 returns-6 : tie.Need-returns-6
-returns-6 c = ends-write _ _ _ _ _ _ _ _ _ _ _ _ _ _ (c .before .before .before .before .before .before .before .before .before .line5 .given .1) (c .of-changed2 .ensures) (c .before .before .before .before .before .write .ensures)
+returns-6 c = ends-write _ _ _ _ _ _ _ _ _ _ _ _ _ _ (c .before .before .before .before .before .before .before .before .before .line5 .given .1) (c .of-done2 .ensures) (c .before .before .before .before .before .write .ensures)
 
 same-length-12 : tie.Need-same-length-12
 same-length-12 c = search needs
@@ -176,7 +176,7 @@ same-length-13 : tie.Need-same-length-13
 same-length-13 c = search needs
 
 returns-7 : tie.Need-returns-7
-returns-7 c = ends-root _ _ _ _ _ _ _ _ _ _ _ _ (c .before .before .before .before .before .before .before .line6 .given .1) (c .of-done .ensures) (c .before .before .before .set-root .ensures)
+returns-7 c = ends-root _ _ _ _ _ _ _ _ _ _ _ _ (c .before .before .before .before .before .before .before .line6 .given .1) (c .of-done3 .ensures) (c .before .before .before .set-root .ensures)
 
 same-length-14 : tie.Need-same-length-14
 same-length-14 c = search needs
@@ -188,7 +188,7 @@ same-length-16 : tie.Need-same-length-16
 same-length-16 c = search needs
 
 returns-8 : tie.Need-returns-8
-returns-8 c = ends-sink _ _ _ _ _ _ _ _ _ _ _ (c .before .before .before .before .before .before .before .before .line7 .given .1) (c .of-done2 .ensures) (c .before .before .before .declare-sink .ensures)
+returns-8 c = ends-sink _ _ _ _ _ _ _ _ _ _ _ (c .before .before .before .before .before .before .before .before .line7 .given .1) (c .of-done4 .ensures) (c .before .before .before .declare-sink .ensures)
 
 same-length-17 : tie.Need-same-length-17
 same-length-17 c = search needs
@@ -258,7 +258,7 @@ run-spec =
     answer-requires
     enum-known-line
     create-requires
-    of-changed-requires
+    of-done-requires
     enum-known-line-2
     allocate-requires
     of-allocated-requires
@@ -270,13 +270,13 @@ run-spec =
     of-part-requires
     enum-known-line-5
     write-requires
-    of-changed-requires-2
+    of-done-requires-2
     enum-known-line-6
     set-root-requires
-    of-done-requires
+    of-done-requires-3
     enum-known-line-7
     declare-sink-requires
-    of-done-requires-2
+    of-done-requires-4
     enum-told-2
     analyse-requires
     of-analysed-requires
