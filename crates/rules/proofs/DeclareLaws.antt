@@ -314,11 +314,9 @@ module _ (s : State) (i : ℕ) (accepted : refusalOf (declareSink i) s ≡ 0) wh
   }
 
 -- a second declaration, accepted or refused, in any heap
-pub declare-twice : (s : State) (i : ℕ) → isSink (rec s i) ≡ true
-    → Declare.declareSink (s .control) i (s .records) (s .slots) (s .roots)
-    ≡ record { answer = record { refusal = refusalOf (declareSink i) s; control = s .control }; records = s .records }
-unfolding Declare.declareSink
+pub declare-twice : (s : State) (i : ℕ) → isSink (rec s i) ≡ true → step (declareSink i) s .after ≡ s
+unfolding step answer Declare.declareSink
 declare-twice s i e =
     all-by
-    (λ (o : Declare.Outcome). o ≡ record { answer = record { refusal = o .answer .refusal; control = s .control }; records = s .records })
+    (λ (o : Declare.Outcome). _≡_ {A = State} (record { control = o .answer .control; records = o .records; slots = s .slots; roots = s .roots }) s)
     _ _ _ (λ z. rw e refl) (λ m. refl)

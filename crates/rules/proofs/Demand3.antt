@@ -8,7 +8,7 @@ use native.Mathlib.Omega.{arith}
 use lib.ListN.{length, take, drop, replicate, length-drop, take-append-drop}
 use lib.Seq.{take-add, drop-drop}
 use borrow.Author.Tests.{eqb-true}
-use Rattle.layout.specs.Limits.{slotsLen}
+use Rattle.layout.specs.Limits.{slotsLen, workLen, mapLen}
 use Rattle.layout.specs.declared.answers.Control.{Control}
 use Rattle.records.specs.Record.{width}
 use Rattle.layout.specs.Word.{isNil}
@@ -24,7 +24,7 @@ use Rattle.rules.specs.Analyse as Analyse
 use Rattle.rules.specs.Calls.{Call, allocate, allocateInPlace, read, show, write, writeInPlace, setRoot, declareSink, collect, analyse}
 use Rattle.rules.specs.Plain.{Plain, Played, Cell, eightOf, plainSlots, plainStep, plainCreated, answer}
 use Rattle.rules.specs.Steps.{State, step, answersOf, afterAll}
-use Rattle.rules.specs.Demands.{Lent, ScansFew, Alike, Demand3, PlainKeeps, wordsOf, rec}
+use Rattle.rules.specs.Demands.{Lent, EachLent, ScansFew, Alike, Demand3, PlainKeeps, wordsOf, rec}
 use Rattle.rules.proofs.ListLaws.{length-eight}
 use Rattle.rules.proofs.BoolLaws.{and-split}
 use Rattle.rules.proofs.Invariant.{Inv}
@@ -107,21 +107,30 @@ sizes-kept (declareSink i) s = all-by (λ (o : DeclareSink.Outcome). Sizes s (o 
 sizes-kept (collect kind work map) s = all-by (λ (o : Collect.Outcome). Sizes s (o .answer .control)) _ _ _ (λ z. (refl, refl)) (λ m. (refl, refl))
 sizes-kept (analyse work) s = all-by (λ (o : Analyse.Outcome). Sizes s (o .answer .control)) _ _ _ (λ z. (refl, refl)) (λ m. (refl, refl))
 
--- one call: what it is lent, and that it does what the plain heap does
+-- one call: what it is lent, by cases
 abbrev pub LentOne : ℕ → Call → Type 0
-LentOne n call = Lent n (call ∷ [])
+LentOne n (allocate width) = Unit {0}
+LentOne n (allocateInPlace width) = Unit {0}
+LentOne n (read i k) = Unit {0}
+LentOne n (show i) = Unit {0}
+LentOne n (write i k w) = Unit {0}
+LentOne n (writeInPlace i k w) = Unit {0}
+LentOne n (setRoot j w) = Unit {0}
+LentOne n (declareSink i) = Unit {0}
+LentOne n (collect kind work map) = (workLen n ≤ length work) × (mapLen n ≤ length map) × Unit {0}
+LentOne n (analyse work) = Unit {0}
 
-lent-split : (n : ℕ) (call : Call) (l : List Call) → Lent n (call ∷ l) → LentOne n call × Lent n l
-lent-split n (allocate width) l h = (tt, h)
-lent-split n (allocateInPlace width) l h = (tt, h)
-lent-split n (read i k) l h = (tt, h)
-lent-split n (show i) l h = (tt, h)
-lent-split n (write i k w) l h = (tt, h)
-lent-split n (writeInPlace i k w) l h = (tt, h)
-lent-split n (setRoot j w) l h = (tt, h)
-lent-split n (declareSink i) l h = (tt, h)
-lent-split n (collect kind work map) l h = ((h .0, h .1, tt), h .2)
-lent-split n (analyse work) l h = (tt, h)
+lent-one : (n : ℕ) (call : Call) → Lent n call → LentOne n call
+lent-one n (allocate width) h = tt
+lent-one n (allocateInPlace width) h = tt
+lent-one n (read i k) h = tt
+lent-one n (show i) h = tt
+lent-one n (write i k w) h = tt
+lent-one n (writeInPlace i k w) h = tt
+lent-one n (setRoot j w) h = tt
+lent-one n (declareSink i) h = tt
+lent-one n (collect kind work map) h = let t = h kind work map refl in (t .0, t .1, tt)
+lent-one n (analyse work) h = tt
 
 -- a call whose step, of either heap, is that of another
 same-call : (call call′ : Call) (s : State) → step call s ≡ step call′ s → plainStep call (plainOf s) ≡ plainStep call′ (plainOf s) → Same call′ s → Same call s
@@ -147,7 +156,7 @@ step-scans call s I h work map e =
     let k : LentOne (s .control .n) (collect byClusters work map) = subst (LentOne (s .control .n)) e h in
     subst (λ (o : Collect.Outcome). o .answer .scanned ≤ o .answer .kept) (sym (collect-is s I byClusters work map (k .0) (k .1))) (scans-few s I byClusters work map (k .0) (k .1))
 
-alike : (n r : ℕ) (calls : List Call) (s : State) (P : Plain) → Inv s → s .control .n ≡ n → s .control .r ≡ r → plainOf s ≡ P → Lent n calls
+alike : (n r : ℕ) (calls : List Call) (s : State) (P : Plain) → Inv s → s .control .n ≡ n → s .control .r ≡ r → plainOf s ≡ P → EachLent n calls
     → Alike n r calls s P
 unfolding answersOf afterAll
 alike n r [] s P I en er p h = record {
@@ -157,11 +166,10 @@ alike n r [] s P I en er p h = record {
   scans = tt;
 }
 alike n r (call ∷ l) s P I en er p h =
-    let t = lent-split n call l h in
-    let one : LentOne (s .control .n) call = subst (λ (k : ℕ). LentOne k call) (sym en) (t .0) in
+    let one : LentOne (s .control .n) call = subst (λ (k : ℕ). LentOne k call) (sym en) (lent-one n call (h .0)) in
     let S = step-same call s I one in
     let z = sizes-kept call s in
-    let R = alike n r l (step call s .after) (plainStep call P .after) (step-inv call s I) (z .0 ∙ en) (z .1 ∙ er) (S .after ∙ ap (λ (Q : Plain). plainStep call Q .after) p) (t .1) in
+    let R = alike n r l (step call s .after) (plainStep call P .after) (step-inv call s I) (z .0 ∙ en) (z .1 ∙ er) (S .after ∙ ap (λ (Q : Plain). plainStep call Q .after) p) (h .1) in
     record {
       answers = ap₂ _++_ (S .answers ∙ ap (λ (Q : Plain). plainStep call Q .answers) p) (R .answers);
       slots = R .slots;

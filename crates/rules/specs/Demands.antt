@@ -367,11 +367,9 @@ pub record Demand2 : Type 0 where
   pub analyses : (s : State) → Made s → (work : List ℕ) → refusalOf (analyse work) s ≡ 0 → Analyses s work
   pub adjusts : (s : State) (work : List ℕ) → refusalOf (analyse work) s ≡ 0 → Adjusts s work
   pub writes : (s : State) → Made s → (i k w : ℕ) → refusalOf (write i k w) s ≡ 0 → Writes s i k w
-  -- every accepted declaration, in any heap; a second one gives its refusal, or 0, and all as it was handed in
+  -- every accepted declaration, in any heap; a second one, accepted or refused, leaves all as it was
   pub declares : (s : State) (i : ℕ) → refusalOf (declareSink i) s ≡ 0 → Declares s i
-  pub again : (s : State) (i : ℕ) → isSink (rec s i) ≡ true
-      → DeclareSink.declareSink (s .control) i (s .records) (s .slots) (s .roots)
-      ≡ record { answer = record { refusal = refusalOf (declareSink i) s; control = s .control }; records = s .records }
+  pub again : (s : State) (i : ℕ) → isSink (rec s i) ≡ true → step (declareSink i) s .after ≡ s
   -- an analysis that is lent enough work is accepted
   pub accepts : (s : State) → Made s → (work : List ℕ) → workLen (s .control .n) ≤ length work → refusalOf (analyse work) s ≡ 0
   -- the three buffers, handed on from call to call, are never too short
@@ -382,19 +380,14 @@ pub record Demand2 : Type 0 where
 
 -- ==== demand 3: every list of calls, of the buffers and of the plain heap
 
--- every collection is lent enough work and map for n objects; an analysis may be lent anything
-abbrev pub Lent : ℕ → List Call → Type 0
-Lent n [] = Unit {0}
-Lent n (allocate width ∷ l) = Lent n l
-Lent n (allocateInPlace width ∷ l) = Lent n l
-Lent n (read i k ∷ l) = Lent n l
-Lent n (show i ∷ l) = Lent n l
-Lent n (write i k w ∷ l) = Lent n l
-Lent n (writeInPlace i k w ∷ l) = Lent n l
-Lent n (setRoot j w ∷ l) = Lent n l
-Lent n (declareSink i ∷ l) = Lent n l
-Lent n (collect kind work map ∷ l) = (workLen n ≤ length work) × (mapLen n ≤ length map) × Lent n l
-Lent n (analyse work ∷ l) = Lent n l
+-- if the call is a collection, it is lent enough work and map for n objects; an analysis may be lent anything
+abbrev pub Lent : ℕ → Call → Type 0
+Lent n call = (kind : Kind) (work map : List ℕ) → call ≡ collect kind work map → (workLen n ≤ length work) × (mapLen n ≤ length map)
+
+-- the same for each call of a list
+abbrev pub EachLent : ℕ → List Call → Type 0
+EachLent n [] = Unit {0}
+EachLent n (call ∷ l) = Lent n call × EachLent n l
 
 -- if the call is a collection by clusters, it scans no more than it keeps
 abbrev pub ScansFew : State → Call → Type 0
@@ -418,7 +411,7 @@ pub record Alike (n r : ℕ) (calls : List Call) (s : State) (P : Plain) : Type 
 abbrev pub Demand3 : Type 0
 Demand3 =
     (n r : ℕ) (recs slots roots : List ℕ) → Create.create n r recs slots roots .answer .refusal ≡ 0
-    → (calls : List Call) → Lent n calls → Alike n r calls (created n r recs slots roots) (plainCreated n r)
+    → (calls : List Call) → EachLent n calls → Alike n r calls (created n r recs slots roots) (plainCreated n r)
 
 -- and what the plain heap keeps in a collection is what pointers reach from its roots and sinks
 abbrev pub PlainKeeps : Type 0
