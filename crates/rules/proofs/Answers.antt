@@ -178,7 +178,7 @@ module _ (n : ℕ) (recs slots : List ℕ) (i k t : ℕ) (low : 1 ≤ i) (high :
   abbrev H : Heap
   H = view n recs slots
 
-  laid-at : (d : Bool) (x : ℕ) → 1 ≤ x → x ≤ n
+  pub laid-at : (d : Bool) (x : ℕ) → 1 ≤ x → x ≤ n
       → let K = storeBy d H i k t in recOf n (laid K recs) x ≡ laidRecord (K .cluster x) (K .out x) (K .sink x) (K .written x) (recOf n recs x)
   unfolding laid view storeBy
   laid-at true x p q = recOf-each n _ recs x p q long
@@ -210,6 +210,11 @@ module _ (n : ℕ) (recs slots : List ℕ) (i k t : ℕ) (low : 1 ≤ i) (high :
   unfolding store
   touches = (own (dissolves H i k t), other (dissolves H i k t) refl)
 
+-- what the tests of a write let pass
+pub write-named : (c : Control) (i k w : ℕ) (recs slots : List ℕ) → first (Write.writeTests c i k w recs slots) ≡ 0 → Named c i recs slots
+unfolding Write.writeTests
+write-named c i k w recs slots z = named c i recs slots _ z .0
+
 pub write-stores : (c : Control) (i k w : ℕ) (recs slots : List ℕ)
     → let o = Write.write c i k w recs slots in
     o .answer .refusal ≡ 0 → Stored (8 * (i - 1) + k) w slots (o .slots) × Touches (c .n) i (recOf (c .n) recs) (recOf (c .n) (o .records))
@@ -218,16 +223,13 @@ write-stores c i k w recs slots =
     all-by
     (λ (o : Write.Outcome). o .answer .refusal ≡ 0 → Stored (8 * (i - 1) + k) w slots (o .slots) × Touches (c .n) i (recOf (c .n) recs) (recOf (c .n) (o .records))) _ _ _
     (λ z e.
-    let f = passed z in
+    let f = write-named c i k w recs slots z in
     ((within z, refl), touches (c .n) recs slots i k (target (c .n) w) (f .low) (f .high) (f .wide)))
     (λ m e. absurd (suc-ne-zero m e))
   where
-    passed : first (Write.writeTests c i k w recs slots) ≡ 0 → Named c i recs slots
-    passed z = unfold Write.writeTests in (named c i recs slots _ z .0)
-
     within : first (Write.writeTests c i k w recs slots) ≡ 0 → 8 * (i - 1) + k < length slots
     within z =
-        let a = passed z .long in
+        let a = write-named c i k w recs slots z .long in
         let b : 8 * (i - 1) + k < 8 * c .n = unfold slotsLen in (slot-fits c i k w recs slots z) in
         omega arith
 

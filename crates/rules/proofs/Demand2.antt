@@ -19,7 +19,7 @@ demand2 = record {
   ruled = λ s m. record { analysed = analyse-ruled s (made-inv m); written = write-ruled s (made-inv m); declared = declare-ruled s (made-inv m) };
   analyses = λ s m work e. analyse-does s (made-inv m) work e;
   adjusts = analyse-adjusts;
-  writes = λ s m i k w e. write-does s (made-inv m) i k w e;
+  writes = write-does;
   declares = λ s i e. declare-does s i e;
   again = λ s i e. declare-twice s i e;
   accepts = λ s m work l. analyse-accepts s (made-inv m) work l;

@@ -1,21 +1,24 @@
--- What an accepted write does to the clusters of a heap with the invariant.
+-- What an accepted write does to the clusters, in any heap.
 -- Assumes nothing.
-use Prim.Native.Nat.{ℕ, _+_}
+use Prim.Native.Nat.{ℕ, zero, suc, _+_, _≤_, _<_, _^_}
 use mathlib.Core.Path.{_≡_, refl, sym, ap, _∙_}
 use mathlib.Core.Bool.{Bool, true, false, not, cond, _&&_}
+use mathlib.Core.List.{List}
 use native.Mathlib.Nat.{suc-ne-zero}
+use native.Mathlib.Decide.{decLe}
 use native.Mathlib.Omega.{arith}
 use lib.Dec.{eqb}
 use lib.ListN.{getD}
 use borrow.Author.Tests.{eqb-true, eqb-false, eq-eqb, ne-eqb, not-true}
 use Rattle.layout.specs.Field.{field}
 use Rattle.records.specs.Record.{cluster}
+use Rattle.layout.proofs.FieldLaws.{field-lt}
 use Rattle.layout.specs.ControlRecord.{withWriteLoss}
 use Rattle.graph.specs.Heap.{Heap}
 use Rattle.graph.specs.Clusters.{size, keep, others}
 use Rattle.graph.specs.Writes.{dissolves, storeBy, store, lossBy, lossOf}
 use Rattle.rules.specs.Buffers.{recOf}
-use Rattle.rules.specs.View.{target, view}
+use Rattle.rules.specs.View.{target, view, laid}
 use Rattle.rules.specs.Write.{lossAfter}
 use Rattle.rules.specs.Write as Write
 use Rattle.rules.specs.Calls.{write}
@@ -23,10 +26,13 @@ use Rattle.rules.specs.Plain.{answer}
 use Rattle.rules.specs.Steps.{State, step}
 use Rattle.rules.specs.Demands.{rec, heapOf, refusalOf, PointsIn, Writes, wordsOf}
 use Rattle.rules.proofs.BoolLaws.{and-split}
-use Rattle.rules.proofs.Invariant.{Inv}
+use Rattle.rules.proofs.Answers.{laid-at, write-named}
+use Rattle.rules.proofs.Frames.{Named}
+use Rattle.rules.proofs.LaidRecord.{laid-cluster}
+use Rattle.rules.proofs.ListLaws.{recOf-above}
+use Rattle.rules.proofs.StoreLaws.{recOf-zero}
 use Rattle.rules.proofs.Simulation.{all-by}
 use Rattle.rules.proofs.ViewLaws.{get-target, rec-target}
-use Rattle.rules.proofs.WriteLaws.{write-ruled}
 
 -- a write dissolves exactly if the old word pointed into the cluster
 module _ (s : State) (i k t : ℕ) where
@@ -66,13 +72,56 @@ module _ (s : State) (i k t : ℕ) where
       let b = and-split (not (eqb u 0)) (eqb (H .cluster u) (H .cluster i)) (a .1) in
       (eqb-false (H .cluster i) 0 (not-true _ (a .0)), sym old-cluster ∙ eqb-true (H .cluster (getD (H .kids i) k 0)) (H .cluster i) (b .1))
 
-module _ (s : State) (I : Inv s) (i k w : ℕ) (accepted : refusalOf (write i k w) s ≡ 0) where
+module _ (s : State) (i k w : ℕ) (accepted : refusalOf (write i k w) s ≡ 0) where
   abbrev t : ℕ
   t = target (s .control .n) w
 
+  -- the clusters that are stored fit their field, and an object without a record has none
+  fits : (d : Bool) (x : ℕ) → storeBy d (heapOf s) i k t .cluster x < 2 ^ 12
+  unfolding storeBy view
+  fits false x = field-lt 16 12 (rec s x)
+  fits true x = unfold keep in (go (others (cluster (rec s i)) (cluster (rec s x))))
+    where
+      go : (b : Bool) → cond b (cluster (rec s x)) 0 < 2 ^ 12
+      go true = field-lt 16 12 (rec s x)
+      go false = omega arith
+
+  none : (d : Bool) (x : ℕ) → rec s x ≡ 0 → storeBy d (heapOf s) i k t .cluster x ≡ 0
+  unfolding storeBy view field
+  none false x e = rw e refl
+  none true x e = unfold keep in (rw e (go (others (cluster (rec s i)) 0)))
+    where
+      go : (b : Bool) → _≡_ {A = ℕ} (cond b 0 0) 0
+      go true = refl
+      go false = refl
+
+  free-cluster : cluster 0 ≡ 0
+  unfolding field
+  free-cluster = refl
+
+  abbrev laid-recs : Bool → List ℕ
+  laid-recs d = laid (storeBy d (heapOf s) i k t) (s .records)
+
+  laid-clusters : Named (s .control) i (s .records) (s .slots) → (d : Bool) (x : ℕ)
+      → cluster (recOf (s .control .n) (laid-recs d) x) ≡ storeBy d (heapOf s) i k t .cluster x
+  laid-clusters N d zero = ap cluster (recOf-zero (s .control .n) (laid-recs d)) ∙ free-cluster ∙ sym (none d zero (recOf-zero (s .control .n) (s .records)))
+  laid-clusters N d (suc x) = go (decLe (suc x) (s .control .n))
+    where
+      go : Dec (suc x ≤ s .control .n) → cluster (recOf (s .control .n) (laid-recs d) (suc x)) ≡ storeBy d (heapOf s) i k t .cluster (suc x)
+      go (yes l) =
+          ap cluster (laid-at (s .control .n) (s .records) (s .slots) i k t (N .low) (N .high) (N .wide) d (suc x) (omega arith) l)
+          ∙ laid-cluster _ _ _ _ (rec s (suc x)) (fits d (suc x))
+      go (no l) =
+          ap cluster (recOf-above (s .control .n) (laid-recs d) (suc x) (omega (arith, l))) ∙ free-cluster
+          ∙ sym (none d (suc x) (recOf-above (s .control .n) (s .records) (suc x) (omega (arith, l))))
+
   after : (x : ℕ) → cluster (rec (step (write i k w) s .after) x) ≡ store (heapOf s) i k t .cluster x
-  unfolding view
-  after x = ap (λ (K : Heap). K .cluster x) (write-ruled s I i k w accepted)
+  unfolding step Write.write answer withWriteLoss store
+  after x =
+      all-by
+      (λ (o : Write.Outcome). o .answer .refusal ≡ 0 → cluster (recOf (o .answer .control .n) (o .records) x)
+      ≡ storeBy (dissolves (heapOf s) i k t) (heapOf s) i k t .cluster x) _ _ _
+      (λ z e. laid-clusters (write-named (s .control) i k w (s .records) (s .slots) z) (dissolves (heapOf s) i k t) x) (λ m e. absurd (suc-ne-zero m e)) accepted
 
   loss : step (write i k w) s .after .control .«write_loss» ≡ lossAfter (s .control) i k w (s .records) (s .slots)
   unfolding step Write.write answer withWriteLoss

@@ -366,7 +366,8 @@ pub record Demand2 : Type 0 where
   pub ruled : (s : State) → Made s → Ruled s
   pub analyses : (s : State) → Made s → (work : List ℕ) → refusalOf (analyse work) s ≡ 0 → Analyses s work
   pub adjusts : (s : State) (work : List ℕ) → refusalOf (analyse work) s ≡ 0 → Adjusts s work
-  pub writes : (s : State) → Made s → (i k w : ℕ) → refusalOf (write i k w) s ≡ 0 → Writes s i k w
+  -- every accepted write, in any heap
+  pub writes : (s : State) (i k w : ℕ) → refusalOf (write i k w) s ≡ 0 → Writes s i k w
   -- every accepted declaration, in any heap; a second one, accepted or refused, leaves all as it was
   pub declares : (s : State) (i : ℕ) → refusalOf (declareSink i) s ≡ 0 → Declares s i
   pub again : (s : State) (i : ℕ) → isSink (rec s i) ≡ true → step (declareSink i) s .after ≡ s
