@@ -76,7 +76,7 @@ pub record Visiting (n : ℕ) (recs slots : List ℕ) (limit : ℕ) (work : List
   pub room : needed (view n recs slots) (visiting o c (memOf n work top)) ≤ 8 * n + 1
   pub inside : top ≤ 8 * n
 
--- The walk stands at these work words and top.
+-- The walk has come to these work words and top.
 pub record Walking (n : ℕ) (recs slots : List ℕ) (limit : ℕ) (work : List ℕ) (top : ℕ) : Type 0 where
   pub ground : Ground n recs slots limit work
   pub inv : Inv (view n recs slots) limit (walkOf (memOf n work top))

@@ -15,7 +15,7 @@ use Rattle.lines.specs.declared.Line.{Line}
 use Rattle.lines.specs.declared.Line.the-variants as line
 use Rattle.calls.specs.declared.Ran.{Ran}
 
--- the answer and what stands in the buffers after the line
+-- the answer and the buffers after the line
 pub record Outcome : Type 0 where
   pub answer : Ran
   pub records : List ℕ
@@ -49,7 +49,7 @@ module _ (c : Control) (recs slots roots work map : List ℕ) where
   unfoldable pub read : ℕ → ℕ → Outcome
   read i k = let a = Read.read c i k recs slots in gives (ran (a .refusal) (a .word) 0 0 (a .control)) recs slots roots work map
 
-  -- where the part stands that is shown
+  -- where the part is that is shown
   unfoldable pub show : ℕ → Outcome
   show i =
       let a = Show.show c i recs slots .answer in

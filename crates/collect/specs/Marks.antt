@@ -12,7 +12,7 @@ bitOf marked = 4
 bitOf postponed = 5
 bitOf reached = 6
 
--- the flags that stand in the records
+-- the flags in the records
 unfoldable pub flagsOf : ℕ → List ℕ → Flags
 flagsOf n recs f x = flag (bitOf f) (recOf n recs x)
 

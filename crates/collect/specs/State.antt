@@ -57,7 +57,7 @@ linkAt n work x = getD work (8 * n + (x - 1)) 0
 abbrev pub outsOf : ℕ → List ℕ → ℕ → ℕ
 outsOf n recs = linkedAt true n recs
 
--- the link words of the out members stand there, where clusters are walked
+-- the link words are those of the out members, where clusters are walked
 pub record Linked (by : Bool) (n : ℕ) (recs work : List ℕ) : Type 0 where
   pub links : by ≡ true → (x : ℕ) → Obj n x → linkAt n work x ≡ linkWord n (outsOf n recs) x
 
@@ -89,7 +89,7 @@ pub record Pushable (n : ℕ) (slots : List ℕ) (from k : ℕ) (work : List ℕ
   pub space : length (named n (take k (drop from slots))) ≤ top
   pub end : top ≤ length work
 
--- the list ks stands in front of what stood from `top` on
+-- the list ks comes before what was there from `top` on
 pub record Pushed (ks work : List ℕ) (top : ℕ) (work′ : List ℕ) (top′ : ℕ) : Type 0 where
   pub front : drop top′ work′ ≡ ks ++ drop top work
   pub counted : top′ + length ks ≡ top

@@ -24,11 +24,11 @@ atAnalysis = 2
 abbrev pub done : ℕ
 done = 3
 
--- the line as a player runs it: plainly, or as it stands
+-- the line as a player runs it: plainly, or as it is
 unfoldable pub asRun : Bool → Line → Line
 asRun plain l = cond plain (plainLine l) l
 
--- how a player stands after a line, by the number of its call: none, an analysis (8) or another
+-- the state of a player after a line, by the number of its call: none, an analysis (8) or another
 unfoldable pub stateAfter : Line → ℕ
 stateAfter l = cond (eqb (partsOf l .kind) 0) reading (cond (eqb (partsOf l .kind) 8) atAnalysis atCall)
 
@@ -40,7 +40,7 @@ marked l r same = not l || (not r || not same)
 abbrev pub paired : Bool → Bool → Bool → Turn
 paired l r same = record { «has_left» = l; «has_right» = r; mark = marked l r same }
 
--- what comes next of two players: an analysis stands alone, that of the left one first; else the calls of both
+-- what comes next of two players: an analysis has a row of its own, that of the left one first; else the calls of both
 unfoldable pub nextTurn : ℕ → ℕ → Bool → Turn
 nextTurn l r same =
     cond (eqb l atAnalysis) (record { «has_left» = true; «has_right» = false; mark = false })

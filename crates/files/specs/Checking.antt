@@ -16,7 +16,7 @@ use Rattle.files.specs.declared.reading.Source.{Source}
 use Rattle.files.specs.declared.checking.Check.{Check}
 use Rattle.files.specs.Reading.{hasLine, hasLong, hasFailed, lineAt, Found, Searched}
 
--- a call stands before create
+-- a call comes before create
 abbrev pub notCreate : ℕ
 notCreate = 11
 

@@ -50,7 +50,7 @@ wordText n w = sortText (sortOf n w) w
 unfoldable pub commaText : Bool → List ℕ
 commaText first = cond first [] (bytes ", ")
 
--- texts with ", " between them, and before the first too where something stands before it
+-- texts with ", " between them, and before the first too where there is a text before it
 unfoldable pub listed : Bool → List (List ℕ) → List ℕ
 listed first [] = []
 listed first (t ∷ l) = commaText first ++ t ++ listed false l

@@ -10,7 +10,7 @@ use native.Mathlib.Omega.{arith}
 use lib.Dec.{eqb}
 use lib.ListN.{length, getD, set, take, drop, replicate}
 use borrow.Author.Tests.{leb-false, ltb-false, eqb-true, eqb-false, eq-eqb}
-use Rattle.layout.specs.ControlRecord.{newControl, withLast, withWriteLoss, withAnalysis}
+use Rattle.layout.specs.ControlRecord.{newControl, withLast, withWriteLoss}
 use Rattle.layout.specs.Field.{put, putFlag, digit}
 use Rattle.layout.specs.Limits.{slotsLen}
 use Rattle.layout.specs.Refusal.{Test, first, outcome}
@@ -35,7 +35,6 @@ use Rattle.rules.specs.Show as Show
 use Rattle.rules.specs.Write as Write
 use Rattle.rules.specs.SetRoot as SetRoot
 use Rattle.rules.specs.DeclareSink as DeclareSink
-use Rattle.rules.specs.Analyse as Analyse
 use Rattle.rules.specs.Collect.{Kind}
 use Rattle.rules.specs.Collect as Collect
 use Rattle.rules.specs.Demands.{Refuses, here, later, Cleared, Stored, Touches, Gives}
@@ -274,16 +273,6 @@ root-control c j w recs roots = handed-back (λ (o : SetRoot.Outcome). o .answer
 pub declare-control : (c : Control) (i : ℕ) (recs slots roots : List ℕ) → DeclareSink.declareSink c i recs slots roots .answer .control ≡ c
 unfolding DeclareSink.declareSink
 declare-control c i recs slots roots = handed-back (λ (o : DeclareSink.Outcome). o .answer .control) c (DeclareSink.declareSink c i recs slots roots) _ _ _ refl refl (λ m. refl)
-
-pub analyse-control : (c : Control) (recs slots roots work : List ℕ)
-    → let o = Analyse.analyse c recs slots roots work in
-    o .answer .refusal ≡ 0 → o .answer .control ≡ withAnalysis (o .answer .control .limit) (o .answer .control .«out_loss») c
-unfolding Analyse.analyse withAnalysis
-analyse-control c recs slots roots work =
-    all-by
-    (λ (o : Analyse.Outcome).
-    o .answer .refusal ≡ 0 → o .answer .control ≡ withAnalysis (o .answer .control .limit) (o .answer .control .«out_loss») c) _ _ _
-    (λ z e. refl) (λ m e. absurd (suc-ne-zero m e))
 
 pub collect-control : (kind : Kind) (c : Control) (recs slots roots work map : List ℕ)
     → Collect.collect kind c recs slots roots work map .answer .control ≡ c

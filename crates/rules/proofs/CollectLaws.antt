@@ -101,7 +101,6 @@ module _ (s : State) (kind : Kind) (work map₀ : List ℕ) where
         stays = cluster-stays s C kind work map₀ told (KeptBy kind s) facts;
         goes = cluster-goes s C kind work map₀ told (KeptBy kind s) facts;
         formed = swept-formed s C kind work map₀ told (KeptBy kind s) facts;
-        control = unfold sweep in refl;
       }
 
   module _ (accepted : collected s kind work map₀ .answer .refusal ≡ 0) where

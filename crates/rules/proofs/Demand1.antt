@@ -14,7 +14,7 @@ use Rattle.rules.specs.Collect as Collect
 use Rattle.rules.specs.Demands.{Demand1}
 use Rattle.rules.proofs.Refused.{decided, create-ordered, allocate-ordered, read-ordered, show-ordered, write-ordered, root-ordered, declare-ordered, analyse-ordered, collect-ordered}
 use Rattle.rules.proofs.Frames.{create-within, allocate-within, write-within, root-within, declare-within, analyse-within, collect-within, analyse-clears, collect-clears}
-use Rattle.rules.proofs.Answers.{create-new, allocate-full, allocate-gives, allocate-in-place, read-word, show-part, write-stores, write-in-place, root-stores, read-control, show-control, write-control, root-control, declare-control, analyse-control, collect-control}
+use Rattle.rules.proofs.Answers.{create-new, allocate-full, allocate-gives, allocate-in-place, read-word, show-part, write-stores, write-in-place, root-stores, read-control, show-control, write-control, root-control, declare-control, collect-control}
 use Rattle.rules.proofs.WalksEnd.{clusters-end, plain-ends, analysis-ends}
 
 pub demand1 : Demand1
@@ -27,7 +27,7 @@ demand1 = record {
   written = λ c i k w recs slots. (decided _ _ _ (λ (o : Write.Outcome). o .answer .refusal) refl (λ m. refl) (write-ordered c i k w recs slots), write-within c i k w recs slots .0, write-within c i k w recs slots .1, write-control c i k w recs slots, write-stores c i k w recs slots, write-in-place c i k w recs slots);
   rootSet = λ c j w recs roots. (decided _ _ _ (λ (o : SetRoot.Outcome). o .answer .refusal) refl (λ k. refl) (root-ordered c j w recs roots), root-within c j w recs roots, root-control c j w recs roots, root-stores c j w recs roots);
   declared = λ c i recs slots roots. (decided _ _ _ (λ (o : DeclareSink.Outcome). o .answer .refusal) refl (λ k. refl) (declare-ordered c i recs slots roots), declare-within c i recs slots roots, declare-control c i recs slots roots);
-  analysed = λ c recs slots roots work. (decided _ _ _ (λ (o : Analyse.Outcome). o .answer .refusal) refl (λ k. refl) (analyse-ordered c recs slots roots work), analyse-within c recs slots roots work .0, analyse-within c recs slots roots work .1, analyse-clears c recs slots roots work, analyse-control c recs slots roots work);
+  analysed = λ c recs slots roots work. (decided _ _ _ (λ (o : Analyse.Outcome). o .answer .refusal) refl (λ k. refl) (analyse-ordered c recs slots roots work), analyse-within c recs slots roots work .0, analyse-within c recs slots roots work .1, analyse-clears c recs slots roots work);
   collected = λ kind c recs slots roots work map.
       (decided _ _ _ (λ (o : Collect.Outcome). o .answer .refusal) refl (λ k. refl) (collect-ordered kind c recs slots roots work map), collect-within kind c recs slots roots work map .0, collect-within kind c recs slots roots work map .1, collect-within kind c recs slots roots work map .2, collect-within kind c recs slots roots work map .3, collect-clears kind c recs slots roots work map, collect-control kind c recs slots roots work map);
   ends = λ n r recs slots roots e.

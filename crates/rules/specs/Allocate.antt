@@ -27,7 +27,7 @@ pub record Outcome : Type 0 where
   pub records : List ℕ
   pub slots : List ℕ
 
--- an answer and what stands in the buffers, as an outcome
+-- an answer and the buffers after the call, as an outcome
 abbrev pub gives : Allocated → List ℕ → List ℕ → Outcome
 gives a recs slots = record { answer = a; records = recs; slots = slots }
 
@@ -38,7 +38,7 @@ pub record OutcomeInPlace : Type 0 where
   pub records : List ℕ
   pub slots : List ℕ
 
--- an answer and what stands in the record and the buffers, as an outcome
+-- an answer, the control record and the buffers after the call, as an outcome
 abbrev pub givesInPlace : AllocatedInPlace → Control → List ℕ → List ℕ → OutcomeInPlace
 givesInPlace a c recs slots = record { answer = a; control = c; records = recs; slots = slots }
 

@@ -23,11 +23,11 @@ unfoldable pub eight : List ℕ → ℕ → List ℕ
 eight slots zero = []
 eight slots (suc i) = take widthMax (drop (widthMax * i) slots)
 
--- those that are used, by slot, and the others
+-- those of them that are used, by slot
 unfoldable pub usedWords : ℕ → List ℕ → List ℕ → ℕ → List ℕ
 usedWords n recs slots i = take (width (recOf n recs i)) (eight slots i)
 
--- the unused ones
+-- those that are not
 unfoldable pub otherWords : ℕ → List ℕ → List ℕ → ℕ → List ℕ
 otherWords n recs slots i = drop (width (recOf n recs i)) (eight slots i)
 

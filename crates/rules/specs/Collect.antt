@@ -49,7 +49,7 @@ pub record Outcome : Type 0 where
   pub work : List ℕ
   pub map : List ℕ
 
--- an answer and what stands in the buffers, as an outcome
+-- an answer and the buffers after the call, as an outcome
 abbrev pub gives : Collected → List ℕ → List ℕ → List ℕ → List ℕ → Outcome
 gives a recs slots work map = record { answer = a; records = recs; slots = slots; work = work; map = map }
 

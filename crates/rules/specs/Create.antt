@@ -15,7 +15,7 @@ pub record Outcome : Type 0 where
   pub slots : List ℕ
   pub roots : List ℕ
 
--- an answer and what stands in the buffers, as an outcome
+-- an answer and the buffers after the call, as an outcome
 abbrev pub gives : Done → List ℕ → List ℕ → List ℕ → Outcome
 gives a recs slots roots = record { answer = a; records = recs; slots = slots; roots = roots }
 

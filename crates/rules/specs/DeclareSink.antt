@@ -19,7 +19,7 @@ pub record Outcome : Type 0 where
   pub answer : Done
   pub records : List ℕ
 
--- an answer and what stands in the records, as an outcome
+-- an answer and the records after the call, as an outcome
 abbrev pub gives : Done → List ℕ → Outcome
 gives a recs = record { answer = a; records = recs }
 

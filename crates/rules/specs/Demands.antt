@@ -9,7 +9,7 @@ use lib.ListN.{length, getD, set, take, drop, replicate}
 use Rattle.layout.specs.Limits.{slotsLen, workLen, mapLen}
 use Rattle.records.specs.Record.{inUse, isWritten, isSink, isOut, width, cluster, loose}
 use Rattle.bitmap.specs.Bits.{holds, numbersIn}
-use Rattle.layout.specs.ControlRecord.{newControl, withLast, withWriteLoss, withAnalysis}
+use Rattle.layout.specs.ControlRecord.{newControl, withLast, withWriteLoss}
 use Rattle.layout.specs.Refusal.{Test}
 use Rattle.layout.specs.declared.answers.Control.{Control}
 use Rattle.layout.specs.declared.answers.WordRead.{WordRead}
@@ -64,15 +64,15 @@ pub record Decided {A : Type 0} (tests : List Test) (outcome : A) (refusal : A �
   pub numbers : (k : ℕ) → 1 ≤ k → (refusal outcome ≡ k) ↔ Refuses k tests
   pub unchanged : refusal outcome ≢ 0 → outcome ≡ refused (refusal outcome)
 
--- no word of the buffer after its first k changes
+-- a buffer before and after a call: no word after its first k changes
 abbrev pub Within : ℕ → List ℕ → List ℕ → Type 0
 Within k before after = (length after ≡ length before) × (drop k after ≡ drop k before)
 
--- its first k words are 0
+-- the first k words of a buffer are 0
 abbrev pub Cleared : ℕ → List ℕ → Type 0
 Cleared k l = take k l ≡ replicate k 0
 
--- its word at place j becomes w, and no other changes
+-- a buffer before and after a call: its word at place j becomes w, and no other changes
 abbrev pub Stored : ℕ → ℕ → List ℕ → List ℕ → Type 0
 Stored j w before after = (j < length before) × (after ≡ set before j w)
 
@@ -100,19 +100,19 @@ pub record Gives (c : Control) (width : ℕ) (recs slots : List ℕ) (i : ℕ) (
   pub others : (x : ℕ) → Obj (c .n) x → x ≢ i → (recOf (c .n) (o .records) x ≡ recOf (c .n) recs x) × (eight (o .slots) x ≡ eight slots x)
   pub control : o .answer .control ≡ withLast i c
 
--- call by call: refused, it answers zeros with the control record and gives back every buffer as it was; else no word past the heap's changes, and work is 0
+-- call by call, for all inputs: what a refused call gives, what an accepted one answers and stores, and which words never change
 pub record Demand1 : Type 0 where
   pub created : (n r : ℕ) (recs slots roots : List ℕ)
       → let o = Create.create n r recs slots roots in
       Decided (Create.createTests n r recs slots roots) o (λ o. o .answer .refusal)
-      (λ k. record { answer = record { refusal = k; control = newControl 0 0 }; records = recs; slots = slots; roots = roots })
+      (λ k. Create.gives (record { refusal = k; control = newControl 0 0 }) recs slots roots)
       × Within n recs (o .records) × Within (slotsLen n) slots (o .slots) × Within r roots (o .roots)
       × (o .answer .refusal ≡ 0
       → (o .answer .control ≡ newControl n r) × Cleared n (o .records) × Cleared (slotsLen n) (o .slots) × Cleared r (o .roots))
   pub allocated : (c : Control) (width : ℕ) (recs slots : List ℕ)
       → let o = Allocate.allocate c width recs slots in
       Decided (Allocate.allocateTests c width recs slots) o (λ o. o .answer .refusal)
-      (λ k. record { answer = record { refusal = k; object = 0; control = c }; records = recs; slots = slots })
+      (λ k. Allocate.gives (record { refusal = k; object = 0; control = c }) recs slots)
       × Within (c .n) recs (o .records) × Within (slotsLen (c .n)) slots (o .slots)
       × (o .answer .refusal ≡ 24 → (x : ℕ) → Obj (c .n) x → recOf (c .n) recs x ≢ 0)
       × (o .answer .refusal ≡ 0 → Gives c width recs slots (o .answer .object) o)
@@ -132,26 +132,25 @@ pub record Demand1 : Type 0 where
   pub written : (c : Control) (i k w : ℕ) (recs slots : List ℕ)
       → let o = Write.write c i k w recs slots in
       Decided (Write.writeTests c i k w recs slots) o (λ o. o .answer .refusal)
-      (λ m. record { answer = record { refusal = m; control = c }; records = recs; slots = slots })
+      (λ m. Write.gives (record { refusal = m; control = c }) recs slots)
       × Within (c .n) recs (o .records) × Within (slotsLen (c .n)) slots (o .slots)
       × (o .answer .control ≡ withWriteLoss (o .answer .control .«write_loss») c)
       × (o .answer .refusal ≡ 0 → Stored (8 * (i - 1) + k) w slots (o .slots) × Touches (c .n) i (recOf (c .n) recs) (recOf (c .n) (o .records)))
       × (Write.writeInPlace c i k w recs slots ≡ Write.givesInPlace (o .answer .refusal) (o .answer .control) (o .records) (o .slots))
   pub rootSet : (c : Control) (j w : ℕ) (recs roots : List ℕ)
       → let o = SetRoot.setRoot c j w recs roots in
-      Decided (SetRoot.setRootTests c j w recs roots) o (λ o. o .answer .refusal) (λ k. record { answer = record { refusal = k; control = c }; roots = roots })
+      Decided (SetRoot.setRootTests c j w recs roots) o (λ o. o .answer .refusal) (λ k. SetRoot.gives (record { refusal = k; control = c }) roots)
       × Within (c .r) roots (o .roots) × (o .answer .control ≡ c) × (o .answer .refusal ≡ 0 → Stored j w roots (o .roots))
   pub declared : (c : Control) (i : ℕ) (recs slots roots : List ℕ)
       → let o = DeclareSink.declareSink c i recs slots roots in
       Decided (DeclareSink.declareTests c i recs slots roots) o (λ o. o .answer .refusal)
-      (λ k. record { answer = record { refusal = k; control = c }; records = recs })
+      (λ k. DeclareSink.gives (record { refusal = k; control = c }) recs)
       × Within (c .n) recs (o .records) × (o .answer .control ≡ c)
   pub analysed : (c : Control) (recs slots roots work : List ℕ)
       → let o = Analyse.analyse c recs slots roots work in
       Decided (Analyse.analyseTests c recs slots roots work) o (λ o. o .answer .refusal)
-      (λ k. record { answer = record { refusal = k; clusters = 0; members = 0; control = c }; records = recs; work = work })
+      (λ k. Analyse.gives (record { refusal = k; clusters = 0; members = 0; control = c }) recs work)
       × Within (c .n) recs (o .records) × Within (workLen (c .n)) work (o .work) × (o .answer .refusal ≡ 0 → Cleared (workLen (c .n)) (o .work))
-      × (o .answer .refusal ≡ 0 → o .answer .control ≡ withAnalysis (o .answer .control .limit) (o .answer .control .«out_loss») c)
   -- of either kind
   pub collected : (kind : Kind) (c : Control) (recs slots roots work map : List ℕ)
       → let o = Collect.collect kind c recs slots roots work map in
@@ -165,7 +164,7 @@ pub record Demand1 : Type 0 where
       let from = starts H (take r roots) in
       Ended H (traced H from) × Ended H (traced (unclustered H) from) × ((limit : ℕ) → 1 ≤ limit → finish H limit (begin H from) .todo ≡ [])
 
--- ==== demand 2: every heap that the calls made; of collections and declarations every one that is accepted
+-- ==== demand 2: what the calls do to objects and clusters, in every heap that they made and, where it is said, in any heap
 
 -- a state that an accepted create made and calls led to, accepted or refused, with any arguments and any buffers
 pub data Made : State → Type 0 where
@@ -177,7 +176,7 @@ pub data Made : State → Type 0 where
 abbrev pub rec : State → ℕ → ℕ
 rec s x = recOf (s .control .n) (s .records) x
 
--- and after a call
+-- the same after a call
 abbrev pub recAfter : Call → State → ℕ → ℕ
 recAfter call s x = rec (step call s .after) x
 
@@ -189,10 +188,11 @@ heapOf s = view (s .control .n) (s .records) (s .slots)
 abbrev pub wordsOf : State → ℕ → List ℕ
 wordsOf s x = usedWords (s .control .n) (s .records) (s .slots) x
 
--- the roots, and where walks start: the roots and the sinks
+-- the roots
 abbrev pub rootsOf : State → List ℕ
 rootsOf s = take (s .control .r) (s .roots)
 
+-- where walks start: the roots, then the sinks
 abbrev pub startsOf : State → List ℕ
 startsOf s = starts (heapOf s) (rootsOf s)
 
@@ -232,9 +232,7 @@ pub record Sweeps (s t : State) (kind : Kind) (o : Collect.Outcome) : Type 0 whe
       × (isWritten (rec t x) ≡ isWritten (rec s x)) × (isSink (rec t x) ≡ isSink (rec s x))
   pub stays : (x : ℕ) → rec t x ≢ 0 → rec t (cluster (rec s x)) ≢ 0 → cluster (rec t x) ≡ cluster (rec s x)
   pub goes : (x : ℕ) → rec t (cluster (rec s x)) ≡ 0 → cluster (rec t x) ≡ 0
-  -- the heap left is well formed, and the control record answered is the one handed in
   pub formed : wellFormed (t .control .n) (t .control .r) (t .records) (t .slots) (t .roots) ≡ true
-  pub control : o .answer .control ≡ s .control
 
 -- and what it does in a heap that the calls made: either kind frees all that no path leads to, and no member of a cluster whose head it keeps
 pub record Collects (s : State) (kind : Kind) (work map : List ℕ) : Type 0 where

@@ -165,11 +165,11 @@ plainStep (collect kind work map) P =
     (record { last = P .last; roots = P .roots; cells = plainSwept P l })
 plainStep (analyse work) P = record { answers = []; after = P }
 
--- the slots that the cells stand for: the words of each, filled up with 0 to eight
+-- the eight slots of a cell: its words, filled up with 0
 unfoldable pub eightOf : Cell → List ℕ
 eightOf cell = wordsIn cell ++ replicate (8 - length (wordsIn cell)) 0
 
--- all of them, one cell after the other
+-- those of all cells, one after the other
 unfoldable pub plainSlots : List Cell → List ℕ
 plainSlots [] = []
 plainSlots (cell ∷ l) = eightOf cell ++ plainSlots l

@@ -1,4 +1,4 @@
--- Read ("The heap"): a word of an object, as it stands.
+-- Read ("The heap"): a word of an object, whatever it is.
 use Prim.Native.Nat.{ℕ}
 use mathlib.Core.Bool.{not, _||_}
 use mathlib.Core.List.{List, [], _∷_}

@@ -17,7 +17,7 @@ pub record Outcome : Type 0 where
   pub answer : Done
   pub roots : List ℕ
 
--- an answer and what stands in the roots, as an outcome
+-- an answer and the roots after the call, as an outcome
 abbrev pub gives : Done → List ℕ → Outcome
 gives a roots = record { answer = a; roots = roots }
 

@@ -1,4 +1,4 @@
--- Show ("The heap"): the used slots of an object, where they stand in the caller's buffer.
+-- Show ("The heap"): the used slots of an object, and where they are in the caller's buffer.
 use Prim.Native.Nat.{ℕ, _*_, _-_}
 use mathlib.Core.Bool.{not, _||_}
 use mathlib.Core.List.{List, [], _∷_}
@@ -11,7 +11,7 @@ use Rattle.layout.specs.ControlRecord.{badControl}
 use Rattle.layout.specs.Refusal.{Test, outcome}
 use Rattle.rules.specs.Buffers.{short, recOf, usedWords}
 
--- the part's place in the slots, and the words that stand there
+-- the part's place in the slots, and its words
 pub record Outcome : Type 0 where
   pub answer : Part
   pub words : List ℕ

@@ -64,7 +64,7 @@ told t =
     let s = afterAll step (t .before) (t .from) in
     answered (t .call) s ∷ standing (step (t .call) s .after) ∷ []
 
--- what should
+-- what should come of it
 unfoldable pub expected : Trial → List (List ℕ)
 expected t = t .answers ∷ t .stands ∷ []
 
@@ -82,17 +82,17 @@ analysis n = analyse (replicate (10 * n + 64) 1)
 unfoldable pub clustered : ℕ → Call
 clustered n = collect byClusters (replicate (10 * n + 64) 1) (1 ∷ [])
 
--- a plain one
+-- a plain collection
 unfoldable pub plain : ℕ → Call
 plain n = collect plainly (replicate (10 * n + 64) 1) (1 ∷ [])
 
--- heap H, before and after its two analyses
+-- heap H before its two analyses
 unfoldable pub beforeH : List Call
 beforeH =
     allocate 3 ∷ allocate 1 ∷ allocate 1 ∷ allocate 1 ∷ allocate 1 ∷ allocate 1
     ∷ write 1 0 2 ∷ write 1 1 3 ∷ write 2 0 4 ∷ write 3 0 5 ∷ write 4 0 6 ∷ setRoot 0 1 ∷ []
 
--- with both
+-- heap H after both
 unfoldable pub heapH : List Call
 heapH = beforeH ++ (analysis 16 ∷ analysis 16 ∷ [])
 
@@ -168,11 +168,11 @@ given n limit loss recs slots root =
       roots = root ∷ [];
     }
 
--- the eight slots of an object that points at these
+-- the eight slots of an object with one pointer
 unfoldable pub one : ℕ → List ℕ
 one a = a ∷ replicate 7 0
 
--- two pointers
+-- with two pointers
 unfoldable pub two : ℕ → ℕ → List ℕ
 two a b = a ∷ b ∷ replicate 6 0
 
@@ -262,7 +262,7 @@ ownRows =
 
 -- ---- two refusals that both hold: the first in the order is given
 
--- two objects of width 1: 1 points at 2, 2 is free; and with no slice long enough, and with a control record out of range besides
+-- two objects with these records, where 1 points at 2
 unfoldable pub small : ℕ → ℕ → State
 small a b = given 2 0 0 (a ∷ b ∷ []) (one 2 ++ one 0) 1
 
@@ -270,7 +270,7 @@ small a b = given 2 0 0 (a ∷ b ∷ []) (one 2 ++ one 0) 1
 unfoldable pub noBuffers : State
 noBuffers = given 2 0 0 [] [] 0
 
--- neither
+-- a control record out of range, and no buffers
 unfoldable pub badControls : State
 badControls = given 4096 0 0 [] [] 0
 

@@ -33,7 +33,7 @@ module _ (n : ℕ) (recs slots : List ℕ) where
       let c = cluster (recOf n recs x) in
       eqb c 0 || eqb (cluster (recOf n recs c)) c
 
-  -- out stands exactly where it should
+  -- the out bit is exact
   unfoldable pub outAt : ℕ → Bool
   outAt x = Bool·beq (view n recs slots .out x) (exactOut (view n recs slots) x)
 

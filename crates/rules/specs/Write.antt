@@ -22,7 +22,7 @@ pub record Outcome : Type 0 where
   pub records : List ℕ
   pub slots : List ℕ
 
--- an answer and what stands in the buffers, as an outcome
+-- an answer and the buffers after the call, as an outcome
 abbrev pub gives : Done → List ℕ → List ℕ → Outcome
 gives a recs slots = record { answer = a; records = recs; slots = slots }
 
@@ -33,7 +33,7 @@ pub record OutcomeInPlace : Type 0 where
   pub records : List ℕ
   pub slots : List ℕ
 
--- an answer and what stands in the record and the buffers, as an outcome
+-- an answer, the control record and the buffers after the call, as an outcome
 abbrev pub givesInPlace : ℕ → Control → List ℕ → List ℕ → OutcomeInPlace
 givesInPlace k c recs slots = record { refusal = k; control = c; records = recs; slots = slots }
 

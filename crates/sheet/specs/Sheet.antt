@@ -1,4 +1,4 @@
--- A sheet is a list of bytes. Bytes are put on it from a place on; those that would stand behind its end are left out.
+-- A sheet is a list of bytes. Bytes are put on it from a place on; those that would be past its end are left out.
 use Prim.Native.Nat.{ℕ, zero, suc, _+_, min, max}
 use mathlib.Core.List.{List, [], _∷_}
 use lib.ListN.{getD, set}

@@ -34,6 +34,6 @@ numeralOf base (b ∷ s) = digits base 0 (b ∷ s)
 unfoldable pub isHex : List ℕ → Bool
 isHex w = eqb (getD w 0 0) 48 && (eqb (getD w 1 0) 120 || eqb (getD w 1 0) 88)
 
--- the number that a word stands for
+-- the number that a word says
 unfoldable pub valueOf : List ℕ → Number
 valueOf w = cond (sameBytes w (bytes "nil")) (Value 0) (cond (isHex w) (numeralOf 16 (drop 2 w)) (numeralOf 10 w))
