@@ -57,12 +57,17 @@ unfoldable pub told : Call → State → List (List ℕ)
 told (allocate width) s =
     let o = RAllocate.allocate (s .control) width (s .records) (s .slots) in
     (o .answer .refusal ∷ o .answer .object ∷ []) ∷ ctl (o .answer .control) ∷ o .records ∷ o .slots ∷ s .roots ∷ []
+told (allocateInPlace width) s =
+    let o = RAllocate.allocateInPlace (s .control) width (s .records) (s .slots) in
+    (o .answer .refusal ∷ o .answer .object ∷ []) ∷ ctl (o .control) ∷ o .records ∷ o .slots ∷ s .roots ∷ []
 told (read i k) s =
     let o = RRead.read (s .control) i k (s .records) (s .slots) in (o .refusal ∷ o .word ∷ []) ∷ ctl (o .control) ∷ s .records ∷ s .slots ∷ s .roots ∷ []
 told (show i) s =
     let o = RShow.show (s .control) i (s .records) (s .slots) in (o .answer .refusal ∷ []) ∷ o .words ∷ ctl (o .answer .control) ∷ s .records ∷ s .slots ∷ s .roots ∷ []
 told (write i k w) s =
     let o = RWrite.write (s .control) i k w (s .records) (s .slots) in (o .answer .refusal ∷ []) ∷ ctl (o .answer .control) ∷ o .records ∷ o .slots ∷ s .roots ∷ []
+told (writeInPlace i k w) s =
+    let o = RWrite.writeInPlace (s .control) i k w (s .records) (s .slots) in (o .refusal ∷ []) ∷ ctl (o .control) ∷ o .records ∷ o .slots ∷ s .roots ∷ []
 told (setRoot j w) s =
     let o = RSetRoot.setRoot (s .control) j w (s .records) (s .roots) in (o .answer .refusal ∷ []) ∷ ctl (o .answer .control) ∷ s .records ∷ s .slots ∷ o .roots ∷ []
 told (declareSink i) s =
@@ -82,7 +87,7 @@ use mathlib.Core.Path.{_≡_, refl}
 use mathlib.Core.List.{List, [], _∷_, _++_, map}
 use lib.ListN.{getD, replicate}
 use Rattle.layout.specs.declared.answers.Control.{Control}
-use Rattle.rules.specs.Calls.{Call, allocate, read, show, write, setRoot, declareSink, collect, analyse}
+use Rattle.rules.specs.Calls.{Call, allocate, allocateInPlace, read, show, write, writeInPlace, setRoot, declareSink, collect, analyse}
 ''' + '\n'.join(uses) + '\n' + definitions
 
 
@@ -112,11 +117,11 @@ def call(op, s, a):
     rb, sb, qb = buf(s[1]), buf(s[2]), buf(s[3])
     ra, sa, qa = arg(rb, len(s[1])), arg(sb, len(s[2])), arg(qb, len(s[3]))
     extra = []
-    if op == 'allocate': o = lib.ref_allocate(c, U(a[0]), *ra, *sa); head = [o.k, o.v]
+    if op in ('allocate', 'allocateInPlace'): o = lib.ref_allocate(c, U(a[0]), *ra, *sa); head = [o.k, o.v]
     elif op == 'read': o = lib.ref_read(c, U(a[0]), U(a[1]), *ra, *sa); head = [o.k, o.v]
     elif op == 'show':
         o = lib.ref_show(c, U(a[0]), *ra, *sa); head = [o.k]; extra = [s[2][o.start:o.start + o.length]]
-    elif op == 'write': o = lib.ref_write(c, U(a[0]), U(a[1]), U(a[2]), *ra, *sa); head = [o.k]
+    elif op in ('write', 'writeInPlace'): o = lib.ref_write(c, U(a[0]), U(a[1]), U(a[2]), *ra, *sa); head = [o.k]
     elif op == 'setRoot': o = lib.ref_set_root(c, U(a[0]), U(a[1]), *ra, *qa); head = [o.k]
     elif op == 'declareSink': o = lib.ref_declare_sink(c, U(a[0]), *ra, *sa, *qa); head = [o.k]
     elif op == 'analyse':
@@ -145,13 +150,15 @@ def work(n, ok=True):
     return [5] * k
 def word(n):
     return R.choice([0, 0x80000000, 0x80000005, n + 1, 4096, 0x7FFFFFFF] + [R.randint(1, n) for _ in range(14)])
+def either(op):
+    return R.choice([op, op + 'InPlace'])
 def random_call(n, r, s):
     op = R.choice(['allocate'] * 3 + ['read', 'show'] + ['write'] * 10 + ['setRoot'] * 2 + ['declareSink'] + ['analyse'] * 4 + ['collect'] * 2)
     o = R.choice([0, n + 1] + list(range(1, n + 1)) * 3)
-    if op == 'allocate': return op, [R.choice([0, 1, 2, 2, 3, 3, 8, 9])]
+    if op == 'allocate': return either(op), [R.choice([0, 1, 2, 2, 3, 3, 8, 9])]
     if op == 'read': return op, [o, R.randint(0, 3)]
     if op == 'show': return op, [o]
-    if op == 'write': return op, [o, R.choice([0, 0, 0, 1, 1, 2, 8]), word(n)]
+    if op == 'write': return either(op), [o, R.choice([0, 0, 0, 1, 1, 2, 8]), word(n)]
     if op == 'setRoot': return op, [R.randint(0, r), R.choice([word(n), R.randint(0, n)])]
     if op == 'declareSink': return op, [o]
     if op == 'analyse': return op, [work(n, R.random() < .95)]
