@@ -2,8 +2,8 @@
 use mathlib.Core.Path.{refl}
 use lib.Count.{trailing-le}
 use borrow.Author.Needs.{needs}
-use Rattle.collect.proofs.later.zeros.Statement.{statement}
-use Rattle.collect.proofs.later.zeros.Tie as tie
+use Rattle.postponed.proofs.zeros.Statement.{statement}
+use Rattle.postponed.proofs.zeros.Tie as tie
 
 cast-result : tie.Need-cast-result
 cast-result c = search (needs, trailing-le 32 (c .args .w))
