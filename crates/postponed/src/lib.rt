@@ -47,10 +47,11 @@ pub fn put(n: u32, work: &mut [u32], x: u32, on: bool)
     put_bit(work, 9 * m + (m / 32 + 1) + j / 32, j, some);
 }
 
-fn zeros(w: u32) -> usize
+// The place of the lowest set bit, 32 for a word that is 0.
+fn zeros(w: u32) -> u32
     ensures { λ k. ⌜ (k ≡ trailingZeros 32 w) × (k ≤ 32) ⌝ }
 {
-    u32::trailing_zeros(w) as usize
+    u32::trailing_zeros(w)
 }
 
 // The lowest number of the set, 0 for none.
@@ -63,8 +64,8 @@ pub fn lowest(n: u32, work: &[u32]) -> u32
     while k < SUMMARY_MAX {
         let w = word_at(work, base + k);
         if w != 0 {
-            let j = 32 * k + zeros(w);
-            return (32 * j + zeros(word_at(work, 9 * m + j))) as u32;
+            let j = 32 * k + zeros(w) as usize;
+            return 32 * j as u32 + zeros(word_at(work, 9 * m + j));
         }
         k += 1;
     }

@@ -40,8 +40,14 @@ mul-j c = omega arith
 zeros-requires : tie.Need-zeros-requires Inv-loop μ-loop
 zeros-requires c κs = search needs
 
+cast-j : tie.Need-cast-j Inv-loop μ-loop
+cast-j c = omega arith
+
 add-j : tie.Need-add-j Inv-loop μ-loop
 add-j c = omega arith
+
+cast-result : tie.Need-cast-result Inv-loop μ-loop
+cast-result c = omega arith
 
 mul-result : tie.Need-mul-result Inv-loop μ-loop
 mul-result c = omega arith
@@ -60,9 +66,6 @@ zeros-requires-2 c κs = search needs
 
 add-result : tie.Need-add-result Inv-loop μ-loop
 add-result c = omega arith
-
-cast-result : tie.Need-cast-result Inv-loop μ-loop
-cast-result c = omega arith
 
 returns : tie.Need-returns Inv-loop μ-loop
 returns c =
@@ -104,14 +107,15 @@ lowest-spec =
     word-at-requires
     mul-j
     zeros-requires
+    cast-j
     add-j
+    cast-result
     mul-result
     mul-word-at
     add-word-at-2
     word-at-requires-2
     zeros-requires-2
     add-result
-    cast-result
     returns
     add-k
     loop-less
