@@ -18,13 +18,17 @@ fn with_bit(w: u32, i: usize, on: bool) -> u32
     if on { w | bit } else { w & !bit }
 }
 
-// A bit of the word at a place; past the end nothing changes.
-fn put_bit(work: &mut [u32], at: usize, i: usize, on: bool)
+// A bit of the word at a place, which is answered; past the end nothing changes, and the word is 0.
+fn put_bit(work: &mut [u32], at: usize, i: usize, on: bool) -> u32
+    ensures { λ w. ⌜ w ≡ getD (now (work .exit)) at 0 ⌝ }
     ensures { λ _. ⌜ now (work .exit) ≡ set (now (work .entry)) at (putFlag (i % 32) on (getD (now (work .entry)) at 0)) ⌝ }
 {
     if at < work.len() {
-        work[at] = with_bit(work[at], i, on);
+        let w = with_bit(work[at], i, on);
+        work[at] = w;
+        return w;
     }
+    0
 }
 
 // The word at a place, 0 past the end.
@@ -41,10 +45,8 @@ pub fn put(n: u32, work: &mut [u32], x: u32, on: bool)
     let m = n as usize;
     let i = x as usize;
     let j = i / 32;
-    let at = 9 * m + j;
-    put_bit(work, at, i, on);
-    let some = word_at(work, at) != 0;
-    put_bit(work, 9 * m + (m / 32 + 1) + j / 32, j, some);
+    let w = put_bit(work, 9 * m + j, i, on);
+    put_bit(work, 9 * m + (m / 32 + 1) + j / 32, j, w != 0);
 }
 
 // The place of the lowest set bit, 32 for a word that is 0.

@@ -1,8 +1,8 @@
 -- `put_bit` meets its contract.
 use denote.Ref.{now}
 use mathlib.Core.Path.{sym, ap}
-use lib.ListN.{set}
-use lib.Seq.{set-out}
+use lib.ListN.{set, List·getD-eq-default}
+use lib.Seq.{getD-set-same, set-out}
 use borrow.Author.Needs.{needs}
 use Rattle.postponed.proofs.put_bit.Statement.{statement}
 use Rattle.postponed.proofs.put_bit.Tie as tie
@@ -28,10 +28,12 @@ same-length c = search needs
 returns : tie.Need-returns
 returns c =
     let a = c .before .before .before .before .args in
-    ap (set (now (a .work)) (a .at)) (c .with-bit .ensures)
+    (sym (getD-set-same (now (a .work)) (a .at) _ 0 (c .before .before .if1 .taken)), ap (set (now (a .work)) (a .at)) (c .with-bit .ensures))
 
 returns-2 : tie.Need-returns-2
-returns-2 c = let a = c .before .before .args in sym (set-out (now (a .work)) (a .at) _ (c .if1 .left))
+returns-2 c =
+    let a = c .before .before .args in
+    (sym (List·getD-eq-default (now (a .work)) 0 (c .if1 .left)), sym (set-out (now (a .work)) (a .at) _ (c .if1 .left)))
 
 pub put-bit-spec : {M : Type 1} → statement M
 put-bit-spec =
