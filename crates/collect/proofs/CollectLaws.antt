@@ -3,7 +3,7 @@
 use Prim.Native.Nat.{ℕ, zero, suc, _+_, _-_, _≤_}
 use mathlib.Core.Path.{_≡_, refl, sym, ap, _∙_}
 use mathlib.Core.Logic.{_≢_, _⊎_, inl, inr, _↔_}
-use mathlib.Core.Bool.{Bool, true, false, not, cond, _&&_, _||_}
+use mathlib.Core.Bool.{Bool, true, false, not, cond, _&&_, _||_, true≢false}
 use mathlib.Core.List.{List, [], _∷_, _++_}
 use native.Mathlib.Omega.{arith}
 use lib.Dec.{eqb}
@@ -114,8 +114,8 @@ module _ (n r : ℕ) (recs slots roots work : List ℕ) (a : Traceable n r recs 
   pub kept-marks : (by : Bool) → TracedIn by n r recs slots roots recs′ → (recs″ : List ℕ) → recs″ ≡ cond by (membersMarked n recs′) recs′
       → (k : ℕ) → k ≡ markedCount n recs′ → Kept by n r recs slots roots recs″ k
   unfolding Collect.trace markedCount markedAt flagsOf
-  kept-marks true t recs″ e k q = record { told = rw e (told-clusters t); scanned = q ∙ t .counted }
-  kept-marks false t recs″ e k q = record { told = rw e (told-plain t); scanned = q ∙ t .counted }
+  kept-marks true t recs″ e k q = record { told = rw e (told-clusters t); scanned = q ∙ t .counted; marked = λ z. absurd (true≢false z) }
+  kept-marks false t recs″ e k q = record { told = rw e (told-plain t); scanned = q ∙ t .counted; marked = λ z. rw e q }
 
 -- ---- the work words
 
@@ -149,7 +149,7 @@ module _ (by : Bool) (c : Control) (recs slots roots work map : List ℕ) where
   ruled = Collect.sweep (kindOf by) c recs slots roots work map (walked by n (c .r) recs slots roots)
 
   pub collected : Accepted c recs slots roots work map → (recs₁ : List ℕ) (scanned : ℕ) → Kept by n (c .r) recs slots roots recs₁ scanned
-      → length recs₁ ≡ length recs → (kept : ℕ) → kept ≡ markedCount n recs₁ → (recs₂ slots₂ map₂ : List ℕ) (freed : ℕ)
+      → length recs₁ ≡ length recs → (kept : ℕ) → kept ≡ cond by (markedCount n recs₁) scanned → (recs₂ slots₂ map₂ : List ℕ) (freed : ℕ)
       → Swept n recs₁ slots map recs₂ slots₂ map₂ freed → (k : ℕ) → k ≡ workLen n → (ys work₂ : List ℕ) → length ys ≡ length (midOf 0 (k - 0) work)
       → work₂ ≡ zeros k (putMid 0 (k - 0) work ys)
       → gives (record { refusal = 0; freed = freed; kept = kept; scanned = scanned; control = c }) recs₂ slots₂ work₂ map₂ ≡ ruled
@@ -157,9 +157,13 @@ module _ (by : Bool) (c : Control) (recs slots roots work map : List ℕ) where
   collected a recs₁ scanned t len kept ke recs₂ slots₂ map₂ freed sw k ki ys work₂ yl we =
       let long : n ≤ length recs₁ = omega (arith, a .recs-long) in
       let f = sweep-ruled (kindOf by) c recs recs₁ slots roots work map (walked by n (c .r) recs slots roots) long (t .told) (a .most) (a .slots-long) (a .map-long) recs₂ slots₂ map₂ freed sw in
-      let q = ke ∙ kept-ruled (kindOf by) c recs recs₁ slots roots work map (walked by n (c .r) recs slots roots) long (t .told) in
+      let q = ke ∙ either by (t .marked) ∙ kept-ruled (kindOf by) c recs recs₁ slots roots work map (walked by n (c .r) recs slots roots) long (t .told) in
       let w : work₂ ≡ zeros (workLen n) work = we ∙ work-zeroed k work ys (omega (arith, a .work-long)) yl ∙ ap (λ (j : ℕ). zeros j work) ki in
       rw (f .0, f .1, f .2, f .3, q, w, t .scanned) refl
+    where
+      either : (b : Bool) → (b ≡ false → scanned ≡ markedCount n recs₁) → cond b (markedCount n recs₁) scanned ≡ markedCount n recs₁
+      either true g = refl
+      either false g = g refl
 
   pub collect-accepted : 0 ≡ first (collectTests plainly c recs slots roots work map) → (o : Outcome) → o ≡ ruled → o ≡ Collect.collect (kindOf by) c recs slots roots work map
   unfolding Collect.collect collectTests

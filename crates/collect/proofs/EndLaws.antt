@@ -1,6 +1,6 @@
 -- The walk from its starts to its end: what the loops keep.
 -- Assumes nothing.
-use Prim.Native.Nat.{ℕ, suc, _+_, _-_, _*_, _<_, _≤_}
+use Prim.Native.Nat.{ℕ, suc, _+_, _-_, _*_, _^_, _<_, _≤_}
 use mathlib.Core.Path.{_≡_, refl, sym, ap, _∙_, subst}
 use mathlib.Core.Logic.{_≢_, _⊎_, inl, inr}
 use mathlib.Core.Bool.{Bool, true, false, cond, true≢false}
@@ -19,8 +19,9 @@ use Rattle.graph.proofs.TraceEnds.{Ended, Falls, visit-falls, step-falls, finis
 use Rattle.rules.specs.Buffers.{usedWords}
 use Rattle.rules.specs.View.{view}
 use Rattle.sweep.specs.Sweep.{bare}
+use Rattle.postponed.specs.Postponed as P
+use Rattle.postponed.proofs.PostponedLaws.{lowest-is}
 use Rattle.collect.specs.Marks.{flagsOf}
-use Rattle.collect.specs.Later.{LowestIn}
 use Rattle.collect.specs.State.{seen, heapFor, walkAt, ends, steps, pending, Objects, State, Ready, Moved, Followed, Drained, Retaken, Finished, lowestLater}
 use Rattle.collect.proofs.MarkLaws.{view-same, flag-object}
 use Rattle.collect.proofs.PendingLaws.{targets-le}
@@ -279,8 +280,8 @@ module _ (by : Bool) (n : ℕ) (slots recs work : List ℕ) (r : Ready by n recs
   calm : Safe (seen by n recs slots) here
   calm = record { todo-in = λ x m. absurd (List·Memᴰ·not-nil m) }
 
-  pub lowest-is : (x : ℕ) → LowestIn n work x → x ≡ lowestLater n recs
-  lowest-is x l = l .is (flagsOf n recs postponed) (r .state .mapped) (flag-object n recs postponed)
+  pub lowest-there : (x : ℕ) → ((i : ℕ) → getD work i 0 < 2 ^ 32) → x ≡ P.lowest n work → x ≡ lowestLater n recs
+  lowest-there x fit e = e ∙ lowest-is n work (r .state .sized .most) fit (flagsOf n recs postponed) (r .state .mapped) (flag-object n recs postponed)
 
   module _ (o : ℕ) (is : o ≡ lowestLater n recs) (some : 1 ≤ o) where
     found : Obj n o × (flagsOf n recs postponed o ≡ true)
@@ -348,19 +349,19 @@ pub record Retaking (by : Bool) (n : ℕ) (slots recs₀ work₀ recs work : Lis
   pub work-length : length work ≡ length work₀
 
 module _ (by : Bool) (n : ℕ) (slots recs₀ work₀ : List ℕ) where
-  pub retaking-here : (o : ℕ) → Ready by n recs₀ slots work₀ (8 * n) → LowestIn n work₀ o → Retaking by n slots recs₀ work₀ recs₀ work₀ o
-  retaking-here o r l =
-      record { same = refl; ready = r; kept = refl; lowest-now = lowest-is by n slots recs₀ work₀ r o l; recs-length = refl; work-length = refl }
+  pub retaking-here : (o : ℕ) → Ready by n recs₀ slots work₀ (8 * n) → ((i : ℕ) → getD work₀ i 0 < 2 ^ 32) → o ≡ P.lowest n work₀ → Retaking by n slots recs₀ work₀ recs₀ work₀ o
+  retaking-here o r f l =
+      record { same = refl; ready = r; kept = refl; lowest-now = lowest-there by n slots recs₀ work₀ r o f l; recs-length = refl; work-length = refl }
 
   pub retaking-on : (recs work : List ℕ) (o : ℕ) → Retaking by n slots recs₀ work₀ recs work o → (recs′ work′ : List ℕ) (o′ : ℕ)
-      → Retaken by n slots recs recs′ work′ → LowestIn n work′ o′ → length recs′ ≡ length recs → length work′ ≡ length work
+      → Retaken by n slots recs recs′ work′ → ((i : ℕ) → getD work′ i 0 < 2 ^ 32) → o′ ≡ P.lowest n work′ → length recs′ ≡ length recs → length work′ ≡ length work
       → Retaking by n slots recs₀ work₀ recs′ work′ o′
-  retaking-on recs work o g recs′ work′ o′ t l a b =
+  retaking-on recs work o g recs′ work′ o′ t f l a b =
       record {
         same = t .same ∙ g .same;
         ready = t .ready;
         kept = t .kept ∙ g .kept;
-        lowest-now = lowest-is by n slots recs′ work′ (t .ready) o′ l;
+        lowest-now = lowest-there by n slots recs′ work′ (t .ready) o′ f l;
         recs-length = a ∙ g .recs-length;
         work-length = b ∙ g .work-length;
       }

@@ -1,6 +1,5 @@
--- ---- the flags in the records, and the set of postponed objects
+-- ---- the flags in the records
 pub mod MarkLaws
-pub mod LaterLaws
 -- ---- the moves of the walk
 pub mod PendingLaws
 pub mod MoveLaws

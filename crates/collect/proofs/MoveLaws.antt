@@ -17,11 +17,12 @@ use Rattle.graph.proofs.FlagLaws.{rest, rest-set, rest-other, count-set, count-
 use Rattle.rules.specs.Buffers.{recOf}
 use Rattle.rules.specs.View.{view}
 use Rattle.rules.proofs.BufferLaws.{used-part}
+use Rattle.postponed.proofs.PostponedLaws.{put-mapped, put-kept, mapped-kept}
+use Rattle.postponed.specs.Postponed as P
+use Rattle.postponed.specs.Postponed.{Mapped}
 use Rattle.collect.specs.Marks.{flagsOf, putMark}
-use Rattle.collect.specs.Later.{MapPut}
 use Rattle.collect.specs.State.{walkAt, pending, named, Objects, linkAt, Sized, Pushable, Pushed, State, Moved}
 use Rattle.collect.proofs.MarkLaws.{length-mark, flags-put, bare-put, width-same, view-same}
-use Rattle.collect.proofs.LaterLaws.{mapped-kept}
 use Rattle.collect.proofs.PendingLaws.{named-in, pending-kept, word-under, pending-pushed, beyond-pushed}
 
 -- the links lie beyond the pending objects
@@ -133,9 +134,12 @@ module _ (n : ℕ) (recs slots work : List ℕ) (top : ℕ) (s : State n recs sl
         links = λ x b. refl;
       }
 
-  module _ (b : Bool) (work′ : List ℕ) (p : MapPut n o b work work′) (same-long : length work′ ≡ length work) where
+  module _ (b : Bool) (work′ : List ℕ) (p : work′ ≡ P.put n o b work) (same-long : length work′ ≡ length work) where
+    under : take (9 * n) work′ ≡ take (9 * n) work
+    under = ap (take (9 * n)) p ∙ put-kept n work o (s .sized .most) (s .sized .work-long) io b
+
     pending-same : pending n work′ top ≡ pending n work top
-    pending-same = pending-kept n work work′ top (p .kept) (s .high) (omega (arith, s .sized .work-long)) same-long
+    pending-same = pending-kept n work work′ top under (s .high) (omega (arith, s .sized .work-long)) same-long
 
     postponed-at : (i : ℕ) → flagsOf n (putMark postponed o b recs) postponed i ≡ setFlag flags postponed o b postponed i
     postponed-at i = ap (λ (t : Flags). t postponed i) (flags-put n recs postponed o b long io)
@@ -148,8 +152,9 @@ module _ (n : ℕ) (recs slots work : List ℕ) (top : ℕ) (s : State n recs sl
           room = room-put postponed b top (room-other postponed b postponed≢marked);
           inside = λ q m. s .inside q (subst (λ (l : List ℕ). List·Memᴰ q l) pending-same m);
           mapped =
-              p .mapped (flags postponed) (flagsOf n (putMark postponed o b recs) postponed) (s .mapped)
-              (postponed-at o ∙ setFlag-same flags postponed o b) (λ i d. postponed-at i ∙ setFlag-other flags postponed o b postponed i d);
+              subst (λ (w : List ℕ). Mapped n (flagsOf n (putMark postponed o b recs) postponed) w) (sym p)
+              (put-mapped n work o (s .sized .most) (s .sized .work-long) io b (flags postponed) (flagsOf n (putMark postponed o b recs) postponed) (s .mapped)
+              (postponed-at o ∙ setFlag-same flags postponed o b) (λ i d. postponed-at i ∙ setFlag-other flags postponed o b postponed i d));
         }
 
     later-walk : (more : List ℕ)
@@ -160,9 +165,9 @@ module _ (n : ℕ) (recs slots work : List ℕ) (top : ℕ) (s : State n recs sl
         ∙ ap (λ (l : List ℕ). walkAt n (putMark postponed o b recs) (l ++ more)) (sym pending-same)
 
     link-under : (x : ℕ) → Obj n x → linkAt n work′ x ≡ linkAt n work x
-    link-under x c = word-under n work work′ (8 * n + (x - 1)) (p .kept) (omega arith)
+    link-under x c = word-under n work work′ (8 * n + (x - 1)) under (omega arith)
 
-  pub moved-postpone : (work′ : List ℕ) → MapPut n o true work work′ → length work′ ≡ length work
+  pub moved-postpone : (work′ : List ℕ) → work′ ≡ P.put n o true work → length work′ ≡ length work
       → Moved n slots recs work top (postpone (view n recs slots) o) (putMark postponed o true recs) work′ top
   unfolding postpone
   moved-postpone work′ p e =
@@ -173,7 +178,7 @@ module _ (n : ℕ) (recs slots work : List ℕ) (top : ℕ) (s : State n recs sl
         links = link-under true work′ p e;
       }
 
-  pub moved-unpostpone : (work′ : List ℕ) → MapPut n o false work work′ → length work′ ≡ length work
+  pub moved-unpostpone : (work′ : List ℕ) → work′ ≡ P.put n o false work → length work′ ≡ length work
       → Moved n slots recs work top (unpostpone (view n recs slots) o) (putMark postponed o false recs) work′ top
   unfolding unpostpone
   moved-unpostpone work′ p e =

@@ -23,10 +23,10 @@ use Rattle.rules.proofs.ListLaws.{length-each, get-each}
 use Rattle.links.specs.Links.{linkWord, links, linkable}
 use Rattle.links.proofs.LinkLaws.{linked}
 use Rattle.table.specs.Cleared.{cleared}
+use Rattle.postponed.proofs.PostponedLaws.{mapped-none}
 use Rattle.collect.specs.Marks.{flagsOf}
 use Rattle.collect.specs.State.{outsOf, seen, walkAt, ends, Objects, linkAt, Linkable, Linked, Ready, Followed, Finished, Traceable, TracedIn}
 use Rattle.collect.proofs.MarkLaws.{bare-flags, sink-same, view-same}
-use Rattle.collect.proofs.LaterLaws.{mapped-none}
 use Rattle.collect.proofs.PendingLaws.{named-short}
 use Rattle.collect.proofs.MoveLaws.{targets-are}
 use Rattle.collect.proofs.EndLaws.{objects-none, objects-append, pointers-append, roots-next, sinks-next, sink-object, followed-none, followed-as, followed-then, none-pending}

@@ -1,6 +1,6 @@
 -- The out members of a cluster through its links, and the visits by their cases.
 -- Assumes nothing.
-use Prim.Native.Nat.{ℕ, zero, suc, _+_, _-_, _*_, _/_, _%_, _<_, _≤_}
+use Prim.Native.Nat.{ℕ, zero, suc, _+_, _-_, _/_, _%_, _<_, _≤_}
 use mathlib.Core.Path.{_≡_, refl, sym, ap, ap₂, _∙_, subst, fun-ext}
 use mathlib.Core.Logic.{_≢_}
 use mathlib.Core.Bool.{Bool, true, false, not, cond, _||_, _&&_, true≢false, false≢true}
@@ -21,8 +21,8 @@ use Rattle.rules.specs.View.{view}
 use Rattle.links.specs.Links.{topMember, nextMember, linkWord}
 use Rattle.links.proofs.MemberOrder.{top-le, top-in, next-is}
 use Rattle.sweep.specs.Sweep.{bare}
+use Rattle.postponed.specs.Postponed as P
 use Rattle.collect.specs.Marks.{flagsOf, putMark}
-use Rattle.collect.specs.Later.{MapPut}
 use Rattle.collect.specs.State.{heapFor, seen, walkAt, pending, linkAt, outsOf, Linked, State, Ready, Moved}
 use Rattle.collect.proofs.MarkLaws.{flags-put, cluster-same, out-same, view-same}
 use Rattle.collect.proofs.MoveLaws.{moved-arrive, moved-postpone, moved-unpostpone, moved-none, moved-then, moved-as}
@@ -67,8 +67,8 @@ module _ (n : ℕ) (recs work : List ℕ) (most : n ≤ 4095) (l : Linked true n
 abbrev outs : Heap → ℕ → ℕ
 outs H = λ x. cond (not (H .out x)) 0 (H .cluster x)
 
-outs-member : (o : Bool) (c h : ℕ) → h ≢ 0 → cond (not o) 0 c ≡ h → c ≡ h
-outs-member true c h p e = e
+outs-member : (o : Bool) (c h : ℕ) → h ≢ 0 → cond (not o) 0 c ≡ h → (o ≡ true) × (c ≡ h)
+outs-member true c h p e = (refl, e)
 outs-member false c h p e = absurd (p (sym e))
 
 -- from k down, the scan of the out members begins at the highest of them
@@ -141,7 +141,7 @@ module _ (n : ℕ) (slots recs₀ work₀ : List ℕ) (top₀ h : ℕ) (r₀ : R
 
   module _ (recs work : List ℕ) (top x : ℕ) (g : Sweeping n slots recs₀ work₀ top₀ h recs work top x) (some : 1 ≤ x) where
     abbrev Step : List ℕ → List ℕ → ℕ → Type 0
-    Step recs′ work′ top′ = Moved n slots recs work top (scanIf (view n recs slots) (isOut (recOf n recs x)) true (flagsOf n recs marked x) x) recs′ work′ top′
+    Step recs′ work′ top′ = Moved n slots recs work top (scanIf (view n recs slots) true true (flagsOf n recs marked x) x) recs′ work′ top′
 
     next-here : (recs′ work′ : List ℕ) (top′ x′ : ℕ) → Step recs′ work′ top′ → x′ ≡ linkAt n work′ x % 4096 → x′ ≡ topMember (outsOf n recs₀) h (x - 1)
     next-here recs′ work′ top′ x′ v e =
@@ -175,15 +175,16 @@ module _ (n : ℕ) (slots recs₀ work₀ : List ℕ) (top₀ h : ℕ) (r₀ : R
         same-heap = view-same n recs₀ recs long (g .kept) slots
 
         -- one turn of the definition
-        turned : (more : List ℕ) (k : ℕ) → x ≡ suc k → x′ ≡ topMember (outsOf n recs₀) h k → cluster (recOf n recs₀ x) ≡ h
-            → scanOuts H h x′ (scanIf (view n recs slots) (isOut (recOf n recs x)) true (flagsOf n recs marked x) x (walkAt n recs (pending n work top ++ more)))
+        turned : (more : List ℕ) (k : ℕ) → x ≡ suc k → x′ ≡ topMember (outsOf n recs₀) h k → (isOut (recOf n recs₀ x) ≡ true) × (cluster (recOf n recs₀ x) ≡ h)
+            → scanOuts H h x′ (scanIf (view n recs slots) true true (flagsOf n recs marked x) x (walkAt n recs (pending n work top ++ more)))
             ≡ scanOuts H h x (walkAt n recs (pending n work top ++ more))
         turned more k ex q c =
             let w : Walk = walkAt n recs (pending n work top ++ more) in
-            ap (λ (G : Heap). scanOuts H h x′ (scanIf G (G .out x) true (flagsOf n recs marked x) x w)) same-heap
+            ap (λ (G : Heap). scanOuts H h x′ (scanIf G true true (flagsOf n recs marked x) x w)) same-heap
+            ∙ ap (λ (b : Bool). scanOuts H h x′ (scanIf H b true (flagsOf n recs marked x) x w)) (sym (c .0))
             ∙ ap (λ (y : ℕ). scanOuts H h y (scanIf H (H .out x) true (flagsOf n recs marked x) x w)) q
             ∙ sym (outs-top H h some-head k (scanIf H (H .out x) true (flagsOf n recs marked x) x w))
-            ∙ sym (outs-turn H h x k w ex c)
+            ∙ sym (outs-turn H h x k w ex (c .1))
 
   pub sweeping-done : (recs work : List ℕ) (top x : ℕ) → Sweeping n slots recs₀ work₀ top₀ h recs work top x → x ≡ 0
       → Moved n slots recs₀ work₀ top₀ (scanOuts (view n recs₀ slots) h n) recs work top
@@ -208,16 +209,6 @@ module _ (n : ℕ) (recs slots work : List ℕ) (top : ℕ) (s : State n recs sl
       → Moved n slots recs work top (scanIf (view n recs slots) true true (flagsOf n recs marked o) o) recs′ work′ top′
   unfolding scanIf
   taken-scanIf e recs′ work′ top′ v = moved-as n slots recs work top _ _ recs′ work′ top′ (λ todo. rw e refl) v
-
-  pub inner-scanIf : isOut (recOf n recs o) ≡ false
-      → Moved n slots recs work top (scanIf (view n recs slots) (isOut (recOf n recs o)) true (flagsOf n recs marked o) o) recs work top
-  unfolding scanIf
-  inner-scanIf e = moved-none n slots recs work top _ (λ todo. rw e refl) s
-
-  pub outer-scanIf : isOut (recOf n recs o) ≡ true → (recs′ work′ : List ℕ) (top′ : ℕ)
-      → Moved n slots recs work top (scanIf (view n recs slots) true true (flagsOf n recs marked o) o) recs′ work′ top′
-      → Moved n slots recs work top (scanIf (view n recs slots) (isOut (recOf n recs o)) true (flagsOf n recs marked o) o) recs′ work′ top′
-  outer-scanIf e recs′ work′ top′ v = moved-as n slots recs work top _ _ recs′ work′ top′ (λ todo. rw e refl) v
 
   -- ---- a head
 
@@ -254,7 +245,7 @@ module _ (n : ℕ) (recs slots work : List ℕ) (top : ℕ) (s : State n recs sl
   member-reached e r = moved-none n slots recs work top _ (λ todo. rw (e, r) refl) s
 
   pub member-later : flagsOf n recs marked o ≡ false → flagsOf n recs reached (cluster (recOf n recs o)) ≡ false → (work′ : List ℕ)
-      → MapPut n o true work work′ → length work′ ≡ length work → Moved n slots recs work top
+      → work′ ≡ P.put n o true work → length work′ ≡ length work → Moved n slots recs work top
       (visitBy (view n recs slots) false false (flagsOf n recs marked o) (flagsOf n recs reached (cluster (recOf n recs o))) o)
       (putMark postponed o true recs) work′ top
   unfolding visitBy
@@ -344,7 +335,7 @@ module _
     (o : ℕ)
     (io : Obj n o)
     (work₁ : List ℕ)
-    (p : MapPut n o false work work₁)
+    (p : work₁ ≡ P.put n o false work)
     (e₁ : length work₁ ≡ length work)
   where
     abbrev settled : Bool

@@ -11,6 +11,7 @@ use Rattle.rules.specs.Buffers.{short}
 use Rattle.rules.specs.View.{view}
 use Rattle.rules.specs.WellFormed.{wellFormed}
 use Rattle.rules.specs.Collect.{Kind, plainly, byClusters, Traced, trace}
+use Rattle.sweep.specs.Sweep.{markedCount}
 use Rattle.sweep.proofs.SweepLaws.{Told}
 
 -- the kind of a collection that walks clusters, or does not
@@ -37,7 +38,8 @@ pub record Accepted (c : Control) (recs slots roots work map : List ℕ) : Type 
 abbrev pub walked : Bool → ℕ → ℕ → List ℕ → List ℕ → List ℕ → Traced
 walked by n r recs slots roots = trace (kindOf by) (view n recs slots) (starts (view n recs slots) (take r roots))
 
--- the marks of recs′ tell what it keeps, and k is how many objects it scanned
+-- the marks of recs′ tell what it keeps, and k is how many objects it scanned; without clusters these are the marked
 pub record Kept (by : Bool) (n r : ℕ) (recs slots roots recs′ : List ℕ) (k : ℕ) : Type 0 where
   pub told : Told n recs recs′ (walked by n r recs slots roots)
   pub scanned : k ≡ walked by n r recs slots roots .scanned
+  pub marked : by ≡ false → k ≡ markedCount n recs′

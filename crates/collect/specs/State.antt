@@ -12,8 +12,8 @@ use Rattle.rules.specs.Buffers.{recOf}
 use Rattle.rules.specs.View.{target, view}
 use Rattle.links.specs.Links.{linkedAt, linkWord}
 use Rattle.sweep.specs.Sweep.{bare}
+use Rattle.postponed.specs.Postponed.{Mapped}
 use Rattle.collect.specs.Marks.{flagsOf}
-use Rattle.collect.specs.Later.{Mapped}
 
 -- ---- the walk as the buffers hold it
 

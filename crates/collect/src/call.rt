@@ -4,7 +4,7 @@ ghost use mathlib.Core.Bool.{true, cond};
 ghost use Rattle.layout.specs.Refusal.{first};
 ghost use Rattle.rules.specs.WellFormed.{wellFormed};
 ghost use Rattle.rules.specs.Collect as Collect;
-ghost use Rattle.sweep.specs.Sweep.{membersMarked};
+ghost use Rattle.sweep.specs.Sweep.{markedCount, membersMarked};
 ghost use Rattle.collect.specs.State.{Traceable};
 ghost use Rattle.collect.specs.Call.{kindOf, tooShort, Accepted, walked, Kept};
 use crate::walk::trace;
@@ -107,6 +107,16 @@ fn mark_kept(
     scanned
 }
 
+// How many objects are kept: those that were scanned, where clusters are not walked.
+fn count_kept(by: bool, n: u32, scanned: u32, records: &[u32]) -> u32
+    ensures { λ k. ⌜ k ≡ cond by (markedCount n (now (records .entry))) scanned ⌝ }
+{
+    if by {
+        return count_marked(n, records);
+    }
+    scanned
+}
+
 fn collect_accepted(
     by: bool,
     c: Control,
@@ -123,7 +133,7 @@ fn collect_accepted(
 {
     let k = work_len(c.n);
     let scanned = mark_kept(by, c.n, c.r, records, slots, roots, &mut work[0..k]);
-    let kept = count_marked(c.n, records);
+    let kept = count_kept(by, c.n, scanned, records);
     let freed = sweep(c.n, records, slots, map);
     zero(work, k);
     Collected {

@@ -1,7 +1,6 @@
 // Collections: the walk over the heap, plainly or by clusters, and the two calls.
 mod call;
 pub mod clusters;
-mod later;
 mod marks;
 pub mod plain;
 mod scan;

@@ -2,10 +2,8 @@
 ghost use mathlib.Core.Path.{_≡_};
 ghost use mathlib.Core.Bool.{true, false};
 ghost use lib.ListN.{take, drop};
-ghost use Rattle.records.specs.Record.{isOut};
 ghost use Rattle.graph.specs.Numbers.{Obj};
 ghost use Rattle.graph.specs.Trace as T;
-ghost use Rattle.rules.specs.Buffers.{recOf};
 ghost use Rattle.rules.specs.View.{view};
 ghost use Rattle.collect.specs.Marks.{flagsOf};
 ghost use Rattle.collect.specs.State.{named, linkAt, Pushable, Pushed, HasLink, State, Ready, Moved};
@@ -14,7 +12,6 @@ use layout::limits::within;
 use links::next_member;
 use links::top_member;
 use records::is_marked;
-use records::is_out;
 use records::width_of;
 use table::clusters::record_of;
 
@@ -85,28 +82,6 @@ pub(crate) fn scan_unmarked(
     scan(n, records, slots, work, top, x)
 }
 
-// Scans the member x of a reached cluster, if it has the out bit and is not marked.
-fn scan_member(
-    n: u32,
-    records: &mut [u32],
-    slots: &[u32],
-    work: &mut [u32],
-    top: usize,
-    x: u32,
-) -> usize
-    requires { ⌜ State n (now records) (now slots) (now work) top ⌝ }
-    requires { ⌜ Obj n x ⌝ }
-    ensures { λ r. ⌜ Moved n (now (slots .entry)) (now (records .entry)) (now (work .entry)) top
-        (T.scanIf (view n (now (records .entry)) (now (slots .entry))) (isOut (recOf n (now (records .entry)) x)) true
-        (flagsOf n (now (records .entry)) T.marked x) x)
-        (now (records .exit)) (now (work .exit)) r ⌝ }
-{
-    if is_out(record_of(n, x, records)) {
-        return scan_unmarked(n, records, slots, work, top, x);
-    }
-    top
-}
-
 // The link word of object x.
 fn link_of(n: u32, work: &[u32], x: u32) -> u32
     requires { ⌜ HasLink n x (now work) ⌝ }
@@ -133,7 +108,7 @@ pub(crate) fn scan_outs(
     let mut at = top;
     let mut x = top_member(link_of(n, work, h));
     while x != 0 {
-        at = scan_member(n, records, slots, work, at, x);
+        at = scan_unmarked(n, records, slots, work, at, x);
         x = next_member(link_of(n, work, x));
     }
     at

@@ -10,14 +10,13 @@ ghost use Rattle.graph.specs.Trace as T;
 ghost use Rattle.rules.specs.Buffers.{recOf};
 ghost use Rattle.rules.specs.View.{view};
 ghost use Rattle.collect.specs.Marks.{flagsOf};
-ghost use Rattle.collect.specs.Later.{MapRoom};
 ghost use Rattle.collect.specs.State.{seen, State, Ready, Moved, MemberVisited};
-use crate::later::map_put;
 use crate::marks::postpone;
 use crate::marks::reach;
 use crate::scan::scan;
 use crate::scan::scan_outs;
 use crate::scan::scan_unmarked;
+use postponed::put;
 use records::cluster_of;
 use records::is_marked;
 use records::is_reached;
@@ -59,7 +58,7 @@ fn visit_head(
 
 // Visits x, a member of a cluster that is not its head.
 fn visit_member(n: u32, records: &mut [u32], work: &mut [u32], x: u32)
-    requires { ⌜ (n ≤ length (now records)) × Obj n x × MapRoom n (now work) ⌝ }
+    requires { ⌜ (n ≤ length (now records)) × Obj n x ⌝ }
     ensures { λ _. ⌜ MemberVisited n x (now (records .entry)) (now (work .entry)) (now (records .exit)) (now (work .exit)) ⌝ }
 {
     let r = record_of(n, x, records);
@@ -70,7 +69,7 @@ fn visit_member(n: u32, records: &mut [u32], work: &mut [u32], x: u32)
         return;
     }
     postpone(records, x, true);
-    map_put(n, work, x, true);
+    put(n, work, x, true);
 }
 
 // Visits object x.
@@ -164,7 +163,7 @@ pub(crate) fn take_up(
 {
     let settled = is_settled(by, n, x, records);
     postpone(records, x, false);
-    map_put(n, work, x, false);
+    put(n, work, x, false);
     let end = 8 * (n as usize);
     if settled {
         return end;

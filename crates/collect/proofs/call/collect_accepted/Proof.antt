@@ -24,8 +24,8 @@ mark-kept-requires c κs =
     let work-len-call = c .before .before .before .work-len in
     (trace-able _ _ _ _ _ (now (s .args .map)) (s .pre) _ (part-long _ _ _ (work-len-call .ensures) (s .pre .work-long)), s .pre .formed)
 
-count-marked-requires : tie.Need-count-marked-requires
-count-marked-requires c κs = search needs
+count-kept-requires : tie.Need-count-kept-requires
+count-kept-requires c κs = search needs
 
 sweep-requires : tie.Need-sweep-requires
 sweep-requires c κs = search needs
@@ -49,11 +49,11 @@ returns : tie.Need-returns
 returns c =
     let mark-kept-call = c .before .before .before .before .before .before .before .before .before .before .before .before .before .before .before .before .before .before .before .before .mark-kept in
     let s = c .before .before .before .before .before .before .before .before .before .before .before .before .before .before .before .before .before .before .before .before .before .before .before .before .before .before .before .before .before .before in
-    let count-marked-call = c .before .before .before .before .before .before .before .before .before .before .before .before .before .before .count-marked in
+    let count-kept-call = c .before .before .before .before .before .before .before .before .before .before .before .before .before .before .count-kept in
     let sweep-call = c .before .before .before .before .before .before .before .before .before .before .sweep in
     let work-len-call = c .before .before .before .before .before .before .before .before .before .before .before .before .before .before .before .before .before .before .before .before .before .before .before .before .work-len in
     let m = mark-kept-call in
-    collected (s .args .by) (s .args .c) _ _ (now (s .args .roots)) (now (s .args .work)) _ (s .pre) _ _ (m .ensures) (m .kept .1 .1 .1 .0) _ (count-marked-call .ensures)
+    collected (s .args .by) (s .args .c) _ _ (now (s .args .roots)) (now (s .args .work)) _ (s .pre) _ _ (m .ensures) (m .kept .1 .1 .1 .0) _ (count-kept-call .ensures)
     _ _ _ _ (sweep-call .ensures) _ (work-len-call .ensures) (m .last .1 .1 .1 .1 .1 .1 .0) _ (m .kept .1 .1 .1 .1 .1 .1 .0) (c .before .before .zero .ensures)
 
 pub collect-accepted-spec : {M : Type 1} → statement M
@@ -65,7 +65,7 @@ collect-accepted-spec =
     part-mark-kept-start
     part-mark-kept-end
     mark-kept-requires
-    count-marked-requires
+    count-kept-requires
     sweep-requires
     zero-requires
     same-length

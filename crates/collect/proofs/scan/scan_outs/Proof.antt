@@ -27,18 +27,18 @@ loop-holds c =
     let s = c .before .before .before .before .before .before in
     sweeping-here _ _ _ _ _ _ (s .pre .0) (s .pre .1) _ (c .top-member .ensures ∙ ap (λ (y : ℕ). y / 4096 % 4096) (c .before .link-of .ensures))
 
-scan-member-requires : tie.Need-scan-member-requires Inv-loop μ-loop
-scan-member-requires c κs =
+scan-unmarked-requires : tie.Need-scan-unmarked-requires Inv-loop μ-loop
+scan-unmarked-requires c κs =
     let l = c .before .before .before .loop in
     let g = l .inv in (g .ready .state, (omega arith, g .within))
 
 link-of-requires-2 : tie.Need-link-of-requires-2 Inv-loop μ-loop
 link-of-requires-2 c κs =
     let l = c .before .before .before .before .before .before .before .before .before .loop in
-    let scan-member-call = c .before .before .before .before .before .scan-member in
+    let scan-unmarked-call = c .before .before .before .before .before .scan-unmarked in
     let g = l .inv in
     let z = g .ready .state .sized in
-    record { most = z .most; object = (omega arith, g .within); long = omega (arith, z .work-long, scan-member-call .kept .1 .1 .1 .0) }
+    record { most = z .most; object = (omega arith, g .within); long = omega (arith, z .work-long, scan-unmarked-call .kept .1 .1 .1 .0) }
 
 next-member-requires : tie.Need-next-member-requires Inv-loop μ-loop
 next-member-requires c κs = search needs
@@ -47,17 +47,17 @@ loop-less : tie.Need-loop-less Inv-loop μ-loop
 loop-less c =
     let s = c .before .before .before .before .before .before .before .before .before .before .before .before .before .before .before .before .before .before in
     let l = c .before .before .before .before .before .before .before .before .before .before .before .loop in
-    let scan-member-call = c .before .before .before .before .before .before .before .scan-member in
-    sweeping-less _ _ _ _ _ _ (s .pre .0) (s .pre .1) _ _ _ _ (l .inv) (omega arith) _ _ _ _ (scan-member-call .ensures)
+    let scan-unmarked-call = c .before .before .before .before .before .before .before .scan-unmarked in
+    sweeping-less _ _ _ _ _ _ (s .pre .0) (s .pre .1) _ _ _ _ (l .inv) (omega arith) _ _ _ _ (scan-unmarked-call .ensures)
     (c .next-member .ensures ∙ ap (λ (y : ℕ). y % 4096) (c .before .link-of2 .ensures))
 
 loop-again : tie.Need-loop-again Inv-loop μ-loop
 loop-again c =
-    let scan-member-call = c .before .before .before .before .before .before .before .scan-member in
+    let scan-unmarked-call = c .before .before .before .before .before .before .before .scan-unmarked in
     let s = c .before .before .before .before .before .before .before .before .before .before .before .before .before .before .before .before .before .before in
     let l = c .before .before .before .before .before .before .before .before .before .before .before .loop in
-    let k = scan-member-call .kept in
-    sweeping-on _ _ _ _ _ _ (s .pre .0) (s .pre .1) _ _ _ _ (l .inv) (omega arith) _ _ _ _ (scan-member-call .ensures)
+    let k = scan-unmarked-call .kept in
+    sweeping-on _ _ _ _ _ _ (s .pre .0) (s .pre .1) _ _ _ _ (l .inv) (omega arith) _ _ _ _ (scan-unmarked-call .ensures)
     (c .next-member .ensures ∙ ap (λ (y : ℕ). y % 4096) (c .before .link-of2 .ensures)) (k .1 .0) (k .1 .1 .1 .0)
 
 same-length : tie.Need-same-length Inv-loop μ-loop
@@ -80,7 +80,7 @@ scan-outs-spec =
     link-of-requires
     top-member-requires
     loop-holds
-    scan-member-requires
+    scan-unmarked-requires
     link-of-requires-2
     next-member-requires
     loop-less

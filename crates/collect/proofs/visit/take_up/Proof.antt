@@ -11,8 +11,8 @@ is-settled-requires c κs = search needs
 postpone-requires : tie.Need-postpone-requires
 postpone-requires c κs = search needs
 
-map-put-requires : tie.Need-map-put-requires
-map-put-requires c κs = search needs
+put-requires : tie.Need-put-requires
+put-requires c κs = search needs
 
 mul-end : tie.Need-mul-end
 mul-end c = search needs
@@ -27,18 +27,18 @@ returns : tie.Need-returns
 returns c =
     let postpone-call = c .before .before .before .before .before .before .before .postpone in
     let s = c .before .before .before .before .before .before .before .before .before .before .before .before .before .before in
-    let map-put-call = c .before .before .before .map-put in
+    let put-call = c .before .before .before .put in
     let is-settled-call = c .before .before .before .before .before .before .before .before .before .is-settled in
-    rw (postpone-call .ensures) (take-dropped (s .args .by) _ _ _ _ _ (s .pre .0) _ (s .pre .1) _ (map-put-call .ensures) (map-put-call .kept .1 .0) (sym (is-settled-call .ensures) ∙ c .if1 .taken))
+    rw (postpone-call .ensures) (take-dropped (s .args .by) _ _ _ _ _ (s .pre .0) _ (s .pre .1) _ (put-call .ensures) (put-call .kept .1 .0) (sym (is-settled-call .ensures) ∙ c .if1 .taken))
 
 scan-requires : tie.Need-scan-requires
 scan-requires c κs =
     let postpone-call = c .before .before .before .before .before .before .before .before .before .postpone in
-    let map-put-call = c .before .before .before .before .before .map-put in
+    let put-call = c .before .before .before .before .before .put in
     let s = c .before .before .before .before .before .before .before .before .before .before .before .before .before .before .before .before in
     let is-settled-call = c .before .before .before .before .before .before .before .before .before .before .before .is-settled in
     let u = postpone-call .ensures in
-    let m = map-put-call in (
+    let m = put-call in (
       rw u (state-taken (s .args .by) _ _ _ _ _ (s .pre .0) _ (s .pre .1) _ (m .ensures) (m .kept .1 .0)),
       (s .pre .1, rw u (still-unmarked (s .args .by) _ _ _ _ _ (s .pre .0) _ (s .pre .1) _ (m .ensures) (m .kept .1 .0) (sym (is-settled-call .ensures) ∙ c .before .before .if1 .left))),
     )
@@ -52,12 +52,12 @@ same-length-4 c = search needs
 returns-2 : tie.Need-returns-2
 returns-2 c =
     let s = c .before .before .before .before .before .before .before .before .before .before .before .before .before .before .before .before .before .before .before .before .before in
-    let map-put-call = c .before .before .before .before .before .before .before .before .before .before .map-put in
+    let put-call = c .before .before .before .before .before .before .before .before .before .before .put in
     let is-settled-call = c .before .before .before .before .before .before .before .before .before .before .before .before .before .before .before .before .is-settled in
     let if1 = c .before .before .before .before .before .before .before .if1 in
     let postpone-call = c .before .before .before .before .before .before .before .before .before .before .before .before .before .before .postpone in
     let scan-call = c .before .before .before .before .scan in
-    take-scanned (s .args .by) _ _ _ _ _ (s .pre .0) _ (s .pre .1) _ (map-put-call .ensures) (map-put-call .kept .1 .0) (sym (is-settled-call .ensures) ∙ if1 .left) _ _ _
+    take-scanned (s .args .by) _ _ _ _ _ (s .pre .0) _ (s .pre .1) _ (put-call .ensures) (put-call .kept .1 .0) (sym (is-settled-call .ensures) ∙ if1 .left) _ _ _
     (rw (postpone-call .ensures) at (scan-call .ensures))
 
 pub take-up-spec : {M : Type 1} → statement M
@@ -66,7 +66,7 @@ take-up-spec =
     (tie.spec
     is-settled-requires
     postpone-requires
-    map-put-requires
+    put-requires
     mul-end
     same-length
     same-length-2

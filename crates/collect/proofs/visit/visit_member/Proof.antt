@@ -53,8 +53,8 @@ returns-2 c =
 postpone-requires : tie.Need-postpone-requires
 postpone-requires c κs = search needs
 
-map-put-requires : tie.Need-map-put-requires
-map-put-requires c κs = search needs
+put-requires : tie.Need-put-requires
+put-requires c κs = search needs
 
 same-length-3 : tie.Need-same-length-3
 same-length-3 c = search needs
@@ -74,11 +74,11 @@ returns-3 c =
     let record-of2-call = c .before .before .before .before .before .before .before .before .before .before .record-of2 in
     let cluster-of-call = c .before .before .before .before .before .before .before .before .before .before .before .before .cluster-of in
     let if2 = c .before .before .before .before .before .before .before .before .if2 in
-    let map-put-call = c .before .before .map-put in
+    let put-call = c .before .before .put in
     rw (postpone-call .ensures)
     (record {
       moved = λ slots top t. member-later _ _ _ _ _ t _ (s .pre .1) (sym (is-marked-call .ensures ∙ ap isMarked (record-of-call .ensures)) ∙ if1 .left)
-          (sym (is-reached-call .ensures ∙ ap isReached (record-of2-call .ensures ∙ ap (λ (y : ℕ). recOf (s .args .n) (now (s .args .records)) y) (cluster-of-call .ensures ∙ ap cluster (record-of-call .ensures)))) ∙ if2 .left) _ (map-put-call .ensures) (map-put-call .kept .1 .0);
+          (sym (is-reached-call .ensures ∙ ap isReached (record-of2-call .ensures ∙ ap (λ (y : ℕ). recOf (s .args .n) (now (s .args .records)) y) (cluster-of-call .ensures ∙ ap cluster (record-of-call .ensures)))) ∙ if2 .left) _ (put-call .ensures) (put-call .kept .1 .0);
     })
 
 pub visit-member-spec : {M : Type 1} → statement M
@@ -95,7 +95,7 @@ visit-member-spec =
     same-length-2
     returns-2
     postpone-requires
-    map-put-requires
+    put-requires
     same-length-3
     same-length-4
     returns-3)

@@ -2,6 +2,7 @@
 use mathlib.Core.List.{[]}
 use Rattle.collect.specs.State.{steps}
 use Rattle.collect.proofs.EndLaws.{Retaking, retaking-here, retaking-on, retaking-done}
+use borrow.Author.Needs.{needs}
 use native.Mathlib.Omega.{arith}
 use Rattle.collect.proofs.walk.follow_postponed.Statement.{statement}
 use Rattle.collect.proofs.walk.follow_postponed.Tie as tie
@@ -13,14 +14,13 @@ abbrev μ-loop : tie.MeasureT-loop
 μ-loop by n records₀ slots work₀ x₀ records work x = steps by n slots records []
 
 lowest-requires : tie.Need-lowest-requires Inv-loop μ-loop
-lowest-requires c κs =
-    let s = c .before .before .before .before in
-    let z = s .pre .state .sized in record { most = z .most; long = z .work-long }
+lowest-requires c κs = search needs
 
 loop-holds : tie.Need-loop-holds Inv-loop μ-loop
 loop-holds c =
     let s = c .before .before .before .before .before in
-    retaking-here _ _ _ _ _ _ (s .pre) (c .lowest .ensures)
+    let known = c .before .before .slice-known2 .given in
+    retaking-here _ _ _ _ _ _ (s .pre) (λ i. known i .fits) (c .lowest .ensures)
 
 follow-lowest-requires : tie.Need-follow-lowest-requires Inv-loop μ-loop
 follow-lowest-requires c κs =
@@ -28,9 +28,7 @@ follow-lowest-requires c κs =
     let g = l .inv in (g .ready, (g .lowest-now, omega arith))
 
 lowest-requires-2 : tie.Need-lowest-requires-2 Inv-loop μ-loop
-lowest-requires-2 c κs =
-    let follow-lowest-call = c .before .before .before .before .before .follow-lowest in
-    let z = follow-lowest-call .ensures .ready .state .sized in record { most = z .most; long = z .work-long }
+lowest-requires-2 c κs = search needs
 
 loop-less : tie.Need-loop-less Inv-loop μ-loop
 loop-less c =
@@ -42,7 +40,8 @@ loop-again c =
     let follow-lowest-call = c .before .before .before .before .before .before .follow-lowest in
     let l = c .before .before .before .before .before .before .before .before .before .before .loop in
     let k = follow-lowest-call .kept in
-    retaking-on _ _ _ _ _ _ _ _ (l .inv) _ _ _ (follow-lowest-call .ensures) (c .lowest2 .ensures) (k .1 .1 .0) (k .1 .1 .1 .1 .0)
+    let known = c .before .before .slice-known4 .given in
+    retaking-on _ _ _ _ _ _ _ _ (l .inv) _ _ _ (follow-lowest-call .ensures) (λ i. known i .fits) (c .lowest2 .ensures) (k .1 .1 .0) (k .1 .1 .1 .1 .0)
 
 same-length : tie.Need-same-length Inv-loop μ-loop
 same-length c = c .before .loop .inv .recs-length

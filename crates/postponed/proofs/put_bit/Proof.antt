@@ -1,15 +1,11 @@
 -- `put_bit` meets its contract.
 use denote.Ref.{now}
-use Prim.Native.Nat.{_+_, _/_}
-use mathlib.Core.Path.{ap}
-use lib.ListN.{set}
-use Rattle.collect.specs.Later.{putBit}
+use mathlib.Core.Path.{sym, ap}
+use lib.ListN.{set, List·getD-eq-default}
+use lib.Seq.{getD-set-same, set-out}
 use borrow.Author.Needs.{needs}
-use Rattle.collect.proofs.later.put_bit.Statement.{statement}
-use Rattle.collect.proofs.later.put_bit.Tie as tie
-
-add-at : tie.Need-add-at
-add-at c = search needs
+use Rattle.postponed.proofs.put_bit.Statement.{statement}
+use Rattle.postponed.proofs.put_bit.Tie as tie
 
 mul-with-bit : tie.Need-mul-with-bit
 mul-with-bit c = search needs
@@ -30,20 +26,24 @@ same-length : tie.Need-same-length
 same-length c = search needs
 
 returns : tie.Need-returns
-unfolding putBit
 returns c =
-    let s = c .before .before .before in
-    let a = s .args in ap (set (now (a .work)) (a .base + a .i / 32)) (c .with-bit .ensures)
+    let a = c .before .before .before .before .args in
+    (sym (getD-set-same (now (a .work)) (a .at) _ 0 (c .before .before .if1 .taken)), ap (set (now (a .work)) (a .at)) (c .with-bit .ensures))
+
+returns-2 : tie.Need-returns-2
+returns-2 c =
+    let a = c .before .before .args in
+    (sym (List·getD-eq-default (now (a .work)) 0 (c .if1 .left)), sym (set-out (now (a .work)) (a .at) _ (c .if1 .left)))
 
 pub put-bit-spec : {M : Type 1} → statement M
 put-bit-spec =
     tie.close
     (tie.spec
-    add-at
     mul-with-bit
     slice-read-with-bit
     with-bit-requires
     mul-work
     slice-write-work
     same-length
-    returns)
+    returns
+    returns-2)

@@ -7,8 +7,8 @@ use lib.Bits.{bitAnd, bitOr}
 use Rattle.layout.specs.Field.{putFlag}
 use Rattle.layout.proofs.FieldLaws.{or-flag, and-not-flag, one-at}
 use borrow.Author.Needs.{needs}
-use Rattle.collect.proofs.later.with_bit.Statement.{statement}
-use Rattle.collect.proofs.later.with_bit.Tie as tie
+use Rattle.postponed.proofs.with_bit.Statement.{statement}
+use Rattle.postponed.proofs.with_bit.Tie as tie
 
 cast-bit : tie.Need-cast-bit
 cast-bit c = search needs

@@ -15,11 +15,12 @@ use lib.Seq.{getD-drop, getD-set-same, getD-set-other, take-set-le}
 use lib.Pow.{shr-shr, shr-lt}
 use lib.Count.{trailingZeros, under}
 use Rattle.layout.specs.Field.{field, flag, putFlag}
-use Rattle.layout.proofs.FieldLaws.{flag-put-same, flag-put-other}
+use Rattle.layout.proofs.FieldLaws.{zero-flag, flag-put-same, flag-put-other}
 use Rattle.bitmap.proofs.BitLaws.{trailing-lt}
 use Rattle.graph.specs.Numbers.{Obj, lowest}
 use Rattle.graph.proofs.LowestLaws.{lowest-passes, lowest-least, none-lowest}
-use Rattle.collect.specs.Later.{bitAt, putBit, sumAt, Mapped, MapPut, MapRoom}
+use Rattle.postponed.specs.Postponed as P
+use Rattle.postponed.specs.Postponed.{bitAt, putBit, sumAt, someIn, lowestFrom, Mapped}
 
 -- ---- the lowest set bit
 
@@ -58,14 +59,6 @@ lowest-set w nz h = eq-eqb (w / 2 ^ trailingZeros 32 w % 2) 1 (digit-set 32 w nz
 pub lowest-clear : (w b : ℕ) → b < trailingZeros 32 w → flag b w ≡ false
 unfolding flag field
 lowest-clear w b l = ne-eqb (w / 2 ^ b % 2) 1 (λ e. omega (arith, digit-clear 32 w b l))
-
-pub nothing-set : (b : ℕ) → flag b 0 ≡ false
-unfolding flag field
-nothing-set b = ne-eqb (0 / 2 ^ b % 2) 1 (λ e. omega (arith, zero-div b))
-  where
-    zero-div : (b : ℕ) → 0 / 2 ^ b ≡ 0
-    zero-div zero = refl
-    zero-div (suc b) = half-power 0 b ∙ zero-div b
 
 -- ---- one bit put
 
@@ -112,61 +105,72 @@ bit-of work work′ base i e = ap (flag (i % 32)) e
 
 bit-zero : (work : List ℕ) (base i : ℕ) → getD work (base + i / 32) 0 ≡ 0 → bitAt work base i ≡ false
 unfolding bitAt
-bit-zero work base i e = ap (flag (i % 32)) e ∙ nothing-set (i % 32)
+bit-zero work base i e = ap (flag (i % 32)) e ∙ zero-flag (i % 32)
 
 -- ---- the set, with one number put in or taken out
 
-module _ (n : ℕ) (work : List ℕ) (o : ℕ) (l : MapRoom n work) (io : Obj n o) where
+-- both bits are put, the second by whether the word is 0
+pub put-made : (n x : ℕ) (v : Bool) (work w₁ w₂ : List ℕ) (r : ℕ) → w₁ ≡ set work (9 * n + x / 32) (putFlag (x % 32) v (getD work (9 * n + x / 32) 0))
+    → r ≡ getD w₁ (9 * n + x / 32) 0
+    → w₂ ≡ set w₁ (sumAt n + x / 32 / 32) (putFlag (x / 32 % 32) (not (eqb r 0)) (getD w₁ (sumAt n + x / 32 / 32) 0)) → w₂ ≡ P.put n x v work
+unfolding P.put putBit
+put-made n x v work w₁ w₂ r e f g = rw (g, f, e) refl
+
+module _ (n : ℕ) (work : List ℕ) (o : ℕ) (most : n ≤ 4095) (long : 10 * n + 64 ≤ length work) (io : Obj n o) (v : Bool) where
   in-word : o / 32 ≤ n / 32
   in-word = omega arith
 
-  module _ (v : Bool) where
-    abbrev first : List ℕ
-    first = putBit work (9 * n) o v
+  abbrev first : List ℕ
+  first = putBit work (9 * n) o v
 
-    inside₁ : 9 * n + o / 32 < length work
-    inside₁ = omega (arith, l .long)
+  inside₁ : 9 * n + o / 32 < length work
+  inside₁ = omega arith
 
-    first-length : length first ≡ length work
-    first-length = length-put work (9 * n) o v inside₁
+  first-length : length first ≡ length work
+  first-length = length-put work (9 * n) o v inside₁
 
-    inside₂ : sumAt n + o / 32 / 32 < length first
-    inside₂ = omega (arith, l .long, first-length)
+  inside₂ : sumAt n + o / 32 / 32 < length first
+  inside₂ = omega (arith, first-length)
 
-    -- both bits are put, the second by whether the word is 0
-    module _ (s : Bool) (word : s ≡ not (eqb (getD first (9 * n + o / 32) 0) 0)) where
-      abbrev second : List ℕ
-      second = putBit first (sumAt n) (o / 32) s
+  abbrev s : Bool
+  s = someIn n first (o / 32)
 
-      pub put-both : MapPut n o v work second
-      put-both = record { mapped = λ t t′ m e f. goes t t′ m e f; kept = take-put first (sumAt n) (o / 32) s inside₂ (9 * n) (omega arith) ∙ take-put work (9 * n) o v inside₁ (9 * n) (omega arith) }
-        where
-          goes : (t t′ : ℕ → Bool) → Mapped n t work → t′ o ≡ v → ((i : ℕ) → i ≢ o → t′ i ≡ t i) → Mapped n t′ second
-          goes t t′ m e f =
-              record {
-                bits = λ i h. bit-apart first (sumAt n) (o / 32) s inside₂ (9 * n) i (λ q. omega (arith, in-word)) ∙ at-bit i h (ℕ-discrete i o);
-                sums = λ j h. at-sum j h (ℕ-discrete j (o / 32));
-                over = λ j g h.
-                    bit-other first (sumAt n) (o / 32) s inside₂ j (λ q. omega (arith, in-word))
-                    ∙ bit-apart work (9 * n) o v inside₁ (sumAt n) j (λ q. omega (arith, in-word))
-                    ∙ m .over j g h;
-              }
-            where
-              at-bit : (i : ℕ) → i / 32 ≤ n / 32 → Dec (i ≡ o) → bitAt first (9 * n) i ≡ t′ i
-              at-bit i h (yes q) = rw q (bit-same work (9 * n) o v inside₁ ∙ sym e)
-              at-bit i h (no d) = bit-other work (9 * n) o v inside₁ i d ∙ m .bits i h ∙ sym (f i d)
+  abbrev second : List ℕ
+  second = putBit first (sumAt n) (o / 32) s
 
-              at-sum : (j : ℕ) → j ≤ n / 32 → Dec (j ≡ o / 32) → bitAt second (sumAt n) j ≡ not (eqb (getD second (9 * n + j) 0) 0)
-              at-sum j h (yes q) =
-                  rw q
-                  (bit-same first (sumAt n) (o / 32) s inside₂ ∙ word
-                  ∙ ap (λ (x : ℕ). not (eqb x 0)) (sym (word-other first (sumAt n) (o / 32) s inside₂ (9 * n + o / 32) (λ z. omega (arith, in-word)))))
-              at-sum j h (no d) =
-                  bit-other first (sumAt n) (o / 32) s inside₂ j d
-                  ∙ bit-apart work (9 * n) o v inside₁ (sumAt n) j (λ z. omega (arith, in-word))
-                  ∙ m .sums j h
-                  ∙ ap (λ (x : ℕ). not (eqb x 0))
-                  (sym (word-other first (sumAt n) (o / 32) s inside₂ (9 * n + j) (λ z. omega arith) ∙ word-other work (9 * n) o v inside₁ (9 * n + j) (λ z. d (omega arith))))
+  module _ (t t′ : ℕ → Bool) (m : Mapped n t work) (e : t′ o ≡ v) (f : (i : ℕ) → i ≢ o → t′ i ≡ t i) where
+    at-bit : (i : ℕ) → i / 32 ≤ n / 32 → Dec (i ≡ o) → bitAt first (9 * n) i ≡ t′ i
+    at-bit i h (yes q) = rw q (bit-same work (9 * n) o v inside₁ ∙ sym e)
+    at-bit i h (no d) = bit-other work (9 * n) o v inside₁ i d ∙ m .bits i h ∙ sym (f i d)
+
+    at-sum : (j : ℕ) → j ≤ n / 32 → Dec (j ≡ o / 32) → bitAt second (sumAt n) j ≡ someIn n second j
+    at-sum j h (yes q) =
+        rw q
+        (bit-same first (sumAt n) (o / 32) s inside₂
+        ∙ ap (λ (x : ℕ). not (eqb x 0)) (sym (word-other first (sumAt n) (o / 32) s inside₂ (9 * n + o / 32) (λ z. omega (arith, in-word)))))
+    at-sum j h (no d) =
+        bit-other first (sumAt n) (o / 32) s inside₂ j d
+        ∙ bit-apart work (9 * n) o v inside₁ (sumAt n) j (λ z. omega (arith, in-word))
+        ∙ m .sums j h
+        ∙ ap (λ (x : ℕ). not (eqb x 0))
+        (sym (word-other first (sumAt n) (o / 32) s inside₂ (9 * n + j) (λ z. omega arith) ∙ word-other work (9 * n) o v inside₁ (9 * n + j) (λ z. d (omega arith))))
+
+    pub put-mapped : Mapped n t′ (P.put n o v work)
+    unfolding P.put
+    put-mapped =
+        record {
+          bits = λ i h. bit-apart first (sumAt n) (o / 32) s inside₂ (9 * n) i (λ q. omega (arith, in-word)) ∙ at-bit i h (ℕ-discrete i o);
+          sums = λ j h. at-sum j h (ℕ-discrete j (o / 32));
+          over = λ j g h.
+              bit-other first (sumAt n) (o / 32) s inside₂ j (λ q. omega (arith, in-word))
+              ∙ bit-apart work (9 * n) o v inside₁ (sumAt n) j (λ q. omega (arith, in-word))
+              ∙ m .over j g h;
+        }
+
+  -- the words before the set are as they were
+  pub put-kept : take (9 * n) (P.put n o v work) ≡ take (9 * n) work
+  unfolding P.put
+  put-kept = take-put first (sumAt n) (o / 32) s inside₂ (9 * n) (omega arith) ∙ take-put work (9 * n) o v inside₁ (9 * n) (omega arith)
 
 -- ---- the lowest number
 
@@ -190,7 +194,7 @@ module _ (n : ℕ) (work : List ℕ) (t : ℕ → Bool) (m : Mapped n t work) wh
   unfolding bitAt
   empty-word p h e =
       let z : getD work (9 * n + p / 32) 0 ≡ 0 = zero-of (getD work (9 * n + p / 32) 0) (sym (m .sums (p / 32) h) ∙ e) in
-      sym (m .bits p h) ∙ ap (flag (p % 32)) z ∙ nothing-set (p % 32)
+      sym (m .bits p h) ∙ ap (flag (p % 32)) z ∙ zero-flag (p % 32)
     where
       zero-of : (x : ℕ) → not (eqb x 0) ≡ false → x ≡ 0
       zero-of x q = by (eqb x 0) refl q
@@ -203,7 +207,7 @@ module _ (n : ℕ) (work : List ℕ) (t : ℕ → Bool) (m : Mapped n t work) wh
     -- no number has its word's bit in the words before k
     before : (p : ℕ) → p / 32 ≤ n / 32 → p / 32 / 32 < k → t p ≡ false
     unfolding bitAt
-    before p h l = empty-word p h (ap (flag (p / 32 % 32)) (none (p / 32 / 32) l) ∙ nothing-set (p / 32 % 32))
+    before p h l = empty-word p h (ap (flag (p / 32 % 32)) (none (p / 32 / 32) l) ∙ zero-flag (p / 32 % 32))
 
     pub lowest-none-in : n / 32 / 32 < k → 0 ≡ lowest t n
     lowest-none-in l = sym (none-lowest t n (λ p b. before p (omega arith) (omega arith)))
@@ -213,7 +217,7 @@ module _ (n : ℕ) (work : List ℕ) (t : ℕ → Bool) (m : Mapped n t work) wh
         (wis : w ≡ getD work (sumAt n + k) 0)
         (wnz : w ≢ 0)
         (wfit : w < 2 ^ 32)
-        (there : k ≤ n / 32 / 32)
+        (there : k < 4)
         (j : ℕ)
         (jis : j ≡ 32 * k + trailingZeros 32 w)
         (v : ℕ)
@@ -276,6 +280,72 @@ module _ (n : ℕ) (work : List ℕ) (t : ℕ → Bool) (m : Mapped n t work) wh
         pub lowest-in : r ≡ lowest t n
         lowest-in = lowest-found t n r (only r r-set) r-set lower
 
+-- one word more is 0
+pub none-zero : (work : List ℕ) (at k : ℕ) → ((j : ℕ) → j < k → getD work (at + j) 0 ≡ 0) → getD work (at + k) 0 ≡ 0 → (j : ℕ) → j < k + 1 → getD work (at + j) 0 ≡ 0
+none-zero work at k none e j l = go (ℕ-discrete j k)
+  where
+    go : Dec (j ≡ k) → getD work (at + j) 0 ≡ 0
+    go (yes q) = rw q e
+    go (no d) = none j (omega arith)
+
+-- ---- the lowest number by the summary
+
+pub from-none : (n : ℕ) (work : List ℕ) (k m : ℕ) → getD work (sumAt n + k) 0 ≡ 0 → lowestFrom n work k (suc m) ≡ lowestFrom n work (suc k) m
+unfolding lowestFrom
+from-none n work k m e = rw (eq-eqb (getD work (sumAt n + k) 0) 0 e) refl
+
+pub from-some : (n : ℕ) (work : List ℕ) (k m : ℕ) → getD work (sumAt n + k) 0 ≢ 0
+    → lowestFrom n work k (suc m) ≡ P.lowestIn n work (32 * k + trailingZeros 32 (getD work (sumAt n + k) 0))
+unfolding lowestFrom
+from-some n work k m e = rw (ne-eqb (getD work (sumAt n + k) 0) 0 e) refl
+
+from-zero : (n : ℕ) (work : List ℕ) (k : ℕ) → lowestFrom n work k 0 ≡ 0
+unfolding lowestFrom
+from-zero n work k = refl
+
+-- the search at word k of the summary
+module _ (n : ℕ) (work : List ℕ) (k : ℕ) where
+  module _ (less : k < 4) (here : lowestFrom n work k (4 - k) ≡ P.lowest n work) where
+    four : 4 - k ≡ suc (4 - (k + 1))
+    four = omega arith
+
+    pub search-on : getD work (sumAt n + k) 0 ≡ 0 → lowestFrom n work (k + 1) (4 - (k + 1)) ≡ P.lowest n work
+    search-on e =
+        let s : k + 1 ≡ suc k = omega arith in
+        ap (λ (j : ℕ). lowestFrom n work j (4 - (k + 1))) s ∙ sym (from-none n work k (4 - (k + 1)) e) ∙ ap (lowestFrom n work k) (sym four) ∙ here
+
+    pub search-found : (w : ℕ) → w ≡ getD work (sumAt n + k) 0 → w ≢ 0 → (z : ℕ) → z ≡ trailingZeros 32 w → (v : ℕ) → v ≡ getD work (9 * n + (32 * k + z)) 0
+        → (y : ℕ) → y ≡ trailingZeros 32 v → 32 * (32 * k + z) + y ≡ P.lowest n work
+    search-found w e nz z ez v ev y ey =
+        rw (ey, ev, ez, e) (sym (from-some n work k (4 - (k + 1)) (λ q. nz (e ∙ q))) ∙ ap (lowestFrom n work k) (sym four) ∙ here)
+
+  pub search-done : 4 ≤ k → lowestFrom n work k (4 - k) ≡ P.lowest n work → 0 ≡ P.lowest n work
+  search-done l here = let z : 4 - k ≡ 0 = omega arith in sym (ap (lowestFrom n work k) z ∙ from-zero n work k) ∙ here
+
+module _
+    (n : ℕ)
+    (work : List ℕ)
+    (most : n ≤ 4095)
+    (fit : (i : ℕ) → getD work i 0 < 2 ^ 32)
+    (t : ℕ → Bool)
+    (h : Mapped n t work)
+    (only : (i : ℕ) → t i ≡ true → Obj n i)
+  where
+    lowest-on : (k m : ℕ) → ((j : ℕ) → j < k → getD work (sumAt n + j) 0 ≡ 0) → k + m ≡ 4 → lowestFrom n work k m ≡ lowest t n
+    lowest-on k zero none q = from-zero n work k ∙ lowest-none-in n work t h only k none (omega arith)
+    lowest-on k (suc m) none q =
+        at (ℕ-discrete (getD work (sumAt n + k) 0) 0) (λ z. lowest-on (suc k) m (λ j l. none-zero work (sumAt n) k none z j (omega arith)) (omega arith))
+      where
+        at : Dec (getD work (sumAt n + k) 0 ≡ 0) → (getD work (sumAt n + k) 0 ≡ 0 → lowestFrom n work (suc k) m ≡ lowest t n) → lowestFrom n work k (suc m) ≡ lowest t n
+        at (yes z) on = from-none n work k m z ∙ on z
+        at (no d) on =
+            from-some n work k m d
+            ∙ lowest-in n work t h only k none _ refl d (fit (sumAt n + k)) (omega arith) _ refl _ refl
+            (fit (9 * n + (32 * k + trailingZeros 32 (getD work (sumAt n + k) 0)))) _ refl
+
+    pub lowest-is : P.lowest n work ≡ lowest t n
+    lowest-is = lowest-on 0 4 (λ j l. absurd (omega arith)) (omega arith)
+
 -- ---- the set in words that did not change, and by another test
 
 pub mapped-kept : (n : ℕ) (t t′ : ℕ → Bool) (work work′ : List ℕ) → drop (8 * n) work′ ≡ drop (8 * n) work → ((i : ℕ) → t′ i ≡ t i) → Mapped n t work → Mapped n t′ work′
@@ -305,11 +375,3 @@ mapped-none n t work most z f =
   where
     clear : (base i : ℕ) → 9 * n ≤ base → base + i / 32 < 10 * n + 64 → bitAt work base i ≡ false
     clear base i a b = bit-zero work base i (z (base + i / 32) (omega arith) b)
-
--- one word more is 0
-pub none-zero : (work : List ℕ) (at k : ℕ) → ((j : ℕ) → j < k → getD work (at + j) 0 ≡ 0) → getD work (at + k) 0 ≡ 0 → (j : ℕ) → j < k + 1 → getD work (at + j) 0 ≡ 0
-none-zero work at k none e j l = go (ℕ-discrete j k)
-  where
-    go : Dec (j ≡ k) → getD work (at + j) 0 ≡ 0
-    go (yes q) = rw q e
-    go (no d) = none j (omega arith)

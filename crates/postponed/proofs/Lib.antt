@@ -1,0 +1,2 @@
+-- ---- numbers put in, taken out and found
+pub mod PostponedLaws

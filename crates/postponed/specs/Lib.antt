@@ -1,0 +1,2 @@
+-- The set of postponed objects.
+pub mod Postponed
