@@ -154,11 +154,11 @@ if-loaded (loaded start length) f x h = h start length
 if-loaded (bad expected) f x h = refl
 
 -- a name that is known stays
-wrote-stays : (l : Line) (old from : ℕ) → (old ≡ 0 → ⊥) → wroteLength l old from ≡ old
+pub wrote-stays : (l : Line) (old from : ℕ) → (old ≡ 0 → ⊥) → wroteLength l old from ≡ old
 unfolding wroteLength
 wrote-stays l old from d = if-wrote (kindOf l) _ old (λ a b. name-stays _ _ _ _ d)
 
-loaded-stays : (l : Line) (old from : ℕ) → (old ≡ 0 → ⊥) → loadedLength l old from ≡ old
+pub loaded-stays : (l : Line) (old from : ℕ) → (old ≡ 0 → ⊥) → loadedLength l old from ≡ old
 unfolding loadedLength
 loaded-stays l old from d = if-loaded (kindOf l) _ old (λ a b. name-stays _ _ _ _ d)
 

@@ -172,7 +172,7 @@ apart-wide a b c d s t h m p =
       back = sym (rw e at (drop-drop (b - d) d t)) ∙ ap (drop (b - d)) (p .back) ∙ rw e at (drop-drop (b - d) d s);
     }
 
-apart-copied : (n : ℕ) (s : List ℕ) (at from : ℕ) → Apart at (at + n) s (copied s at from n)
+pub apart-copied : (n : ℕ) (s : List ℕ) (at from : ℕ) → Apart at (at + n) s (copied s at from n)
 unfolding copied
 apart-copied zero s at from = apart-none at _ s
 apart-copied (suc n) s at from =

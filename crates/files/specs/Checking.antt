@@ -1,10 +1,11 @@
 -- The first reading of a list: what is wrong with it, and the names of the builds.
-use Prim.Native.Nat.{ℕ, _+_, _-_, _≤_, _%_, _^_}
+use Prim.Native.Nat.{ℕ, _+_, _-_, _≤_, _<_, _%_, _^_}
 use mathlib.Core.Path.{_≡_}
 use mathlib.Core.Bool.{Bool, true, false, not, cond, _||_}
 use mathlib.Core.List.{List, [], _∷_, _++_}
 use mathlib.Core.Logic.{_⊎_}
 use lib.Dec.{eqb}
+use lib.ListN.{getD}
 use Rattle.sheet.specs.Sheet.{after, copied}
 use Rattle.sheet.specs.Numerals.{decimalText}
 use Rattle.tokens.specs.Text.{bytes}
@@ -14,7 +15,7 @@ use Rattle.lines.specs.declared.Line.{Line}
 use Rattle.lines.specs.declared.Line.the-variants as line
 use Rattle.files.specs.declared.reading.Source.{Source}
 use Rattle.files.specs.declared.checking.Check.{Check}
-use Rattle.files.specs.Reading.{hasLine, hasLong, hasFailed, lineAt, Found, Searched}
+use Rattle.files.specs.Reading.{room, hasLine, hasLong, hasFailed, lineAt, Found, Searched}
 
 -- a call stands before create
 abbrev pub notCreate : ℕ
@@ -210,6 +211,19 @@ pub record Checked (source : Source) (wrote loaded : ℕ) (r : Check) : Type 0 w
   -- the reading ends before the list only after as many lines as can be counted, with nothing wrong so far
   pub unbroken : r .over ≡ false → r .problem ≡ 0
   pub endless : r .over ≡ false → r .source .number ≡ (source .number + (2 ^ 64 - 1)) % 2 ^ 64
+
+-- i is one of the n places from `at` on
+abbrev pub In : ℕ → ℕ → ℕ → Type 0
+In at n i = (at ≤ i) × (i < at + n)
+
+-- no name was put over i: the length of the name at `at` is the one known before, or i is not in the name
+abbrev pub Spared : ℕ → ℕ → ℕ → ℕ → Type 0
+Spared at known length i = (length ≡ known) ⊎ (In at length i → ⊥)
+
+-- what the first reading of a list leaves of the sheet: only the list's own part and the names that became known change
+pub record Left (source : Source) (wrote loaded : ℕ) (r : Check) (sheet left : List ℕ) : Type 0 where
+  pub others : (i : ℕ) → (In (source .base) room i → ⊥) → Spared wrotePlace wrote (r .wrote) i → Spared loadedPlace loaded (r .loaded) i
+      → getD left i 0 ≡ getD sheet i 0
 
 -- what a line should have had
 unfoldable pub expectedWords : ℕ → List ℕ
