@@ -1,12 +1,12 @@
 -- What a bad line should have had is one of six things, and a name is no longer than its line.
 -- Assumes nothing.
-use Prim.Native.Nat.{ℕ, _-_, _≤_}
+use Prim.Native.Nat.{ℕ, _+_, _-_, _≤_}
 use mathlib.Core.Path.{_≡_, refl}
 use mathlib.Core.Bool.{Bool, true, false, cond}
 use mathlib.Core.List.{List}
 use mathlib.Core.Logic.{inl, inr}
-use native.Mathlib.Decide.{ℕ-discrete}
 use native.Mathlib.Omega.{arith}
+use borrow.Author.Tests.{eqb-false}
 use lib.Dec.{ltb}
 use lib.ListN.{length, take, length-take, drop}
 use Rattle.sheet.specs.Sheet.{full}
@@ -34,30 +34,30 @@ expects (wrote start length) = 0
 expects (loaded start length) = 0
 expects (bad expected) = expected
 
--- the length of the name that a line gives; 0 for none
-unfoldable pub nameSize : Kind → ℕ
-nameSize nothing = 0
-nameSize create = 0
-nameSize call = 0
-nameSize (wrote start length) = length
-nameSize (loaded start length) = length
-nameSize (bad expected) = 0
+-- where the name that a line gives ends; 0 for none
+unfoldable pub nameEnd : Kind → ℕ
+nameEnd nothing = 0
+nameEnd create = 0
+nameEnd call = 0
+nameEnd (wrote start length) = start + length
+nameEnd (loaded start length) = start + length
+nameEnd (bad expected) = 0
 
--- a line that is not bad, or expects one of the six; its name has at most n bytes
+-- a line that is not bad, or expects one of the six; its name ends at n or before
 record Mild (n : ℕ) (l : Line) : Type 0 where
   few : expects (kindOf l) ≤ 6
-  brief : nameSize (kindOf l) ≤ n
+  brief : nameEnd (kindOf l) ≤ n
 
 either : {n : ℕ} (b : Bool) (x y : Line) → Mild n x → Mild n y → Mild n (cond b x y)
 either true x y p q = p
 either false x y p q = q
 
 -- a line that is not bad and gives no name
-plain : {n : ℕ} (l : Line) → expects (kindOf l) ≡ 0 → nameSize (kindOf l) ≡ 0 → Mild n l
+plain : {n : ℕ} (l : Line) → expects (kindOf l) ≡ 0 → nameEnd (kindOf l) ≡ 0 → Mild n l
 plain l e f = record { few = omega arith; brief = omega arith }
 
 bad-mild : {n : ℕ} (e : ℕ) → e ≤ 6 → Mild n (line.Bad e)
-unfolding expects nameSize kindOf
+unfolding expects nameEnd kindOf
 bad-mild e h = record { few = h; brief = omega arith }
 
 ended-mild : {n : ℕ} (s : List ℕ) (at : ℕ) (l : Line) → Mild n l → Mild n (lines.ended s at l)
@@ -85,28 +85,26 @@ three-mild : {n : ℕ} (f : ℕ → ℕ → ℕ → Line) → ((a b c : ℕ) →
 unfolding lines.three
 three-mild f h s at = then-mild s at _ (λ v after. two-mild (f v) (h v) s after)
 
--- a word is no longer than its line
-word-size : (s : List ℕ) (at : ℕ) → wordAt s at .end - wordAt s at .start ≤ length s
-word-size s at = go (ℕ-discrete (wordAt s at .start) (wordAt s at .end))
+named-mild : (f : ℕ → ℕ → Line) (s : List ℕ) → ((a b : ℕ) → a + b ≤ length s → Mild (length s) (f a b)) → (at : ℕ) → Mild (length s) (lines.named f s at)
+unfolding lines.named none
+named-mild f s h at = go (none (wordAt s at)) refl
   where
-    go : Dec (wordAt s at .start ≡ wordAt s at .end) → wordAt s at .end - wordAt s at .start ≤ length s
-    go (yes e) = omega arith
-    go (no d) = let h = word-inside s at (wordAt s at) refl d in omega arith
-
-named-mild : (f : ℕ → ℕ → Line) (s : List ℕ) → ((a b : ℕ) → b ≤ length s → Mild (length s) (f a b)) → (at : ℕ) → Mild (length s) (lines.named f s at)
-unfolding lines.named
-named-mild f s h at =
-    either (none (wordAt s at)) _ _ (bad-mild _ (omega arith)) (ended-mild s _ _ (h _ _ (word-size s at)))
+    go : (b : Bool) → none (wordAt s at) ≡ b
+        → Mild (length s) (cond b (line.Bad lines.aName) (lines.ended s (wordAt s at .end) (f (wordAt s at .start) (wordAt s at .end - wordAt s at .start))))
+    go true e = bad-mild _ (omega arith)
+    go false e =
+        let i = word-inside s at (wordAt s at) refl (eqb-false _ _ e) in
+        ended-mild s _ _ (h _ _ (omega (arith, i .0, i .1)))
 
 way-mild : {n : ℕ} (s : List ℕ) (at : ℕ) → Mild n (lines.way s at)
-unfolding lines.way kindOf expects nameSize
+unfolding lines.way kindOf expects nameEnd
 way-mild s at =
     let w = wordAt s at in
     either (sameBytes (text s w) (bytes "plain")) _ _ (ended-mild s (w .end) line.CollectPlain (plain _ refl refl))
     (either (sameBytes (text s w) (bytes "clusters")) _ _ (ended-mild s (w .end) line.CollectClusters (plain _ refl refl)) (bad-mild lines.aWay (omega arith)))
 
 follows-mild : (k : Call) (s : List ℕ) (at : ℕ) → Mild (length s) (lines.follows k s at)
-unfolding lines.follows kindOf expects nameSize
+unfolding lines.follows kindOf expects nameEnd
 follows-mild calls.Create s at = two-mild line.Create (λ a b. plain _ refl refl) s at
 follows-mild calls.Allocate s at = one-mild line.Allocate (λ a. plain _ refl refl) s at
 follows-mild calls.Read s at = two-mild line.Read (λ a b. plain _ refl refl) s at
@@ -121,7 +119,7 @@ follows-mild calls.Loaded s at = named-mild line.Loaded s (λ a b h. record { fe
 follows-mild calls.Unknown s at = bad-mild _ (omega arith)
 
 nothing-mild : {n : ℕ} → Mild n line.Nothing
-unfolding kindOf expects nameSize
+unfolding kindOf expects nameEnd
 nothing-mild = plain _ refl refl
 
 parsed-mild : (s : List ℕ) → Mild (length s) (lines.parsed s)
@@ -139,8 +137,11 @@ line-mild s sheet =
     let n : length (take (s .stop - s .start) (drop (s .start) sheet)) ≤ s .stop - s .start = simp length-take (omega arith) in
     either (ltb (s .stop) (s .start)) _ _ nothing-mild (either (ltb full (s .stop)) _ _ nothing-mild (mild-wide _ _ _ n (parsed-mild _)))
 
--- the name that a line gives is no longer than the line
-pub name-brief : (s : Source) (sheet : List ℕ) → nameSize (kindOf (lineAt s sheet)) ≤ s .stop - s .start
+-- the name that a line gives lies in the line
+pub name-inside : (s : List ℕ) → nameEnd (kindOf (lines.parsed s)) ≤ length s
+name-inside s = parsed-mild s .brief
+
+pub name-brief : (s : Source) (sheet : List ℕ) → nameEnd (kindOf (lineAt s sheet)) ≤ s .stop - s .start
 name-brief s sheet = line-mild s sheet .brief
 
 -- what is wrong with a line has a known number

@@ -1,25 +1,26 @@
 -- What the first reading of a list leaves of the sheet.
 -- Assumes nothing.
-use Prim.Native.Nat.{ℕ, zero, _+_, _-_, _≤_, _<_, _%_, _^_}
+use Prim.Native.Nat.{ℕ, zero, suc, _+_, _-_, _≤_, _<_, _%_, _^_}
 use mathlib.Core.Path.{_≡_, refl, sym, ap, _∙_}
 use mathlib.Core.Bool.{Bool, true, false, cond}
 use mathlib.Core.List.{List}
 use mathlib.Core.Logic.{_⊎_, inl, inr}
 use native.Mathlib.Decide.{ℕ-discrete, decLt}
 use native.Mathlib.Omega.{arith}
-use borrow.Author.Tests.{eqb-true, eqb-false}
+use borrow.Author.Tests.{eqb-true, eqb-false, le-ltb}
 use lib.Dec.{eqb}
-use lib.ListN.{getD}
-use lib.Seq.{getD-take, getD-drop}
+use lib.ListN.{length, take, length-take, drop, getD, set, length-set}
+use lib.Seq.{getD-take, getD-drop, getD-set-same, getD-set-other}
 use Rattle.sheet.specs.Sheet.{full, after, copied}
+use Rattle.lines.specs.Line.{parsed}
 use Rattle.lines.specs.declared.Line.{Line}
 use Rattle.files.specs.declared.reading.Source.{Source}
 use Rattle.files.specs.declared.checking.Check.{Check}
-use Rattle.files.specs.Reading.{longest, room, hasLine, lineAt, Apart, Found, Searched}
-use Rattle.files.specs.Checking.{Kind, nothing, create, call, wrote, loaded, bad, kindOf, endedAt, wrotePlace, loadedPlace, plus, nameLength, nameKept, ifWrote, ifLoaded, wroteLength, wroteKept, loadedLength, loadedKept, lineChecked, checkedAfter, namesKept, LineChecked, In, Spared, Left}
+use Rattle.files.specs.Reading.{longest, room, hasLine, lineAt, Lies, Apart, Found, Searched}
+use Rattle.files.specs.Checking.{Kind, nothing, create, call, wrote, loaded, bad, kindOf, endedAt, wrotePlace, loadedPlace, plus, nameLength, nameKept, ifWrote, ifLoaded, wroteLength, wroteKept, loadedLength, loadedKept, lineChecked, checkedAfter, namesKept, LineChecked, In, Spared, NameOf, Behind, Left}
 use Rattle.files.proofs.ReadingLaws.{apart-copied}
-use Rattle.files.proofs.BadLaws.{nameSize, name-brief}
-use Rattle.files.proofs.CheckingLaws.{wrote-stays, loaded-stays, Kept}
+use Rattle.files.proofs.BadLaws.{nameEnd, name-inside, name-brief}
+use Rattle.files.proofs.CheckingLaws.{if-wrote, if-loaded, wrote-stays, loaded-stays, Kept}
 
 -- a byte outside of the only part that changed
 apart-byte : (at n i : ℕ) (s t : List ℕ) → Apart at (at + n) s t → (In at n i → ⊥) → getD t i 0 ≡ getD s i 0
@@ -57,33 +58,33 @@ name-byte sheet at old start length i h m = go (eqb old 0) refl
     go false e s = refl
 
 -- the name of the build that wrote
-wrote-byte : (l : Line) (sheet : List ℕ) (old from i : ℕ) → nameSize (kindOf l) ≤ longest → Spared wrotePlace old (wroteLength l old from) i
+wrote-byte : (l : Line) (sheet : List ℕ) (old from i : ℕ) → nameEnd (kindOf l) ≤ longest → Spared wrotePlace old (wroteLength l old from) i
     → getD (wroteKept l sheet old from) i 0 ≡ getD sheet i 0
-unfolding wroteLength wroteKept ifWrote nameSize
+unfolding wroteLength wroteKept ifWrote nameEnd
 wrote-byte l sheet old from i = go (kindOf l)
   where
-    go : (k : Kind) → nameSize k ≤ longest → Spared wrotePlace old (ifWrote k (λ start length. nameLength wrotePlace old (plus from start) length) old) i
+    go : (k : Kind) → nameEnd k ≤ longest → Spared wrotePlace old (ifWrote k (λ start length. nameLength wrotePlace old (plus from start) length) old) i
         → getD (ifWrote k (λ start length. nameKept sheet wrotePlace old (plus from start) length) sheet) i 0 ≡ getD sheet i 0
     go nothing h s = refl
     go create h s = refl
     go call h s = refl
-    go (wrote start length) h s = name-byte sheet wrotePlace old (plus from start) length i (omega arith) h s
+    go (wrote start length) h s = name-byte sheet wrotePlace old (plus from start) length i (omega arith) (omega (arith, h)) s
     go (loaded start length) h s = refl
     go (bad expected) h s = refl
 
 -- the name of the build that loaded
-loaded-byte : (l : Line) (sheet : List ℕ) (old from i : ℕ) → nameSize (kindOf l) ≤ longest → Spared loadedPlace old (loadedLength l old from) i
+loaded-byte : (l : Line) (sheet : List ℕ) (old from i : ℕ) → nameEnd (kindOf l) ≤ longest → Spared loadedPlace old (loadedLength l old from) i
     → getD (loadedKept l sheet old from) i 0 ≡ getD sheet i 0
-unfolding loadedLength loadedKept ifLoaded nameSize
+unfolding loadedLength loadedKept ifLoaded nameEnd
 loaded-byte l sheet old from i = go (kindOf l)
   where
-    go : (k : Kind) → nameSize k ≤ longest → Spared loadedPlace old (ifLoaded k (λ start length. nameLength loadedPlace old (plus from start) length) old) i
+    go : (k : Kind) → nameEnd k ≤ longest → Spared loadedPlace old (ifLoaded k (λ start length. nameLength loadedPlace old (plus from start) length) old) i
         → getD (ifLoaded k (λ start length. nameKept sheet loadedPlace old (plus from start) length) sheet) i 0 ≡ getD sheet i 0
     go nothing h s = refl
     go create h s = refl
     go call h s = refl
     go (wrote start length) h s = refl
-    go (loaded start length) h s = name-byte sheet loadedPlace old (plus from start) length i (omega arith) h s
+    go (loaded start length) h s = name-byte sheet loadedPlace old (plus from start) length i (omega arith) (omega (arith, h)) s
     go (bad expected) h s = refl
 
 -- a byte that a line leaves, by what is known after it
@@ -100,7 +101,7 @@ names-byte c s sheet i f = go (eqb (s .state) hasLine) refl
         → Spared loadedPlace (c .loaded) (cond b (lineChecked c s l) (endedAt c s) .loaded) i
         → getD (cond b (loadedKept l (wroteKept l sheet (c .wrote) (s .start)) (c .loaded) (s .start)) sheet) i 0 ≡ getD sheet i 0
     go true e w d =
-        let m : nameSize (kindOf l) ≤ longest = omega (arith, name-brief s sheet, f .line (eqb-true _ _ e) .short) in
+        let m : nameEnd (kindOf l) ≤ longest = omega (arith, name-brief s sheet, f .line (eqb-true _ _ e) .short) in
         loaded-byte l _ (c .loaded) (s .start) i m d ∙ wrote-byte l sheet (c .wrote) (s .start) i m w
     go false e w d = refl
 
@@ -130,29 +131,222 @@ spared-both at a b c i f g s = go (ℕ-discrete b 0) s
     go (no d) (inl e) = (inl (sym (g d) ∙ e), inl (g d))
     go (no d) (inr o) = (inr (λ p. o (rw (g d) p)), inl (g d))
 
+-- the place after one byte more
+after-next : (at : ℕ) → at + 1 ≤ full → after at 1 ≡ at + 1
+unfolding after
+after-next at h = omega arith
+
+-- bytes that are copied to a place before them
+copied-byte : (n : ℕ) (s : List ℕ) (at from j : ℕ) → at < from → at + n ≤ full → at + n ≤ length s → j < n
+    → getD (copied s at from n) (at + j) 0 ≡ getD s (from + j) 0
+unfolding copied
+copied-byte zero s at from j h f m l = absurd (omega arith)
+copied-byte (suc n) s at from j h f m l =
+    let b : after at 1 ≡ at + 1 = after-next at (omega arith) in
+    let z = length-set s at (getD s from 0) in
+    go (ℕ-discrete j 0) b (λ d. copied-byte n (set s at (getD s from 0)) (after at 1) (suc from) (j - 1) (omega (arith, b)) (omega (arith, b)) (omega (arith, b, z)) (omega arith))
+  where
+    t : List ℕ
+    t = set s at (getD s from 0)
+
+    go : Dec (j ≡ 0) → after at 1 ≡ at + 1
+        → ((j ≡ 0 → ⊥) → getD (copied t (after at 1) (suc from) n) (after at 1 + (j - 1)) 0 ≡ getD t (suc from + (j - 1)) 0)
+        → getD (copied t (after at 1) (suc from) n) (at + j) 0 ≡ getD s (from + j) 0
+    go (yes e) b r =
+        let p : at + j ≡ at = omega arith in
+        let q : from + j ≡ from = omega arith in
+        rw (p, q) (apart-byte (after at 1) n at t _ (apart-copied n t (after at 1) (suc from)) (λ i. omega (arith, i .0, b)) ∙ getD-set-same s at (getD s from 0) 0 (omega arith))
+    go (no d) b r =
+        let p : after at 1 + (j - 1) ≡ at + j = omega (arith, b) in
+        let q : suc from + (j - 1) ≡ from + j = omega arith in
+        rw (p, q) at (r d) ∙ getD-set-other s at (from + j) (getD s from 0) 0 (λ e. omega arith)
+
+-- a line that lies on the sheet is the one of its bytes
+line-parsed : (s : Source) (sheet : List ℕ) → Lies s → lineAt s sheet ≡ parsed (take (s .stop - s .start) (drop (s .start) sheet))
+unfolding lineAt
+line-parsed s sheet l = rw (le-ltb _ _ (l .forward), le-ltb _ _ (l .inside)) refl
+
+module _ (gives : ℕ → ℕ → Kind) (s : Source) (sheet : List ℕ) (at a n : ℕ) (l : Lies s) (e : kindOf (lineAt s sheet) ≡ gives a n) (h : a + n ≤ s .stop - s .start)
+  (low : at + longest ≤ s .start) (long : at + longest ≤ length sheet) where
+  copied-name : NameOf gives at n (copied sheet at (s .start + a) n)
+  copied-name =
+      let size : length (take (s .stop - s .start) (drop (s .start) sheet)) ≤ longest = simp length-take (omega (arith, l .short)) in
+      record {
+        line = take (s .stop - s .start) (drop (s .start) sheet);
+        start = a;
+        short = size;
+        given = ap kindOf (sym (line-parsed s sheet l)) ∙ e;
+        bytes = λ j p.
+        let q : s .start + (a + j) ≡ s .start + a + j = omega arith in
+        copied-byte n sheet at (s .start + a) j (omega (arith, l)) (omega (arith, l)) (omega (arith, l)) p
+        ∙ sym (getD-take (s .stop - s .start) (drop (s .start) sheet) (a + j) 0 (omega arith) ∙ rw q at (getD-drop (s .start) sheet (a + j) 0));
+      }
+
+  -- the name that a line gives is kept where none was known
+  name-given : (old : ℕ)
+      → (nameLength at old (plus (s .start) a) n ≡ old) ⊎ NameOf gives at (nameLength at old (plus (s .start) a) n) (nameKept sheet at old (plus (s .start) a) n)
+  unfolding nameLength nameKept after
+  name-given old = go (eqb old 0)
+    where
+      from : plus (s .start) a ≡ s .start + a
+      from = omega (arith, l)
+
+      size : plus (s .start + a) n - (s .start + a) ≡ n
+      size = omega (arith, l)
+
+      all : after at n - at ≡ n
+      all = omega (arith, l)
+
+      go : (b : Bool)
+          → (cond b (after at (plus (plus (s .start) a) n - plus (s .start) a) - at) old ≡ old)
+          ⊎ NameOf gives at (cond b (after at (plus (plus (s .start) a) n - plus (s .start) a) - at) old) (cond b (copied sheet at (plus (s .start) a) (plus (plus (s .start) a) n - plus (s .start) a)) sheet)
+      go true = inr (rw (from, size, all) copied-name)
+      go false = inl refl
+
+-- what the names are after a line: as they were, or given by it
+names-given : (c : Check) (s : Source) (sheet : List ℕ) → Found (c .source) s → (s .state ≡ hasLine → loadedPlace + room ≤ s .start) → loadedPlace + room ≤ length sheet
+    → ((checkedAfter c s sheet .wrote ≡ c .wrote) ⊎ NameOf wrote wrotePlace (checkedAfter c s sheet .wrote) (namesKept c s sheet))
+    × ((checkedAfter c s sheet .loaded ≡ c .loaded) ⊎ NameOf loaded loadedPlace (checkedAfter c s sheet .loaded) (namesKept c s sheet))
+unfolding checkedAfter namesKept lineChecked endedAt wroteLength wroteKept loadedLength loadedKept ifWrote ifLoaded nameEnd
+names-given c s sheet f low long = go (eqb (s .state) hasLine) refl
+  where
+    l : Line
+    l = lineAt s sheet
+
+    kinds : (k : Kind) → kindOf l ≡ k → s .state ≡ hasLine
+        → ((ifWrote k (λ a n. nameLength wrotePlace (c .wrote) (plus (s .start) a) n) (c .wrote) ≡ c .wrote)
+        ⊎ NameOf wrote wrotePlace (ifWrote k (λ a n. nameLength wrotePlace (c .wrote) (plus (s .start) a) n) (c .wrote))
+        (ifLoaded k (λ a n. nameKept (ifWrote k (λ a n. nameKept sheet wrotePlace (c .wrote) (plus (s .start) a) n) sheet) loadedPlace (c .loaded) (plus (s .start) a) n) (ifWrote k (λ a n. nameKept sheet wrotePlace (c .wrote) (plus (s .start) a) n) sheet)))
+        × ((ifLoaded k (λ a n. nameLength loadedPlace (c .loaded) (plus (s .start) a) n) (c .loaded) ≡ c .loaded)
+        ⊎ NameOf loaded loadedPlace (ifLoaded k (λ a n. nameLength loadedPlace (c .loaded) (plus (s .start) a) n) (c .loaded))
+        (ifLoaded k (λ a n. nameKept (ifWrote k (λ a n. nameKept sheet wrotePlace (c .wrote) (plus (s .start) a) n) sheet) loadedPlace (c .loaded) (plus (s .start) a) n) (ifWrote k (λ a n. nameKept sheet wrotePlace (c .wrote) (plus (s .start) a) n) sheet)))
+    kinds nothing e h = (inl refl, inl refl)
+    kinds create e h = (inl refl, inl refl)
+    kinds call e h = (inl refl, inl refl)
+    kinds (wrote a n) e h =
+        (name-given wrote s sheet wrotePlace a n (f .line h) e (rw e at (name-brief s sheet)) (omega (arith, low h)) (omega arith) (c .wrote), inl refl)
+    kinds (loaded a n) e h =
+        (inl refl, name-given loaded s sheet loadedPlace a n (f .line h) e (rw e at (name-brief s sheet)) (omega (arith, low h)) (omega arith) (c .loaded))
+    kinds (bad x) e h = (inl refl, inl refl)
+
+    go : (b : Bool) → eqb (s .state) hasLine ≡ b
+        → ((cond b (lineChecked c s l) (endedAt c s) .wrote ≡ c .wrote)
+        ⊎ NameOf wrote wrotePlace (cond b (lineChecked c s l) (endedAt c s) .wrote) (cond b (loadedKept l (wroteKept l sheet (c .wrote) (s .start)) (c .loaded) (s .start)) sheet))
+        × ((cond b (lineChecked c s l) (endedAt c s) .loaded ≡ c .loaded)
+        ⊎ NameOf loaded loadedPlace (cond b (lineChecked c s l) (endedAt c s) .loaded) (cond b (loadedKept l (wroteKept l sheet (c .wrote) (s .start)) (c .loaded) (s .start)) sheet))
+    go true e = kinds (kindOf l) refl (eqb-true _ _ e)
+    go false e = (inl refl, inl refl)
+
+name-length : (sheet : List ℕ) (at old start n : ℕ) → length (nameKept sheet at old start n) ≡ length sheet
+unfolding nameKept
+name-length sheet at old start n = go (eqb old 0)
+  where
+    go : (b : Bool) → length (cond b (copied sheet at start (plus start n - start)) sheet) ≡ length sheet
+    go true = apart-copied _ sheet at start .size
+    go false = refl
+
+names-length : (c : Check) (s : Source) (sheet : List ℕ) → length (namesKept c s sheet) ≡ length sheet
+unfolding namesKept loadedKept wroteKept
+names-length c s sheet = go (eqb (s .state) hasLine)
+  where
+    l : Line
+    l = lineAt s sheet
+
+    first : length (wroteKept l sheet (c .wrote) (s .start)) ≡ length sheet
+    first = if-wrote (λ (x : List ℕ). length x ≡ length sheet) (kindOf l) _ sheet refl (λ a n. name-length sheet _ _ _ _)
+
+    go : (b : Bool) → length (cond b (loadedKept l (wroteKept l sheet (c .wrote) (s .start)) (c .loaded) (s .start)) sheet) ≡ length sheet
+    go true = if-loaded (λ (x : List ℕ). length x ≡ length sheet) (kindOf l) _ _ first (λ a n. name-length _ _ _ _ _ ∙ first)
+    go false = refl
+
+-- a name is no longer than a line
+name-short : (gives : ℕ → ℕ → Kind) → ((a n : ℕ) → n ≤ nameEnd (gives a n)) → (at n : ℕ) (sheet : List ℕ) → NameOf gives at n sheet → n ≤ longest
+name-short gives h at n sheet g = omega (arith, h (g .start) n, rw (g .given) at (name-inside (g .line)), g .short)
+
+wrote-short : (n : ℕ) (sheet : List ℕ) → NameOf wrote wrotePlace n sheet → n ≤ longest
+unfolding nameEnd
+wrote-short n sheet = name-short wrote (λ a m. omega arith) wrotePlace n sheet
+
+loaded-short : (n : ℕ) (sheet : List ℕ) → NameOf loaded loadedPlace n sheet → n ≤ longest
+unfolding nameEnd
+loaded-short n sheet = name-short loaded (λ a m. omega arith) loadedPlace n sheet
+
+-- a name stays while its bytes do
+name-moves : (gives : ℕ → ℕ → Kind) (at m n : ℕ) (before left : List ℕ) → n ≡ m → ((j : ℕ) → j < m → getD left (at + j) 0 ≡ getD before (at + j) 0)
+    → NameOf gives at m before
+    → NameOf gives at n left
+name-moves gives at m n before left e h g =
+    record {
+      line = g .line;
+      start = g .start;
+      short = g .short;
+      given = rw e (g .given);
+      bytes = λ j p. let q : j < m = omega arith in h j q ∙ g .bytes j q;
+    }
+
 -- nothing read
 pub left-none : (c : Check) (sheet : List ℕ) → Left (c .source) (c .wrote) (c .loaded) c sheet sheet
-left-none c sheet = record { others = λ i o w d. refl }
+left-none c sheet =
+    record { size = refl; others = λ i o w d. refl; wrote-given = λ b. inl refl; loaded-given = λ b. inl refl }
 
 -- one line more
-pub left-more : (c₀ c r : Check) (n : ℕ) (sheet before left : List ℕ) → Kept c₀ c n → Left (c₀ .source) (c₀ .wrote) (c₀ .loaded) c sheet before
-    → LineChecked c before r left
-    → Left (c₀ .source) (c₀ .wrote) (c₀ .loaded) r sheet left
-left-more c₀ c r n sheet before left k l q = record { others = stay }
-  where
-    known : ((c .wrote ≡ 0 → ⊥) → r .wrote ≡ c .wrote) × ((c .loaded ≡ 0 → ⊥) → r .loaded ≡ c .loaded)
-    known = rw (q .answer) (known-after c (r .source) (q .sheet))
+module _ (c₀ c r : Check) (n : ℕ) (sheet before left : List ℕ) (k : Kept c₀ c n) (l : Left (c₀ .source) (c₀ .wrote) (c₀ .loaded) c sheet before) (q : LineChecked c before r left) where
+  known : ((c .wrote ≡ 0 → ⊥) → r .wrote ≡ c .wrote) × ((c .loaded ≡ 0 → ⊥) → r .loaded ≡ c .loaded)
+  known = rw (q .answer) (known-after c (r .source) (q .sheet))
 
-    line : (i : ℕ) → (In (c₀ .source .base) room i → ⊥) → Spared wrotePlace (c .wrote) (r .wrote) i → Spared loadedPlace (c .loaded) (r .loaded) i
-        → getD left i 0 ≡ getD before i 0
-    line i o w d =
-        ap (λ (x : List ℕ). getD x i 0) (q .names)
-        ∙ names-byte c (r .source) (q .sheet) i (q .found) (rw (q .answer) at w) (rw (q .answer) at d)
-        ∙ apart-byte (c .source .base) room i before (q .sheet) (q .search .own) (λ p. o (rw (k .part) at p))
+  line : (i : ℕ) → (In (c₀ .source .base) room i → ⊥) → Spared wrotePlace (c .wrote) (r .wrote) i → Spared loadedPlace (c .loaded) (r .loaded) i
+      → getD left i 0 ≡ getD before i 0
+  line i o w d =
+      ap (λ (x : List ℕ). getD x i 0) (q .names)
+      ∙ names-byte c (r .source) (q .sheet) i (q .found) (rw (q .answer) at w) (rw (q .answer) at d)
+      ∙ apart-byte (c .source .base) room i before (q .sheet) (q .search .own) (λ p. o (rw (k .part) at p))
 
-    stay : (i : ℕ) → (In (c₀ .source .base) room i → ⊥) → Spared wrotePlace (c₀ .wrote) (r .wrote) i → Spared loadedPlace (c₀ .loaded) (r .loaded) i
-        → getD left i 0 ≡ getD sheet i 0
-    stay i o w d =
-        let ws = spared-both wrotePlace (c₀ .wrote) (c .wrote) (r .wrote) i (k .wrote-kept) (known .0) w in
-        let ds = spared-both loadedPlace (c₀ .loaded) (c .loaded) (r .loaded) i (k .loaded-kept) (known .1) d in
-        line i o (ws .1) (ds .1) ∙ l .others i o (ws .0) (ds .0)
+  stay : (i : ℕ) → (In (c₀ .source .base) room i → ⊥) → Spared wrotePlace (c₀ .wrote) (r .wrote) i → Spared loadedPlace (c₀ .loaded) (r .loaded) i
+      → getD left i 0 ≡ getD sheet i 0
+  stay i o w d =
+      let ws = spared-both wrotePlace (c₀ .wrote) (c .wrote) (r .wrote) i (k .wrote-kept) (known .0) w in
+      let ds = spared-both loadedPlace (c₀ .loaded) (c .loaded) (r .loaded) i (k .loaded-kept) (known .1) d in
+      line i o (ws .1) (ds .1) ∙ l .others i o (ws .0) (ds .0)
+
+  step : Behind (c₀ .source) sheet
+      → ((r .wrote ≡ c .wrote) ⊎ NameOf wrote wrotePlace (r .wrote) left) × ((r .loaded ≡ c .loaded) ⊎ NameOf loaded loadedPlace (r .loaded) left)
+  step b =
+      let w : r .wrote ≡ checkedAfter c (r .source) (q .sheet) .wrote = ap (λ (x : Check). x .wrote) (q .answer) in
+      let d : r .loaded ≡ checkedAfter c (r .source) (q .sheet) .loaded = ap (λ (x : Check). x .loaded) (q .answer) in
+      rw (w, d, q .names)
+      (names-given c (r .source) (q .sheet) (q .found) (λ e. omega (arith, b, q .found .behind (k .behind (b .1 .1)) .1 e, q .found .part, k .part))
+      (omega (arith, b, q .search .own .size, l .size)))
+
+  wrote-name : Behind (c₀ .source) sheet → (r .wrote ≡ c .wrote) ⊎ NameOf wrote wrotePlace (r .wrote) left
+      → (c .wrote ≡ c₀ .wrote) ⊎ NameOf wrote wrotePlace (c .wrote) before
+      → (r .wrote ≡ c₀ .wrote) ⊎ NameOf wrote wrotePlace (r .wrote) left
+  wrote-name b (inr g) old = inr g
+  wrote-name b (inl e) (inl z) = inl (e ∙ z)
+  wrote-name b (inl e) (inr g) =
+      let m = wrote-short _ _ g in
+      inr
+      (name-moves wrote wrotePlace _ _ _ _ e (λ j h. line (wrotePlace + j) (λ p. omega (arith, p .0, b .0)) (inl e) (inr (λ p. omega (arith, p .0)))) g)
+
+  loaded-name : Behind (c₀ .source) sheet → (r .wrote ≡ c .wrote) ⊎ NameOf wrote wrotePlace (r .wrote) left
+      → (r .loaded ≡ c .loaded) ⊎ NameOf loaded loadedPlace (r .loaded) left
+      → (c .loaded ≡ c₀ .loaded) ⊎ NameOf loaded loadedPlace (c .loaded) before
+      → (r .loaded ≡ c₀ .loaded) ⊎ NameOf loaded loadedPlace (r .loaded) left
+  loaded-name b w (inr g) old = inr g
+  loaded-name b w (inl e) (inl z) = inl (e ∙ z)
+  loaded-name b w (inl e) (inr g) =
+      let m = loaded-short _ _ g in
+      inr
+      (name-moves loaded loadedPlace _ _ _ _ e (λ j h. line (loadedPlace + j) (λ p. omega (arith, p .0, b .0)) (spared j w) (inl e)) g)
+    where
+      spared : (j : ℕ) → (r .wrote ≡ c .wrote) ⊎ NameOf wrote wrotePlace (r .wrote) left → Spared wrotePlace (c .wrote) (r .wrote) (loadedPlace + j)
+      spared j (inl z) = inl z
+      spared j (inr y) = inr (λ p. omega (arith, p .1, wrote-short _ _ y))
+
+  pub left-more : Left (c₀ .source) (c₀ .wrote) (c₀ .loaded) r sheet left
+  left-more =
+      record {
+        size = ap length (q .names) ∙ names-length c (r .source) (q .sheet) ∙ q .search .own .size ∙ l .size;
+        others = stay;
+        wrote-given = λ b. wrote-name b (step b .0) (l .wrote-given b);
+        loaded-given = λ b. loaded-name b (step b .0) (step b .1) (l .loaded-given b);
+      }

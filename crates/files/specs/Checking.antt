@@ -5,17 +5,17 @@ use mathlib.Core.Bool.{Bool, true, false, not, cond, _||_}
 use mathlib.Core.List.{List, [], _∷_, _++_}
 use mathlib.Core.Logic.{_⊎_}
 use lib.Dec.{eqb}
-use lib.ListN.{getD}
+use lib.ListN.{length, getD}
 use Rattle.sheet.specs.Sheet.{after, copied}
 use Rattle.sheet.specs.Numerals.{decimalText}
 use Rattle.tokens.specs.Text.{bytes}
 use Rattle.tokens.specs.Table.{look}
-use Rattle.lines.specs.Line.{aNumber, aSmallNumber, theEnd, aWay, aName}
+use Rattle.lines.specs.Line.{parsed, aNumber, aSmallNumber, theEnd, aWay, aName}
 use Rattle.lines.specs.declared.Line.{Line}
 use Rattle.lines.specs.declared.Line.the-variants as line
 use Rattle.files.specs.declared.reading.Source.{Source}
 use Rattle.files.specs.declared.checking.Check.{Check}
-use Rattle.files.specs.Reading.{room, hasLine, hasLong, hasFailed, lineAt, Found, Searched}
+use Rattle.files.specs.Reading.{longest, room, hasLine, hasLong, hasFailed, lineAt, Found, Searched}
 
 -- a call stands before create
 abbrev pub notCreate : ℕ
@@ -220,10 +220,26 @@ In at n i = (at ≤ i) × (i < at + n)
 abbrev pub Spared : ℕ → ℕ → ℕ → ℕ → Type 0
 Spared at known length i = (length ≡ known) ⊎ (In at length i → ⊥)
 
+-- the n bytes at `at` are a name that some line gave; `gives` is the kind of such lines
+pub record NameOf (gives : ℕ → ℕ → Kind) (at n : ℕ) (sheet : List ℕ) : Type 0 where
+  pub line : List ℕ
+  pub start : ℕ
+  pub short : length line ≤ longest
+  pub given : kindOf (parsed line) ≡ gives start n
+  pub bytes : (j : ℕ) → j < n → getD sheet (at + j) 0 ≡ getD line (start + j) 0
+
+-- the list's part lies on the sheet and behind the names, and the bytes to use lie in the part
+abbrev pub Behind : Source → List ℕ → Type 0
+Behind s sheet = (loadedPlace + room ≤ s .base) × ((s .base ≤ length sheet) × (s .base ≤ s .from))
+
 -- what the first reading of a list leaves of the sheet: only the list's own part and the names that became known change
-pub record Left (source : Source) (wrote loaded : ℕ) (r : Check) (sheet left : List ℕ) : Type 0 where
-  pub others : (i : ℕ) → (In (source .base) room i → ⊥) → Spared wrotePlace wrote (r .wrote) i → Spared loadedPlace loaded (r .loaded) i
+pub record Left (source : Source) (oldWrote oldLoaded : ℕ) (r : Check) (sheet left : List ℕ) : Type 0 where
+  pub size : length left ≡ length sheet
+  pub others : (i : ℕ) → (In (source .base) room i → ⊥) → Spared wrotePlace oldWrote (r .wrote) i → Spared loadedPlace oldLoaded (r .loaded) i
       → getD left i 0 ≡ getD sheet i 0
+  -- each name is the one that was known, or one that a line gave
+  pub wrote-given : Behind source sheet → (r .wrote ≡ oldWrote) ⊎ NameOf wrote wrotePlace (r .wrote) left
+  pub loaded-given : Behind source sheet → (r .loaded ≡ oldLoaded) ⊎ NameOf loaded loadedPlace (r .loaded) left
 
 -- what a line should have had
 unfoldable pub expectedWords : ℕ → List ℕ
