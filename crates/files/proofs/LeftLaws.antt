@@ -167,7 +167,7 @@ unfolding lineAt
 line-parsed s sheet l = rw (le-ltb _ _ (l .forward), le-ltb _ _ (l .inside)) refl
 
 module _ (gives : ℕ → ℕ → Kind) (s : Source) (sheet : List ℕ) (at a n : ℕ) (l : Lies s) (e : kindOf (lineAt s sheet) ≡ gives a n) (h : a + n ≤ s .stop - s .start)
-  (low : at + longest ≤ s .start) (long : at + longest ≤ length sheet) where
+    (low : at + longest ≤ s .start) (long : at + longest ≤ length sheet) where
   copied-name : NameOf gives at n (copied sheet at (s .start + a) n)
   copied-name =
       let size : length (take (s .stop - s .start) (drop (s .start) sheet)) ≤ longest = simp length-take (omega (arith, l .short)) in
@@ -177,9 +177,9 @@ module _ (gives : ℕ → ℕ → Kind) (s : Source) (sheet : List ℕ) (at a n 
         short = size;
         given = ap kindOf (sym (line-parsed s sheet l)) ∙ e;
         bytes = λ j p.
-        let q : s .start + (a + j) ≡ s .start + a + j = omega arith in
-        copied-byte n sheet at (s .start + a) j (omega (arith, l)) (omega (arith, l)) (omega (arith, l)) p
-        ∙ sym (getD-take (s .stop - s .start) (drop (s .start) sheet) (a + j) 0 (omega arith) ∙ rw q at (getD-drop (s .start) sheet (a + j) 0));
+            let q : s .start + (a + j) ≡ s .start + a + j = omega arith in
+            copied-byte n sheet at (s .start + a) j (omega (arith, l)) (omega (arith, l)) (omega (arith, l)) p
+            ∙ sym (getD-take (s .stop - s .start) (drop (s .start) sheet) (a + j) 0 (omega arith) ∙ rw q at (getD-drop (s .start) sheet (a + j) 0));
       }
 
   -- the name that a line gives is kept where none was known
@@ -203,37 +203,35 @@ module _ (gives : ℕ → ℕ → Kind) (s : Source) (sheet : List ℕ) (at a n 
       go true = inr (rw (from, size, all) copied-name)
       go false = inl refl
 
--- what the names are after a line: as they were, or given by it
+-- the lengths w and d of the names are those of c, or the names are such as lines gave
+abbrev Names : Check → ℕ → ℕ → List ℕ → Type 0
+Names c w d left =
+    ((w ≡ c .wrote) ⊎ NameOf wrote wrotePlace w left) × ((d ≡ c .loaded) ⊎ NameOf loaded loadedPlace d left)
+
+-- the names after a line
 names-given : (c : Check) (s : Source) (sheet : List ℕ) → Found (c .source) s → (s .state ≡ hasLine → loadedPlace + room ≤ s .start) → loadedPlace + room ≤ length sheet
-    → ((checkedAfter c s sheet .wrote ≡ c .wrote) ⊎ NameOf wrote wrotePlace (checkedAfter c s sheet .wrote) (namesKept c s sheet))
-    × ((checkedAfter c s sheet .loaded ≡ c .loaded) ⊎ NameOf loaded loadedPlace (checkedAfter c s sheet .loaded) (namesKept c s sheet))
+    → Names c (checkedAfter c s sheet .wrote) (checkedAfter c s sheet .loaded) (namesKept c s sheet)
 unfolding checkedAfter namesKept lineChecked endedAt wroteLength wroteKept loadedLength loadedKept ifWrote ifLoaded nameEnd
 names-given c s sheet f low long = go (eqb (s .state) hasLine) refl
   where
     l : Line
     l = lineAt s sheet
 
-    kinds : (k : Kind) → kindOf l ≡ k → s .state ≡ hasLine
-        → ((ifWrote k (λ a n. nameLength wrotePlace (c .wrote) (plus (s .start) a) n) (c .wrote) ≡ c .wrote)
-        ⊎ NameOf wrote wrotePlace (ifWrote k (λ a n. nameLength wrotePlace (c .wrote) (plus (s .start) a) n) (c .wrote))
-        (ifLoaded k (λ a n. nameKept (ifWrote k (λ a n. nameKept sheet wrotePlace (c .wrote) (plus (s .start) a) n) sheet) loadedPlace (c .loaded) (plus (s .start) a) n) (ifWrote k (λ a n. nameKept sheet wrotePlace (c .wrote) (plus (s .start) a) n) sheet)))
-        × ((ifLoaded k (λ a n. nameLength loadedPlace (c .loaded) (plus (s .start) a) n) (c .loaded) ≡ c .loaded)
-        ⊎ NameOf loaded loadedPlace (ifLoaded k (λ a n. nameLength loadedPlace (c .loaded) (plus (s .start) a) n) (c .loaded))
-        (ifLoaded k (λ a n. nameKept (ifWrote k (λ a n. nameKept sheet wrotePlace (c .wrote) (plus (s .start) a) n) sheet) loadedPlace (c .loaded) (plus (s .start) a) n) (ifWrote k (λ a n. nameKept sheet wrotePlace (c .wrote) (plus (s .start) a) n) sheet)))
-    kinds nothing e h = (inl refl, inl refl)
-    kinds create e h = (inl refl, inl refl)
-    kinds call e h = (inl refl, inl refl)
+    kept : List ℕ
+    kept = loadedKept l (wroteKept l sheet (c .wrote) (s .start)) (c .loaded) (s .start)
+
+    kinds : (k : Kind) → kindOf l ≡ k → s .state ≡ hasLine → Names c (wroteLength l (c .wrote) (s .start)) (loadedLength l (c .loaded) (s .start)) kept
+    kinds nothing e h = rw e (inl refl, inl refl)
+    kinds create e h = rw e (inl refl, inl refl)
+    kinds call e h = rw e (inl refl, inl refl)
     kinds (wrote a n) e h =
-        (name-given wrote s sheet wrotePlace a n (f .line h) e (rw e at (name-brief s sheet)) (omega (arith, low h)) (omega arith) (c .wrote), inl refl)
+        rw e (name-given wrote s sheet wrotePlace a n (f .line h) e (rw e at (name-brief s sheet)) (omega (arith, low h)) (omega arith) (c .wrote), inl refl)
     kinds (loaded a n) e h =
-        (inl refl, name-given loaded s sheet loadedPlace a n (f .line h) e (rw e at (name-brief s sheet)) (omega (arith, low h)) (omega arith) (c .loaded))
-    kinds (bad x) e h = (inl refl, inl refl)
+        rw e (inl refl, name-given loaded s sheet loadedPlace a n (f .line h) e (rw e at (name-brief s sheet)) (omega (arith, low h)) (omega arith) (c .loaded))
+    kinds (bad x) e h = rw e (inl refl, inl refl)
 
     go : (b : Bool) → eqb (s .state) hasLine ≡ b
-        → ((cond b (lineChecked c s l) (endedAt c s) .wrote ≡ c .wrote)
-        ⊎ NameOf wrote wrotePlace (cond b (lineChecked c s l) (endedAt c s) .wrote) (cond b (loadedKept l (wroteKept l sheet (c .wrote) (s .start)) (c .loaded) (s .start)) sheet))
-        × ((cond b (lineChecked c s l) (endedAt c s) .loaded ≡ c .loaded)
-        ⊎ NameOf loaded loadedPlace (cond b (lineChecked c s l) (endedAt c s) .loaded) (cond b (loadedKept l (wroteKept l sheet (c .wrote) (s .start)) (c .loaded) (s .start)) sheet))
+        → Names c (cond b (lineChecked c s l) (endedAt c s) .wrote) (cond b (lineChecked c s l) (endedAt c s) .loaded) (cond b kept sheet)
     go true e = kinds (kindOf l) refl (eqb-true _ _ e)
     go false e = (inl refl, inl refl)
 
@@ -308,8 +306,7 @@ module _ (c₀ c r : Check) (n : ℕ) (sheet before left : List ℕ) (k : Kept c
       let ds = spared-both loadedPlace (c₀ .loaded) (c .loaded) (r .loaded) i (k .loaded-kept) (known .1) d in
       line i o (ws .1) (ds .1) ∙ l .others i o (ws .0) (ds .0)
 
-  step : Behind (c₀ .source) sheet
-      → ((r .wrote ≡ c .wrote) ⊎ NameOf wrote wrotePlace (r .wrote) left) × ((r .loaded ≡ c .loaded) ⊎ NameOf loaded loadedPlace (r .loaded) left)
+  step : Behind (c₀ .source) sheet → Names c (r .wrote) (r .loaded) left
   step b =
       let w : r .wrote ≡ checkedAfter c (r .source) (q .sheet) .wrote = ap (λ (x : Check). x .wrote) (q .answer) in
       let d : r .loaded ≡ checkedAfter c (r .source) (q .sheet) .loaded = ap (λ (x : Check). x .loaded) (q .answer) in
@@ -317,36 +314,36 @@ module _ (c₀ c r : Check) (n : ℕ) (sheet before left : List ℕ) (k : Kept c
       (names-given c (r .source) (q .sheet) (q .found) (λ e. omega (arith, b, q .found .behind (k .behind (b .1 .1)) .1 e, q .found .part, k .part))
       (omega (arith, b, q .search .own .size, l .size)))
 
-  wrote-name : Behind (c₀ .source) sheet → (r .wrote ≡ c .wrote) ⊎ NameOf wrote wrotePlace (r .wrote) left
-      → (c .wrote ≡ c₀ .wrote) ⊎ NameOf wrote wrotePlace (c .wrote) before
-      → (r .wrote ≡ c₀ .wrote) ⊎ NameOf wrote wrotePlace (r .wrote) left
-  wrote-name b (inr g) old = inr g
-  wrote-name b (inl e) (inl z) = inl (e ∙ z)
-  wrote-name b (inl e) (inr g) =
-      let m = wrote-short _ _ g in
-      inr
-      (name-moves wrote wrotePlace _ _ _ _ e (λ j h. line (wrotePlace + j) (λ p. omega (arith, p .0, b .0)) (inl e) (inr (λ p. omega (arith, p .0)))) g)
-
-  loaded-name : Behind (c₀ .source) sheet → (r .wrote ≡ c .wrote) ⊎ NameOf wrote wrotePlace (r .wrote) left
-      → (r .loaded ≡ c .loaded) ⊎ NameOf loaded loadedPlace (r .loaded) left
-      → (c .loaded ≡ c₀ .loaded) ⊎ NameOf loaded loadedPlace (c .loaded) before
-      → (r .loaded ≡ c₀ .loaded) ⊎ NameOf loaded loadedPlace (r .loaded) left
-  loaded-name b w (inr g) old = inr g
-  loaded-name b w (inl e) (inl z) = inl (e ∙ z)
-  loaded-name b w (inl e) (inr g) =
-      let m = loaded-short _ _ g in
-      inr
-      (name-moves loaded loadedPlace _ _ _ _ e (λ j h. line (loadedPlace + j) (λ p. omega (arith, p .0, b .0)) (spared j w) (inl e)) g)
+  names : Behind (c₀ .source) sheet → Names c (r .wrote) (r .loaded) left → Names c₀ (c .wrote) (c .loaded) before → Names c₀ (r .wrote) (r .loaded) left
+  names b (w, d) (w₀, d₀) = (first w w₀, second d d₀)
     where
+      first : (r .wrote ≡ c .wrote) ⊎ NameOf wrote wrotePlace (r .wrote) left → (c .wrote ≡ c₀ .wrote) ⊎ NameOf wrote wrotePlace (c .wrote) before
+          → (r .wrote ≡ c₀ .wrote) ⊎ NameOf wrote wrotePlace (r .wrote) left
+      first (inr g) old = inr g
+      first (inl e) (inl z) = inl (e ∙ z)
+      first (inl e) (inr g) =
+          let m = wrote-short _ _ g in
+          inr
+          (name-moves wrote wrotePlace _ _ _ _ e (λ j h. line (wrotePlace + j) (λ p. omega (arith, p .0, b .0)) (inl e) (inr (λ p. omega (arith, p .0)))) g)
+
       spared : (j : ℕ) → (r .wrote ≡ c .wrote) ⊎ NameOf wrote wrotePlace (r .wrote) left → Spared wrotePlace (c .wrote) (r .wrote) (loadedPlace + j)
       spared j (inl z) = inl z
       spared j (inr y) = inr (λ p. omega (arith, p .1, wrote-short _ _ y))
+
+      second : (r .loaded ≡ c .loaded) ⊎ NameOf loaded loadedPlace (r .loaded) left → (c .loaded ≡ c₀ .loaded) ⊎ NameOf loaded loadedPlace (c .loaded) before
+          → (r .loaded ≡ c₀ .loaded) ⊎ NameOf loaded loadedPlace (r .loaded) left
+      second (inr g) old = inr g
+      second (inl e) (inl z) = inl (e ∙ z)
+      second (inl e) (inr g) =
+          let m = loaded-short _ _ g in
+          inr
+          (name-moves loaded loadedPlace _ _ _ _ e (λ j h. line (loadedPlace + j) (λ p. omega (arith, p .0, b .0)) (spared j w) (inl e)) g)
 
   pub left-more : Left (c₀ .source) (c₀ .wrote) (c₀ .loaded) r sheet left
   left-more =
       record {
         size = ap length (q .names) ∙ names-length c (r .source) (q .sheet) ∙ q .search .own .size ∙ l .size;
         others = stay;
-        wrote-given = λ b. wrote-name b (step b .0) (l .wrote-given b);
-        loaded-given = λ b. loaded-name b (step b .0) (step b .1) (l .loaded-given b);
+        wrote-given = λ b. names b (step b) (l .wrote-given b, l .loaded-given b) .0;
+        loaded-given = λ b. names b (step b) (l .wrote-given b, l .loaded-given b) .1;
       }
