@@ -61,31 +61,29 @@ name-byte sheet at old start length i h m = go (eqb old 0) refl
 wrote-byte : (l : Line) (sheet : List ℕ) (old from i : ℕ) → nameEnd (kindOf l) ≤ longest → Spared wrotePlace old (wroteLength l old from) i
     → getD (wroteKept l sheet old from) i 0 ≡ getD sheet i 0
 unfolding wroteLength wroteKept ifWrote nameEnd
-wrote-byte l sheet old from i = go (kindOf l)
+wrote-byte l sheet old from i h s = go (kindOf l) refl
   where
-    go : (k : Kind) → nameEnd k ≤ longest → Spared wrotePlace old (ifWrote k (λ start length. nameLength wrotePlace old (plus from start) length) old) i
-        → getD (ifWrote k (λ start length. nameKept sheet wrotePlace old (plus from start) length) sheet) i 0 ≡ getD sheet i 0
-    go nothing h s = refl
-    go create h s = refl
-    go call h s = refl
-    go (wrote start length) h s = name-byte sheet wrotePlace old (plus from start) length i (omega arith) (omega (arith, h)) s
-    go (loaded start length) h s = refl
-    go (bad expected) h s = refl
+    go : (k : Kind) → kindOf l ≡ k → getD (wroteKept l sheet old from) i 0 ≡ getD sheet i 0
+    go nothing e = rw e refl
+    go create e = rw e refl
+    go call e = rw e refl
+    go (wrote start length) e = rw e (name-byte sheet _ old _ length i (omega arith) (omega (arith, rw e at h)) (rw e at s))
+    go (loaded start length) e = rw e refl
+    go (bad expected) e = rw e refl
 
 -- the name of the build that loaded
 loaded-byte : (l : Line) (sheet : List ℕ) (old from i : ℕ) → nameEnd (kindOf l) ≤ longest → Spared loadedPlace old (loadedLength l old from) i
     → getD (loadedKept l sheet old from) i 0 ≡ getD sheet i 0
 unfolding loadedLength loadedKept ifLoaded nameEnd
-loaded-byte l sheet old from i = go (kindOf l)
+loaded-byte l sheet old from i h s = go (kindOf l) refl
   where
-    go : (k : Kind) → nameEnd k ≤ longest → Spared loadedPlace old (ifLoaded k (λ start length. nameLength loadedPlace old (plus from start) length) old) i
-        → getD (ifLoaded k (λ start length. nameKept sheet loadedPlace old (plus from start) length) sheet) i 0 ≡ getD sheet i 0
-    go nothing h s = refl
-    go create h s = refl
-    go call h s = refl
-    go (wrote start length) h s = refl
-    go (loaded start length) h s = name-byte sheet loadedPlace old (plus from start) length i (omega arith) (omega (arith, h)) s
-    go (bad expected) h s = refl
+    go : (k : Kind) → kindOf l ≡ k → getD (loadedKept l sheet old from) i 0 ≡ getD sheet i 0
+    go nothing e = rw e refl
+    go create e = rw e refl
+    go call e = rw e refl
+    go (wrote start length) e = rw e refl
+    go (loaded start length) e = rw e (name-byte sheet _ old _ length i (omega arith) (omega (arith, rw e at h)) (rw e at s))
+    go (bad expected) e = rw e refl
 
 -- a byte that a line leaves, by what is known after it
 names-byte : (c : Check) (s : Source) (sheet : List ℕ) (i : ℕ) → Found (c .source) s → Spared wrotePlace (c .wrote) (checkedAfter c s sheet .wrote) i
