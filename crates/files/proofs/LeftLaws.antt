@@ -1,13 +1,13 @@
 -- What the first reading of a list leaves of the sheet.
 -- Assumes nothing.
-use Prim.Native.Nat.{ℕ, zero, suc, _+_, _-_, _≤_, _<_, _%_, _^_}
+use Prim.Native.Nat.{ℕ, zero, suc, _+_, _-_, _≤_, _<_}
 use mathlib.Core.Path.{_≡_, refl, sym, ap, _∙_}
 use mathlib.Core.Bool.{Bool, true, false, cond}
 use mathlib.Core.List.{List}
 use mathlib.Core.Logic.{_⊎_, inl, inr}
 use native.Mathlib.Decide.{ℕ-discrete, decLt}
 use native.Mathlib.Omega.{arith}
-use borrow.Author.Tests.{eqb-true, eqb-false, le-ltb}
+use borrow.Author.Tests.{eqb-true, le-ltb}
 use lib.Dec.{eqb}
 use lib.ListN.{length, take, length-take, drop, getD, set, length-set}
 use lib.Seq.{getD-take, getD-drop, getD-set-same, getD-set-other}
@@ -16,7 +16,7 @@ use Rattle.lines.specs.Line.{parsed}
 use Rattle.lines.specs.declared.Line.{Line}
 use Rattle.files.specs.declared.reading.Source.{Source}
 use Rattle.files.specs.declared.checking.Check.{Check}
-use Rattle.files.specs.Reading.{longest, room, hasLine, lineAt, Lies, Apart, Found, Searched}
+use Rattle.files.specs.Reading.{longest, room, hasLine, lineAt, Lies, Apart, Found}
 use Rattle.files.specs.Checking.{Kind, nothing, create, call, wrote, loaded, bad, kindOf, endedAt, wrotePlace, loadedPlace, plus, nameLength, nameKept, ifWrote, ifLoaded, wroteLength, wroteKept, loadedLength, loadedKept, lineChecked, checkedAfter, namesKept, LineChecked, In, Spared, NameOf, Behind, Left}
 use Rattle.files.proofs.ReadingLaws.{apart-copied}
 use Rattle.files.proofs.BadLaws.{nameEnd, name-inside, name-brief}

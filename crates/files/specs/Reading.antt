@@ -107,7 +107,7 @@ pub record Found (s r : Source) : Type 0 where
   pub counted : r .number ≡ numberAfter (r .state) (s .number)
   pub line : r .state ≡ hasLine → Lies r
   pub little : r .state ≡ needsMore → r .end - r .from ≤ longest
-  -- where no byte to use lies before the list's part, neither the line found does, nor what is to be used after it
+  -- where no byte to use lies before the list's part, neither does the line found, nor what is to be used after it
   pub behind : s .base ≤ s .from → (r .base ≤ r .from) × (r .state ≡ hasLine → r .base ≤ r .start)
 
 -- the sheet `left` is `sheet` but for its bytes from `from` up to `to`
