@@ -1,14 +1,18 @@
--- What a bad line should have had is one of six things.
+-- What a bad line should have had is one of six things, and a name is no longer than its line.
 -- Assumes nothing.
-use Prim.Native.Nat.{ℕ, _≤_}
+use Prim.Native.Nat.{ℕ, _+_, _-_, _≤_}
+use mathlib.Core.Path.{_≡_, refl}
 use mathlib.Core.Bool.{Bool, true, false, cond}
 use mathlib.Core.List.{List}
 use mathlib.Core.Logic.{inl, inr}
 use native.Mathlib.Omega.{arith}
+use borrow.Author.Tests.{eqb-false}
 use lib.Dec.{ltb}
+use lib.ListN.{length, take, length-take, drop}
 use Rattle.sheet.specs.Sheet.{full}
 use Rattle.tokens.specs.Text.{bytes}
 use Rattle.tokens.specs.Word.{wordAt, none, text, sameBytes}
+use Rattle.tokens.proofs.WordLaws.{word-inside}
 use Rattle.tokens.specs.Numeral.{valueOf}
 use Rattle.tokens.specs.declared.numbers.Number.{Number}
 use Rattle.tokens.specs.declared.numbers.Number.the-variants as number
@@ -30,84 +34,115 @@ expects (wrote start length) = 0
 expects (loaded start length) = 0
 expects (bad expected) = expected
 
--- a line that is not bad, or expects one of the six
-record Mild (l : Line) : Type 0 where
-  few : expects (kindOf l) ≤ 6
+-- where the name that a line gives ends; 0 for none
+unfoldable pub nameEnd : Kind → ℕ
+nameEnd nothing = 0
+nameEnd create = 0
+nameEnd call = 0
+nameEnd (wrote start length) = start + length
+nameEnd (loaded start length) = start + length
+nameEnd (bad expected) = 0
 
-either : (b : Bool) (x y : Line) → Mild x → Mild y → Mild (cond b x y)
+-- a line that is not bad, or expects one of the six; its name ends at n or before
+record Mild (n : ℕ) (l : Line) : Type 0 where
+  few : expects (kindOf l) ≤ 6
+  brief : nameEnd (kindOf l) ≤ n
+
+either : {n : ℕ} (b : Bool) (x y : Line) → Mild n x → Mild n y → Mild n (cond b x y)
 either true x y p q = p
 either false x y p q = q
 
-bad-mild : (e : ℕ) → e ≤ 6 → Mild (line.Bad e)
-unfolding expects kindOf
-bad-mild e h = record { few = h }
+-- a line that is not bad and gives no name
+plain : {n : ℕ} (l : Line) → expects (kindOf l) ≡ 0 → nameEnd (kindOf l) ≡ 0 → Mild n l
+plain l e f = record { few = omega arith; brief = omega arith }
 
-ended-mild : (s : List ℕ) (at : ℕ) (l : Line) → Mild l → Mild (lines.ended s at l)
+bad-mild : {n : ℕ} (e : ℕ) → e ≤ 6 → Mild n (line.Bad e)
+unfolding expects nameEnd kindOf
+bad-mild e h = record { few = h; brief = omega arith }
+
+ended-mild : {n : ℕ} (s : List ℕ) (at : ℕ) (l : Line) → Mild n l → Mild n (lines.ended s at l)
 unfolding lines.ended
 ended-mild s at l m = either (none (wordAt s at)) _ _ m (bad-mild _ (omega arith))
 
-then-mild : (s : List ℕ) (at : ℕ) (k : ℕ → ℕ → Line) → ((v after : ℕ) → Mild (k v after)) → Mild (lines.andThen (lines.numberAt s at) k)
+then-mild : {n : ℕ} (s : List ℕ) (at : ℕ) (k : ℕ → ℕ → Line) → ((v after : ℕ) → Mild n (k v after)) → Mild n (lines.andThen (lines.numberAt s at) k)
 unfolding lines.andThen lines.numberAt lines.nextOf
-then-mild s at k h = go (valueOf (text s (wordAt s at))) (wordAt s at .end)
+then-mild {n} s at k h = go (valueOf (text s (wordAt s at))) (wordAt s at .end)
   where
-    go : (n : Number) (end : ℕ) → Mild (lines.andThen (lines.nextOf n end) k)
+    go : (v : Number) (end : ℕ) → Mild n (lines.andThen (lines.nextOf v end) k)
     go number.NotNumber end = bad-mild _ (omega arith)
     go number.TooLarge end = bad-mild _ (omega arith)
     go (number.Value v) end = h v end
 
-one-mild : (f : ℕ → Line) → ((a : ℕ) → Mild (f a)) → (s : List ℕ) (at : ℕ) → Mild (lines.one f s at)
+one-mild : {n : ℕ} (f : ℕ → Line) → ((a : ℕ) → Mild n (f a)) → (s : List ℕ) (at : ℕ) → Mild n (lines.one f s at)
 unfolding lines.one
 one-mild f h s at = then-mild s at _ (λ v after. ended-mild s after (f v) (h v))
 
-two-mild : (f : ℕ → ℕ → Line) → ((a b : ℕ) → Mild (f a b)) → (s : List ℕ) (at : ℕ) → Mild (lines.two f s at)
+two-mild : {n : ℕ} (f : ℕ → ℕ → Line) → ((a b : ℕ) → Mild n (f a b)) → (s : List ℕ) (at : ℕ) → Mild n (lines.two f s at)
 unfolding lines.two
 two-mild f h s at = then-mild s at _ (λ v after. one-mild (f v) (h v) s after)
 
-three-mild : (f : ℕ → ℕ → ℕ → Line) → ((a b c : ℕ) → Mild (f a b c)) → (s : List ℕ) (at : ℕ) → Mild (lines.three f s at)
+three-mild : {n : ℕ} (f : ℕ → ℕ → ℕ → Line) → ((a b c : ℕ) → Mild n (f a b c)) → (s : List ℕ) (at : ℕ) → Mild n (lines.three f s at)
 unfolding lines.three
 three-mild f h s at = then-mild s at _ (λ v after. two-mild (f v) (h v) s after)
 
-named-mild : (f : ℕ → ℕ → Line) → ((a b : ℕ) → Mild (f a b)) → (s : List ℕ) (at : ℕ) → Mild (lines.named f s at)
-unfolding lines.named
-named-mild f h s at =
-    either (none (wordAt s at)) _ _ (bad-mild _ (omega arith)) (ended-mild s _ _ (h _ _))
+named-mild : (f : ℕ → ℕ → Line) (s : List ℕ) → ((a b : ℕ) → a + b ≤ length s → Mild (length s) (f a b)) → (at : ℕ) → Mild (length s) (lines.named f s at)
+unfolding lines.named none
+named-mild f s h at = go (none (wordAt s at)) refl
+  where
+    go : (b : Bool) → none (wordAt s at) ≡ b
+        → Mild (length s) (cond b (line.Bad lines.aName) (lines.ended s (wordAt s at .end) (f (wordAt s at .start) (wordAt s at .end - wordAt s at .start))))
+    go true e = bad-mild _ (omega arith)
+    go false e =
+        let i = word-inside s at (wordAt s at) refl (eqb-false _ _ e) in
+        ended-mild s _ _ (h _ _ (omega (arith, i .0, i .1)))
 
-way-mild : (s : List ℕ) (at : ℕ) → Mild (lines.way s at)
-unfolding lines.way kindOf expects
+way-mild : {n : ℕ} (s : List ℕ) (at : ℕ) → Mild n (lines.way s at)
+unfolding lines.way kindOf expects nameEnd
 way-mild s at =
     let w = wordAt s at in
-    either (sameBytes (text s w) (bytes "plain")) _ _ (ended-mild s (w .end) line.CollectPlain (record { few = omega arith }))
-    (either (sameBytes (text s w) (bytes "clusters")) _ _ (ended-mild s (w .end) line.CollectClusters (record { few = omega arith })) (bad-mild lines.aWay (omega arith)))
+    either (sameBytes (text s w) (bytes "plain")) _ _ (ended-mild s (w .end) line.CollectPlain (plain _ refl refl))
+    (either (sameBytes (text s w) (bytes "clusters")) _ _ (ended-mild s (w .end) line.CollectClusters (plain _ refl refl)) (bad-mild lines.aWay (omega arith)))
 
-follows-mild : (k : Call) (s : List ℕ) (at : ℕ) → Mild (lines.follows k s at)
-unfolding lines.follows kindOf expects
-follows-mild calls.Create = two-mild line.Create (λ a b. record { few = omega arith })
-follows-mild calls.Allocate = one-mild line.Allocate (λ a. record { few = omega arith })
-follows-mild calls.Read = two-mild line.Read (λ a b. record { few = omega arith })
-follows-mild calls.Show = one-mild line.Show (λ a. record { few = omega arith })
-follows-mild calls.Write = three-mild line.Write (λ a b c. record { few = omega arith })
-follows-mild calls.Root = two-mild line.Root (λ a b. record { few = omega arith })
-follows-mild calls.Sink = one-mild line.Sink (λ a. record { few = omega arith })
-follows-mild calls.Analyse = λ s at. ended-mild s at line.Analyse (record { few = omega arith })
-follows-mild calls.Collect = way-mild
-follows-mild calls.Wrote = named-mild line.Wrote (λ a b. record { few = omega arith })
-follows-mild calls.Loaded = named-mild line.Loaded (λ a b. record { few = omega arith })
-follows-mild calls.Unknown = λ s at. bad-mild _ (omega arith)
+follows-mild : (k : Call) (s : List ℕ) (at : ℕ) → Mild (length s) (lines.follows k s at)
+unfolding lines.follows kindOf expects nameEnd
+follows-mild calls.Create s at = two-mild line.Create (λ a b. plain _ refl refl) s at
+follows-mild calls.Allocate s at = one-mild line.Allocate (λ a. plain _ refl refl) s at
+follows-mild calls.Read s at = two-mild line.Read (λ a b. plain _ refl refl) s at
+follows-mild calls.Show s at = one-mild line.Show (λ a. plain _ refl refl) s at
+follows-mild calls.Write s at = three-mild line.Write (λ a b c. plain _ refl refl) s at
+follows-mild calls.Root s at = two-mild line.Root (λ a b. plain _ refl refl) s at
+follows-mild calls.Sink s at = one-mild line.Sink (λ a. plain _ refl refl) s at
+follows-mild calls.Analyse s at = ended-mild s at line.Analyse (plain _ refl refl)
+follows-mild calls.Collect s at = way-mild s at
+follows-mild calls.Wrote s at = named-mild line.Wrote s (λ a b h. record { few = omega arith; brief = h }) at
+follows-mild calls.Loaded s at = named-mild line.Loaded s (λ a b h. record { few = omega arith; brief = h }) at
+follows-mild calls.Unknown s at = bad-mild _ (omega arith)
 
-nothing-mild : Mild line.Nothing
-unfolding kindOf expects
-nothing-mild = record { few = omega arith }
+nothing-mild : {n : ℕ} → Mild n line.Nothing
+unfolding kindOf expects nameEnd
+nothing-mild = plain _ refl refl
 
-parsed-mild : (s : List ℕ) → Mild (lines.parsed s)
+parsed-mild : (s : List ℕ) → Mild (length s) (lines.parsed s)
 unfolding lines.parsed
 parsed-mild s =
     let w = wordAt s 0 in
     either (none w) _ _ nothing-mild (follows-mild (lines.look lines.table (text s w)) s (w .end))
 
-line-mild : (s : Source) (sheet : List ℕ) → Mild (lineAt s sheet)
+mild-wide : (m n : ℕ) (l : Line) → m ≤ n → Mild m l → Mild n l
+mild-wide m n l h p = record { few = p .few; brief = omega (arith, p .brief) }
+
+line-mild : (s : Source) (sheet : List ℕ) → Mild (s .stop - s .start) (lineAt s sheet)
 unfolding lineAt
 line-mild s sheet =
-    either (ltb (s .stop) (s .start)) _ _ nothing-mild (either (ltb full (s .stop)) _ _ nothing-mild (parsed-mild _))
+    let n : length (take (s .stop - s .start) (drop (s .start) sheet)) ≤ s .stop - s .start = simp length-take (omega arith) in
+    either (ltb (s .stop) (s .start)) _ _ nothing-mild (either (ltb full (s .stop)) _ _ nothing-mild (mild-wide _ _ _ n (parsed-mild _)))
+
+-- the name that a line gives lies in the line
+pub name-inside : (s : List ℕ) → nameEnd (kindOf (lines.parsed s)) ≤ length s
+name-inside s = parsed-mild s .brief
+
+pub name-brief : (s : Source) (sheet : List ℕ) → nameEnd (kindOf (lineAt s sheet)) ≤ s .stop - s .start
+name-brief s sheet = line-mild s sheet .brief
 
 -- what is wrong with a line has a known number
 pub problem-known : (s : Source) (sheet : List ℕ) (created : Bool) → Known (problemOf (lineAt s sheet) created)

@@ -1,6 +1,6 @@
 -- The first reading of a list.
 -- Assumes nothing.
-use Prim.Native.Nat.{ℕ, _+_, _-_, _<_, _%_, _^_}
+use Prim.Native.Nat.{ℕ, _+_, _-_, _≤_, _<_, _%_, _^_}
 use mathlib.Core.Path.{_≡_, refl, sym, subst, _∙_}
 use mathlib.Core.Bool.{Bool, true, false, cond}
 use mathlib.Core.List.{List, [], _∷_, _++_}
@@ -135,32 +135,33 @@ name-stays : (at old start length : ℕ) → (old ≡ 0 → ⊥) → nameLength 
 unfolding nameLength
 name-stays at old start length d = rw (ne-eqb _ _ d) refl
 
-if-wrote : (k : Kind) (f : ℕ → ℕ → ℕ) (x : ℕ) → ((a b : ℕ) → f a b ≡ x) → ifWrote k f x ≡ x
+-- what holds of each name and without one holds of any line
+pub if-wrote : {A : Type 0} (P : A → Type 0) (k : Kind) (f : ℕ → ℕ → A) (x : A) → P x → ((a b : ℕ) → P (f a b)) → P (ifWrote k f x)
 unfolding ifWrote
-if-wrote nothing f x h = refl
-if-wrote create f x h = refl
-if-wrote call f x h = refl
-if-wrote (wrote start length) f x h = h start length
-if-wrote (loaded start length) f x h = refl
-if-wrote (bad expected) f x h = refl
+if-wrote P nothing f x p h = p
+if-wrote P create f x p h = p
+if-wrote P call f x p h = p
+if-wrote P (wrote start length) f x p h = h start length
+if-wrote P (loaded start length) f x p h = p
+if-wrote P (bad expected) f x p h = p
 
-if-loaded : (k : Kind) (f : ℕ → ℕ → ℕ) (x : ℕ) → ((a b : ℕ) → f a b ≡ x) → ifLoaded k f x ≡ x
+pub if-loaded : {A : Type 0} (P : A → Type 0) (k : Kind) (f : ℕ → ℕ → A) (x : A) → P x → ((a b : ℕ) → P (f a b)) → P (ifLoaded k f x)
 unfolding ifLoaded
-if-loaded nothing f x h = refl
-if-loaded create f x h = refl
-if-loaded call f x h = refl
-if-loaded (wrote start length) f x h = refl
-if-loaded (loaded start length) f x h = h start length
-if-loaded (bad expected) f x h = refl
+if-loaded P nothing f x p h = p
+if-loaded P create f x p h = p
+if-loaded P call f x p h = p
+if-loaded P (wrote start length) f x p h = p
+if-loaded P (loaded start length) f x p h = h start length
+if-loaded P (bad expected) f x p h = p
 
 -- a name that is known stays
-wrote-stays : (l : Line) (old from : ℕ) → (old ≡ 0 → ⊥) → wroteLength l old from ≡ old
+pub wrote-stays : (l : Line) (old from : ℕ) → (old ≡ 0 → ⊥) → wroteLength l old from ≡ old
 unfolding wroteLength
-wrote-stays l old from d = if-wrote (kindOf l) _ old (λ a b. name-stays _ _ _ _ d)
+wrote-stays l old from d = if-wrote (λ (x : ℕ). x ≡ old) (kindOf l) _ old refl (λ a b. name-stays _ _ _ _ d)
 
-loaded-stays : (l : Line) (old from : ℕ) → (old ≡ 0 → ⊥) → loadedLength l old from ≡ old
+pub loaded-stays : (l : Line) (old from : ℕ) → (old ≡ 0 → ⊥) → loadedLength l old from ≡ old
 unfolding loadedLength
-loaded-stays l old from d = if-loaded (kindOf l) _ old (λ a b. name-stays _ _ _ _ d)
+loaded-stays l old from d = if-loaded (λ (x : ℕ). x ≡ old) (kindOf l) _ old refl (λ a b. name-stays _ _ _ _ d)
 
 -- a list that ends with nothing wrong has a create
 ended-whole : (state : ℕ) (created : Bool) → endProblem state created ≡ 0 → created ≡ true
@@ -187,6 +188,7 @@ ended-known state created = first (eqb state hasLong) (eqb state hasFailed) crea
 pub record Kept (c₀ c : Check) (n : ℕ) : Type 0 where
   pub file : c .source .fd ≡ c₀ .source .fd
   pub part : c .source .base ≡ c₀ .source .base
+  pub behind : c₀ .source .base ≤ c₀ .source .from → c .source .base ≤ c .source .from
   pub wrote-kept : (c₀ .wrote ≡ 0 → ⊥) → c .wrote ≡ c₀ .wrote
   pub loaded-kept : (c₀ .loaded ≡ 0 → ⊥) → c .loaded ≡ c₀ .loaded
   pub whole : c .over ≡ true → c .problem ≡ 0 → c .created ≡ true
@@ -205,6 +207,7 @@ module _ (c₀ c : Check) (n : ℕ) (k : Kept c₀ c n) (going : c .over ≡ fal
       record {
         file = f .file ∙ k .file;
         part = f .part ∙ k .part;
+        behind = λ b. f .behind (k .behind b) .0;
         wrote-kept = λ d. wrote-stays l (c .wrote) (s .start) (λ z. d (sym (k .wrote-kept d) ∙ z)) ∙ k .wrote-kept d;
         loaded-kept = λ d. loaded-stays l (c .loaded) (s .start) (λ z. d (sym (k .loaded-kept d) ∙ z)) ∙ k .loaded-kept d;
         whole = λ o z. absurd (eqb-false p 0 (not-true (eqb p 0) o) z);
@@ -220,6 +223,7 @@ module _ (c₀ c : Check) (n : ℕ) (k : Kept c₀ c n) (going : c .over ≡ fal
       record {
         file = f .file ∙ k .file;
         part = f .part ∙ k .part;
+        behind = λ b. f .behind (k .behind b) .0;
         wrote-kept = k .wrote-kept;
         loaded-kept = k .loaded-kept;
         whole = λ o z. ended-whole (s .state) (c .created) z;
@@ -266,6 +270,7 @@ kept-none c o p h =
     record {
       file = refl;
       part = refl;
+      behind = λ b. b;
       wrote-kept = λ d. refl;
       loaded-kept = λ d. refl;
       whole = λ t. let z : _≡_ {A = ℕ} 0 1 = cc in absurd (omega arith);

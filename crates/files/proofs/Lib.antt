@@ -2,3 +2,4 @@
 pub mod ReadingLaws
 pub mod BadLaws
 pub mod CheckingLaws
+pub mod LeftLaws

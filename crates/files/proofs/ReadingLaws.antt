@@ -7,10 +7,10 @@ use mathlib.Core.List.{List}
 use mathlib.Core.Logic.{_⊎_, inl, inr}
 use native.Mathlib.Omega.{arith}
 use native.Mathlib.Decide.{decLe}
-use borrow.Rule.Slice.PartMut.{putMid, take-put, drop-put}
+use borrow.Rule.Slice.PartMut.{putMid, same-len-mid, take-put, drop-put}
 use borrow.Author.Tests.{ltb-true, ltb-false, lt-ltb, le-ltb, ne-eqb}
 use lib.Dec.{ltb, leb}
-use lib.ListN.{length, take, length-take, drop, length-drop, getD, set}
+use lib.ListN.{length, take, length-take, drop, length-drop, getD, set, length-set}
 use lib.Seq.{take-take, drop-drop, take-set-le, drop-set-lt}
 use Rattle.sheet.specs.Sheet.{full, after, copied}
 use Rattle.tokens.specs.Word.{lineEnd, runEnd}
@@ -44,33 +44,37 @@ line-not-more n = go (ltb longest n)
     go true h = omega arith
     go false h = omega arith
 
-pub taken-found : (s : Source) (stop next : ℕ) → s .from ≤ stop → stop ≤ full → Found s (taken s stop next)
+pub taken-found : (s : Source) (stop next : ℕ) → s .from ≤ stop → stop ≤ next → stop ≤ full → Found s (taken s stop next)
 unfolding taken
-taken-found s stop next h m =
+taken-found s stop next h g m =
     record {
       file = refl;
       part = refl;
       counted = number-line _ _;
       line = λ e. record { forward = h; inside = m; short = line-short _ e };
       little = λ e. absurd (line-not-more _ e);
+      behind = λ b. (omega arith, λ e. b);
     }
 
 pub held-found : (s : Source) (from end state : ℕ) → (state ≡ hasLine → ⊥) → (state ≡ hasLong → ⊥) → (state ≡ needsMore → end - from ≤ longest)
+    → (s .base ≤ s .from → s .base ≤ from)
     → Found s (held s from end state)
 unfolding held numberAfter
-held-found s from end state a b m =
+held-found s from end state a b m g =
     record {
       file = refl;
       part = refl;
       counted = rw (ne-eqb state hasLine a, ne-eqb state hasLong b) refl;
       line = λ e. absurd (a e);
       little = m;
+      behind = λ h. (g h, λ e. absurd (a e));
     }
 
 -- only what a source has of its file and its number matters
-pub found-held : (s r : Source) (from end state : ℕ) → Found (held s from end state) r → Found s r
+pub found-held : (s r : Source) (from end state : ℕ) → s .base ≤ from → Found (held s from end state) r → Found s r
 unfolding held
-found-held s r from end state f = record { file = f .file; part = f .part; counted = f .counted; line = f .line; little = f .little }
+found-held s r from end state h f =
+    record { file = f .file; part = f .part; counted = f .counted; line = f .line; little = f .little; behind = λ b. f .behind h }
 
 -- what was found after more bytes were wanted
 pub found-next : (s t r : Source) → t .state ≡ needsMore → Found s t → Found t r → Found s r
@@ -83,6 +87,7 @@ found-next s t r e f g =
       counted = rw same at (g .counted);
       line = g .line;
       little = g .little;
+      behind = λ b. g .behind (f .behind b .0);
     }
 
 module _ (s : Source) (sheet : List ℕ) where
@@ -119,26 +124,26 @@ module _ (s : Source) (sheet : List ℕ) (whole : length sheet ≡ full) where
     where
       third : (b : Bool) → ltb longest (s .end - s .from) ≡ b → s .end ≤ full
           → Found s (cond b (taken s (s .end) (s .end)) (held s (s .from) (s .end) needsMore))
-      third true e h = let m : longest < s .end - s .from = ltb-true _ _ e in taken-found s _ _ (omega arith) h
-      third false e h = held-found s _ _ _ (λ z. omega arith) (λ z. omega arith) (λ z. ltb-false _ _ e)
+      third true e h = let m : longest < s .end - s .from = ltb-true _ _ e in taken-found s _ _ (omega arith) (omega arith) h
+      third false e h = held-found s _ _ _ (λ z. omega arith) (λ z. omega arith) (λ z. ltb-false _ _ e) (λ b. b)
 
       second : (b : Bool) → ltb (lineStop s sheet) (s .end) ≡ b → s .end ≤ full
           → Found s (cond b (taken s (lineStop s sheet) (lineStop s sheet + 1)) (cond (ltb longest (s .end - s .from)) (taken s (s .end) (s .end)) (held s (s .from) (s .end) needsMore)))
       second true e h =
           let l : lineStop s sheet < s .end = ltb-true _ _ e in
           let n : length (take (s .end) sheet) ≡ s .end = simp length-take (omega arith) in
-          taken-found s _ _ (stop-from (take (s .end) sheet) (s .from) (rw n l)) (omega arith)
+          taken-found s _ _ (stop-from (take (s .end) sheet) (s .from) (rw n l)) (omega arith) (omega arith)
       second false e h = third (ltb longest (s .end - s .from)) refl h
 
       first : (b : Bool) → ltb full (s .end) ≡ b
           → Found s (cond b (held s (s .from) (s .end) hasFailed) (cond (ltb (lineStop s sheet) (s .end)) (taken s (lineStop s sheet) (lineStop s sheet + 1)) (cond (ltb longest (s .end - s .from)) (taken s (s .end) (s .end)) (held s (s .from) (s .end) needsMore))))
-      first true e = held-found s _ _ _ (λ z. omega arith) (λ z. omega arith) (λ z. absurd (omega arith))
+      first true e = held-found s _ _ _ (λ z. omega arith) (λ z. omega arith) (λ z. absurd (omega arith)) (λ b. b)
       first false e = second (ltb (lineStop s sheet) (s .end)) refl (ltb-false _ _ e)
 
 -- the rest of a file after its last newline
 pub rest-found : (s : Source) (kept : ℕ) → s .base ≤ kept → kept ≤ full → Found s (taken (held s (s .base) kept needsMore) kept kept)
 rest-found s kept h m =
-    found-held s _ _ _ _ (taken-found (held s (s .base) kept needsMore) kept kept (unfold held in h) m)
+    found-held s _ _ _ _ (omega arith) (taken-found (held s (s .base) kept needsMore) kept kept (unfold held in h) (omega arith) m)
 
 pub after-low : (at n : ℕ) → at ≤ after at n
 unfolding after
@@ -158,28 +163,29 @@ after-high at n d = go (decLe (after at n) full)
 
 -- parts of the sheet that stay as they are
 pub apart-none : (from to : ℕ) (s : List ℕ) → Apart from to s s
-apart-none from to s = record { front = refl; back = refl }
+apart-none from to s = record { size = refl; front = refl; back = refl }
 
 apart-then : (from to : ℕ) (s t u : List ℕ) → Apart from to s t → Apart from to t u → Apart from to s u
-apart-then from to s t u p q = record { front = q .front ∙ p .front; back = q .back ∙ p .back }
+apart-then from to s t u p q = record { size = q .size ∙ p .size; front = q .front ∙ p .front; back = q .back ∙ p .back }
 
 -- what is apart from a part is apart from a larger one
 apart-wide : (a b c d : ℕ) (s t : List ℕ) → a ≤ c → d ≤ b → Apart c d s t → Apart a b s t
 apart-wide a b c d s t h m p =
     let e : d + (b - d) ≡ b = omega arith in
     record {
+      size = p .size;
       front = sym (take-take a c t h) ∙ ap (take a) (p .front) ∙ take-take a c s h;
       back = sym (rw e at (drop-drop (b - d) d t)) ∙ ap (drop (b - d)) (p .back) ∙ rw e at (drop-drop (b - d) d s);
     }
 
-apart-copied : (n : ℕ) (s : List ℕ) (at from : ℕ) → Apart at (at + n) s (copied s at from n)
+pub apart-copied : (n : ℕ) (s : List ℕ) (at from : ℕ) → Apart at (at + n) s (copied s at from n)
 unfolding copied
 apart-copied zero s at from = apart-none at _ s
 apart-copied (suc n) s at from =
     let low : at ≤ after at 1 = after-low at 1 in
     let high : after at 1 + n ≤ at + suc n = omega (arith, after-one at) in
     apart-then _ _ _ _ _
-    (record { front = take-set-le at s at _ (omega arith); back = drop-set-lt (at + suc n) s at _ (omega arith) })
+    (record { size = length-set s at _; front = take-set-le at s at _ (omega arith); back = drop-set-lt (at + suc n) s at _ (omega arith) })
     (apart-wide _ _ _ _ _ _ low high (apart-copied n (set s at (getD s from 0)) (after at 1) (suc from)))
 
 -- bytes that are moved to the front of a part, and those that are read behind them, stay in the part
@@ -224,4 +230,8 @@ part-length l start stop h = simp (length-take, length-drop) (omega arith)
 pub apart-part : (start stop : ℕ) (l new : List ℕ) → start ≤ stop → stop ≤ length l → length new ≡ stop - start
     → Apart start stop l (putMid start (stop - start) l new)
 apart-part start stop l new h m n =
-    record { front = take-put start (stop - start) l new (omega arith); back = drop-put start stop l new h m n }
+    record {
+      size = same-len-mid start (stop - start) l new (n ∙ sym (part-length l start stop m));
+      front = take-put start (stop - start) l new (omega arith);
+      back = drop-put start stop l new h m n;
+    }

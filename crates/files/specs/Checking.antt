@@ -1,20 +1,21 @@
 -- The first reading of a list: what is wrong with it, and the names of the builds.
-use Prim.Native.Nat.{ℕ, _+_, _-_, _≤_, _%_, _^_}
+use Prim.Native.Nat.{ℕ, _+_, _-_, _≤_, _<_, _%_, _^_}
 use mathlib.Core.Path.{_≡_}
 use mathlib.Core.Bool.{Bool, true, false, not, cond, _||_}
 use mathlib.Core.List.{List, [], _∷_, _++_}
 use mathlib.Core.Logic.{_⊎_}
 use lib.Dec.{eqb}
+use lib.ListN.{length, getD}
 use Rattle.sheet.specs.Sheet.{after, copied}
 use Rattle.sheet.specs.Numerals.{decimalText}
 use Rattle.tokens.specs.Text.{bytes}
 use Rattle.tokens.specs.Table.{look}
-use Rattle.lines.specs.Line.{aNumber, aSmallNumber, theEnd, aWay, aName}
+use Rattle.lines.specs.Line.{parsed, aNumber, aSmallNumber, theEnd, aWay, aName}
 use Rattle.lines.specs.declared.Line.{Line}
 use Rattle.lines.specs.declared.Line.the-variants as line
 use Rattle.files.specs.declared.reading.Source.{Source}
 use Rattle.files.specs.declared.checking.Check.{Check}
-use Rattle.files.specs.Reading.{hasLine, hasLong, hasFailed, lineAt, Found, Searched}
+use Rattle.files.specs.Reading.{longest, room, hasLine, hasLong, hasFailed, lineAt, Found, Searched}
 
 -- a call comes before create
 abbrev pub notCreate : ℕ
@@ -210,6 +211,35 @@ pub record Checked (source : Source) (wrote loaded : ℕ) (r : Check) : Type 0 w
   -- the reading ends before the list only after as many lines as can be counted, with nothing wrong so far
   pub unbroken : r .over ≡ false → r .problem ≡ 0
   pub endless : r .over ≡ false → r .source .number ≡ (source .number + (2 ^ 64 - 1)) % 2 ^ 64
+
+-- i is one of the n places from `at` on
+abbrev pub In : ℕ → ℕ → ℕ → Type 0
+In at n i = (at ≤ i) × (i < at + n)
+
+-- no name was put over i: the length of the name at `at` is the one known before, or i is not in the name
+abbrev pub Spared : ℕ → ℕ → ℕ → ℕ → Type 0
+Spared at known length i = (length ≡ known) ⊎ (In at length i → ⊥)
+
+-- the n bytes at `at` are a name that some line gave; `gives` is the kind of such lines
+pub record NameOf (gives : ℕ → ℕ → Kind) (at n : ℕ) (sheet : List ℕ) : Type 0 where
+  pub line : List ℕ
+  pub start : ℕ
+  pub short : length line ≤ longest
+  pub given : kindOf (parsed line) ≡ gives start n
+  pub bytes : (j : ℕ) → j < n → getD sheet (at + j) 0 ≡ getD line (start + j) 0
+
+-- the list's part begins on the sheet and behind the names, and no byte to use lies before it
+abbrev pub Behind : Source → List ℕ → Type 0
+Behind s sheet = (loadedPlace + room ≤ s .base) × ((s .base ≤ length sheet) × (s .base ≤ s .from))
+
+-- what the first reading of a list leaves of the sheet: only the list's own part and the names that became known change
+pub record Left (source : Source) (oldWrote oldLoaded : ℕ) (r : Check) (sheet left : List ℕ) : Type 0 where
+  pub size : length left ≡ length sheet
+  pub others : (i : ℕ) → (In (source .base) room i → ⊥) → Spared wrotePlace oldWrote (r .wrote) i → Spared loadedPlace oldLoaded (r .loaded) i
+      → getD left i 0 ≡ getD sheet i 0
+  -- each name is the one that was known, or one that a line gave
+  pub wrote-given : Behind source sheet → (r .wrote ≡ oldWrote) ⊎ NameOf wrote wrotePlace (r .wrote) left
+  pub loaded-given : Behind source sheet → (r .loaded ≡ oldLoaded) ⊎ NameOf loaded loadedPlace (r .loaded) left
 
 -- what a line should have had
 unfoldable pub expectedWords : ℕ → List ℕ

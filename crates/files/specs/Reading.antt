@@ -5,7 +5,7 @@ use mathlib.Core.Bool.{cond, _||_}
 use mathlib.Core.List.{List}
 use lib.Dec.{eqb, ltb}
 use lib.IntN.{ℤ}
-use lib.ListN.{take, drop}
+use lib.ListN.{length, take, drop}
 use Rattle.sheet.specs.Sheet.{full}
 use Rattle.tokens.specs.Word.{lineEnd}
 use Rattle.lines.specs.Line.{parsed}
@@ -107,9 +107,12 @@ pub record Found (s r : Source) : Type 0 where
   pub counted : r .number ≡ numberAfter (r .state) (s .number)
   pub line : r .state ≡ hasLine → Lies r
   pub little : r .state ≡ needsMore → r .end - r .from ≤ longest
+  -- where no byte to use lies before the list's part, neither does the line found, nor what is to be used after it
+  pub behind : s .base ≤ s .from → (r .base ≤ r .from) × (r .state ≡ hasLine → r .base ≤ r .start)
 
 -- the sheet `left` is `sheet` but for its bytes from `from` up to `to`
 pub record Apart (from to : ℕ) (sheet left : List ℕ) : Type 0 where
+  pub size : length left ≡ length sheet
   pub front : take from left ≡ take from sheet
   pub back : drop to left ≡ drop to sheet
 

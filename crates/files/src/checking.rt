@@ -3,7 +3,7 @@ ghost use mathlib.Core.Path.{_≡_};
 ghost use mathlib.Core.Bool.{_||_, not};
 ghost use lib.ListN.{length};
 ghost use Rattle.sheet.specs.Sheet.{after, typed};
-ghost use Rattle.files.specs.Checking.{problemOf, isCreate, endProblem, endedAt, nameLength, nameKept, wroteLength, wroteKept, loadedLength, loadedKept, LineChecked, Checked, expectedWords, problemWords, lineName, complaint};
+ghost use Rattle.files.specs.Checking.{problemOf, isCreate, endProblem, endedAt, nameLength, nameKept, wroteLength, wroteKept, loadedLength, loadedKept, LineChecked, Checked, Left, expectedWords, problemWords, lineName, complaint};
 use crate::reading::FAILED;
 use crate::reading::LINE;
 use crate::reading::LONG;
@@ -171,6 +171,7 @@ fn going(c: Check) -> bool
 // Checks the list of a source. wrote and loaded are the lengths of names that are known already.
 pub fn check_list(source: Source, s: &mut [u8; SHEET], wrote: usize, loaded: usize) -> Check
     ensures { λ r. ⌜ Checked source wrote loaded r ⌝ }
+    ensures { λ r. ⌜ Left source wrote loaded r (now (s .entry)) (now (s .exit)) ⌝ }
 {
     let mut c = Check {
         source,

@@ -30,7 +30,7 @@ pub const SECOND: usize = 458752;
 // Behind this place the page is written out. A line is shorter than what is left.
 const FULL: usize = 49152;
 
-// Writes the page out. Its next place is 0.
+// Writes the page out. Its next place is 0. The sheet is lent to be read only, and what a file gets no contract can say: no more is left to say.
 pub fn flush(fd: i32, s: &[u8; SHEET], at: usize) -> usize
     ensures { λ r. ⌜ r ≡ 0 ⌝ }
 {

@@ -22,7 +22,7 @@ returns c =
     let k = c .before .before .before .before .before .copy .ensures in
     let w = c .before .before .before .before .before .before .before .wrapping-add-usize .ensures in
     let own = rw (k .0, k .1, w) at (c .before .before .read-on .ensures .1) in
-    (rw (c .holding .ensures) (held-found _ _ _ _ (λ e. omega arith) (λ e. omega arith) (λ e. absurd (omega arith))), λ h. apart-filled _ _ _ _ _ h own)
+    (rw (c .holding .ensures) (held-found _ _ _ _ (λ e. omega arith) (λ e. omega arith) (λ e. absurd (omega arith)) (λ b. omega arith)), λ h. apart-filled _ _ _ _ _ h own)
 
 holding-requires-2 : tie.Need-holding-requires-2
 holding-requires-2 c κs = search needs
@@ -32,7 +32,7 @@ returns-2 c =
     let k = c .before .before .before .before .before .before .before .copy .ensures in
     let w = c .before .before .before .before .before .before .before .before .before .wrapping-add-usize .ensures in
     let own = rw (k .0, k .1, w) at (c .before .before .before .before .read-on .ensures .1) in
-    (rw (c .holding2 .ensures) (held-found _ _ _ _ (λ e. omega arith) (λ e. omega arith) (λ e. absurd (omega arith))), λ h. apart-filled _ _ _ _ _ h own)
+    (rw (c .holding2 .ensures) (held-found _ _ _ _ (λ e. omega arith) (λ e. omega arith) (λ e. absurd (omega arith)) (λ b. omega arith)), λ h. apart-filled _ _ _ _ _ h own)
 
 holding-requires-3 : tie.Need-holding-requires-3
 holding-requires-3 c κs = search needs
@@ -66,7 +66,7 @@ returns-4 c =
     let k = c .before .before .before .before .before .before .before .before .before .before .before .before .copy .ensures in
     let w = c .before .before .before .before .before .before .before .before .before .before .before .before .before .before .wrapping-add-usize .ensures in
     let own = rw (k .0, k .1, w) at (c .before .before .before .before .before .before .before .before .before .read-on .ensures .1) in
-    (found-held _ _ _ _ _ (rw (c .before .before .holding4 .ensures) at (c .look .ensures .1)), λ h. apart-filled _ _ _ _ _ h own)
+    (found-held _ _ _ _ _ (omega arith) (rw (c .before .before .holding4 .ensures) at (c .look .ensures .1)), λ h. apart-filled _ _ _ _ _ h own)
 
 pub fill-spec : {M : Type 1} → statement M
 fill-spec =
