@@ -67,7 +67,6 @@ pub extern "C" fn pakzid_show(c: Control, object: u32, records: &[u32], slots: &
     heap::show::show_part(c, object, records, slots)
 }
 
-// The record is copied whole and lent, not taken apart and built anew: a caller that copies the answer whole would wait for stores of its pieces.
 #[no_mangle]
 pub extern "C" fn pakzid_write(
     c: Control,
@@ -80,12 +79,7 @@ pub extern "C" fn pakzid_write(
     ensures { λ a. ⌜ Write.gives a (now (records .exit)) (now (slots .exit))
         ≡ Write.write c object slot word (now (records .entry)) (now (slots .entry)) ⌝ }
 {
-    let mut d = c;
-    let k = in_place::write_lent(&mut d, object, slot, word, slots, records);
-    Done {
-        refusal: k,
-        control: d,
-    }
+    writes::write::write(c, object, slot, word, records, slots)
 }
 
 #[no_mangle]

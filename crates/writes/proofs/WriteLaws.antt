@@ -31,8 +31,7 @@ use Rattle.rules.specs.Write as Write
 use Rattle.rules.proofs.BufferLaws.{recOf-get}
 use Rattle.rules.proofs.StoreLaws.{recOf-set-same, store-staying, store-dissolving, exact-stored, dissolves-loose, dissolves-member}
 use Rattle.table.specs.Clusters.{clusterOf, membersOf, dissolvedRecord, dissolved}
-use Rattle.writes.specs.declared.write.Stored.{Stored}
-use Rattle.writes.specs.Writes.{wordTests, frontTests, Slot, after}
+use Rattle.writes.specs.Writes.{wordTests, frontTests, Slot}
 use Rattle.table.proofs.NamedLaws.{named, named-rest}
 
 -- ---- the tests of the word
@@ -280,9 +279,3 @@ module _ (c : Control) (i k w : ℕ) (recs slots : List ℕ) where
           → rs ≡ laid (storeBy true (view (c .n) recs slots) i k (target (c .n) w)) recs → ss ≡ set slots (8 * (i - 1) + k) w
           → Write.gives (record { refusal = 0; control = d }) rs ss ≡ Write.write c i k w recs slots
       dissolved-all h d q rs ss x y = done true dissolving (rw grown h) d (q ∙ ap (λ (v : ℕ). withWriteLoss v c) (sym grown)) rs ss x y
-
--- the control record of the answer may be built apart
-pub with-record : (c d : Control) (a : Stored) (rs ss : List ℕ) (o : Write.Outcome) → d ≡ withWriteLoss (a .«write_loss») c
-    → Write.gives (after c a) rs ss ≡ o → Write.gives (record { refusal = a .refusal; control = d }) rs ss ≡ o
-unfolding after
-with-record c d a rs ss o q e = ap (λ (x : Control). Write.gives (record { refusal = a .refusal; control = x }) rs ss) q ∙ e

@@ -5,15 +5,12 @@ use mathlib.Core.List.{List, [], _∷_, _++_}
 use lib.Dec.{leb}
 use lib.ListN.{length}
 use Rattle.layout.specs.declared.answers.Control.{Control}
-use Rattle.layout.specs.declared.answers.Done.{Done}
 use Rattle.layout.specs.Limits.{objectMax, widthMax}
 use Rattle.records.specs.Record.{width, legal}
 use Rattle.layout.specs.Word.{isPointer, legalWord}
-use Rattle.layout.specs.ControlRecord.{withWriteLoss}
 use Rattle.layout.specs.Refusal.{Test}
 use Rattle.rules.specs.Buffers.{recOf}
 use Rattle.rules.specs.Show.{showTests}
-use Rattle.writes.specs.declared.write.Stored.{Stored}
 
 -- the tests of the word that is to be stored
 unfoldable pub wordTests : ℕ → ℕ → List ℕ → List Test
@@ -32,7 +29,3 @@ pub record Slot (n i k : ℕ) (recs slots : List ℕ) : Type 0 where
   pub slots-long : widthMax * n ≤ length slots
   pub used : k < width (recOf n recs i)
   pub narrow : width (recOf n recs i) ≤ widthMax
-
--- the answer of a write that is handed c and gives a
-unfoldable pub after : Control → Stored → Done
-after c a = record { refusal = a .refusal; control = withWriteLoss (a .«write_loss») c }

@@ -12,7 +12,7 @@ ghost use Rattle.rules.specs.Buffers.{recOf};
 ghost use Rattle.rules.specs.View.{target, view, laid};
 ghost use Rattle.rules.specs.Write as Write;
 ghost use Rattle.table.specs.Clusters.{clusterOf, membersOf};
-ghost use Rattle.writes.specs.Writes.{wordTests, frontTests, Slot, after};
+ghost use Rattle.writes.specs.Writes.{wordTests, frontTests, Slot};
 use layout::answers::Control;
 use layout::answers::Done;
 use layout::limits::slots_len;
@@ -146,64 +146,12 @@ fn store_dissolving(
 fn with_write_loss(c: Control, k: u32) -> Control
     ensures { λ d. ⌜ d ≡ withWriteLoss k c ⌝ }
 {
-    Control {
-        n: c.n,
-        r: c.r,
-        last: c.last,
-        limit: c.limit,
-        write_loss: k,
-        out_loss: c.out_loss,
-    }
+    let mut d = c;
+    d.write_loss = k;
+    d
 }
 
-// The refusal, 0 where the word was stored, and the write loss after the call.
-pub struct Stored {
-    pub refusal: u32,
-    pub write_loss: u32,
-}
-
-// All of a write but the control record, so that no caller has to take one apart that was copied whole.
 // The members are counted before any store, and only where the cluster is dissolved.
-pub fn store(
-    c: Control,
-    object: u32,
-    slot: u32,
-    word: u32,
-    records: &mut [u32],
-    slots: &mut [u32],
-) -> Stored
-    ensures { λ a. ⌜ Write.gives (after c a) (now (records .exit)) (now (slots .exit))
-        ≡ Write.write c object slot word (now (records .entry)) (now (slots .entry)) ⌝ }
-{
-    let refusal = write_refusal(c, object, slot, word, records, slots);
-    if refusal != 0 {
-        return Stored {
-            refusal: refusal,
-            write_loss: c.write_loss,
-        };
-    }
-    if !does_dissolve(c.n, object, slot, records, slots) {
-        store_staying(c.n, object, slot, word, records, slots);
-        return Stored {
-            refusal: 0,
-            write_loss: c.write_loss,
-        };
-    }
-    let loss = loss_after(c, object, records);
-    if c.n < loss {
-        return Stored {
-            refusal: LOSS_FULL,
-            write_loss: c.write_loss,
-        };
-    }
-    store_dissolving(c.n, object, slot, word, records, slots);
-    Stored {
-        refusal: 0,
-        write_loss: loss,
-    }
-}
-
-// The same with the control record in the answer.
 pub fn write(
     c: Control,
     object: u32,
@@ -215,9 +163,30 @@ pub fn write(
     ensures { λ a. ⌜ Write.gives a (now (records .exit)) (now (slots .exit))
         ≡ Write.write c object slot word (now (records .entry)) (now (slots .entry)) ⌝ }
 {
-    let a = store(c, object, slot, word, records, slots);
+    let refusal = write_refusal(c, object, slot, word, records, slots);
+    if refusal != 0 {
+        return Done {
+            refusal: refusal,
+            control: c,
+        };
+    }
+    if !does_dissolve(c.n, object, slot, records, slots) {
+        store_staying(c.n, object, slot, word, records, slots);
+        return Done {
+            refusal: 0,
+            control: c,
+        };
+    }
+    let loss = loss_after(c, object, records);
+    if c.n < loss {
+        return Done {
+            refusal: LOSS_FULL,
+            control: c,
+        };
+    }
+    store_dissolving(c.n, object, slot, word, records, slots);
     Done {
-        refusal: a.refusal,
-        control: with_write_loss(c, a.write_loss),
+        refusal: 0,
+        control: with_write_loss(c, loss),
     }
 }
