@@ -12,7 +12,7 @@ ghost use Rattle.rules.specs.Buffers.{recOf};
 ghost use Rattle.rules.specs.View.{target, view, laid};
 ghost use Rattle.rules.specs.Write as Write;
 ghost use Rattle.table.specs.Clusters.{clusterOf, membersOf};
-ghost use Rattle.writes.specs.Writes.{wordTests, frontTests, Slot};
+ghost use Rattle.writes.specs.Writes.{wordTests, frontTests, Slot, Attempted};
 use layout::answers::Control;
 use layout::answers::Done;
 use layout::limits::slots_len;
@@ -151,7 +151,43 @@ fn with_write_loss(c: Control, k: u32) -> Control
     d
 }
 
-// The members are counted before any store, and only where the cluster is dissolved.
+// Above all refusals: what `attempt` answers from here on is a write loss.
+const LOSS: u32 = 64;
+
+// The call but for the control record. A store that dissolves a cluster is made only where it `may`. Where it may not,
+// nothing is stored, and the write loss after it is answered, with LOSS added.
+fn attempt(
+    c: Control,
+    object: u32,
+    slot: u32,
+    word: u32,
+    records: &mut [u32],
+    slots: &mut [u32],
+    may: bool,
+) -> u32
+    ensures { λ a. ⌜ Attempted c object slot word (now (records .entry)) (now (slots .entry)) may a (now (records .exit)) (now (slots .exit)) ⌝ }
+{
+    let refusal = write_refusal(c, object, slot, word, records, slots);
+    if refusal != 0 {
+        return refusal;
+    }
+    if !does_dissolve(c.n, object, slot, records, slots) {
+        store_staying(c.n, object, slot, word, records, slots);
+        return 0;
+    }
+    if may {
+        store_dissolving(c.n, object, slot, word, records, slots);
+        return 0;
+    }
+    let loss = loss_after(c, object, records);
+    if c.n < loss {
+        return LOSS_FULL;
+    }
+    LOSS + loss
+}
+
+// A write that dissolves is attempted a second time, with its loss in the control record.
+// So a record that stays is copied whole, and never taken apart (docs/BENCHMARK.md, "Write").
 pub fn write(
     c: Control,
     object: u32,
@@ -163,30 +199,16 @@ pub fn write(
     ensures { λ a. ⌜ Write.gives a (now (records .exit)) (now (slots .exit))
         ≡ Write.write c object slot word (now (records .entry)) (now (slots .entry)) ⌝ }
 {
-    let refusal = write_refusal(c, object, slot, word, records, slots);
-    if refusal != 0 {
+    let k = attempt(c, object, slot, word, records, slots, false);
+    if k < LOSS {
         return Done {
-            refusal: refusal,
+            refusal: k,
             control: c,
         };
     }
-    if !does_dissolve(c.n, object, slot, records, slots) {
-        store_staying(c.n, object, slot, word, records, slots);
-        return Done {
-            refusal: 0,
-            control: c,
-        };
-    }
-    let loss = loss_after(c, object, records);
-    if c.n < loss {
-        return Done {
-            refusal: LOSS_FULL,
-            control: c,
-        };
-    }
-    store_dissolving(c.n, object, slot, word, records, slots);
+    let d = with_write_loss(c, k - LOSS);
     Done {
-        refusal: 0,
-        control: with_write_loss(c, loss),
+        refusal: attempt(d, object, slot, word, records, slots, true),
+        control: d,
     }
 }
