@@ -283,6 +283,25 @@ module _ (c : Control) (i k w : ℕ) (recs slots : List ℕ) where
 
 -- ---- the attempts
 
+-- the ends of an attempt whose tests passed
+module _ (c : Control) (i k w : ℕ) (recs slots : List ℕ) (m : ℕ) (e : m ≡ first (frontTests c i k w recs slots)) (z : m ≡ 0)
+    (b : Bool) (f : b ≡ dissolves (view (c .n) recs slots) i k 0) (may : Bool) where
+  pub ends-kept : not b ≡ true → (rs ss : List ℕ) → rs ≡ laid (storeBy false (view (c .n) recs slots) i k (target (c .n) w)) recs
+      → ss ≡ set slots (8 * (i - 1) + k) w → Attempted c i k w recs slots may 0 rs ss
+  ends-kept t rs ss = keeps (sym z ∙ e) (sym (not-true b t) ∙ f) refl
+
+  module _ (t : not b ≡ false) where
+    pub ends-broken : may ≡ true → (rs ss : List ℕ) → rs ≡ laid (storeBy true (view (c .n) recs slots) i k (target (c .n) w)) recs
+        → ss ≡ set slots (8 * (i - 1) + k) w → Attempted c i k w recs slots may 0 rs ss
+    ends-broken o rs ss = breaks (sym z ∙ e) (sym (not-false b t) ∙ f) o refl
+
+    module _ (o : may ≡ false) (l : ℕ) (g : l ≡ c .«write_loss» + membersOf (c .n) recs (clusterOf (c .n) recs i)) where
+      pub ends-full : c .n < l → Attempted c i k w recs slots may 25 recs slots
+      ends-full h = overflows (sym z ∙ e) (sym (not-false b t) ∙ f) o l g h refl refl refl
+
+      pub ends-asked : l ≤ c .n → Attempted c i k w recs slots may (64 + l) recs slots
+      ends-asked h = asks (sym z ∙ e) (sym (not-false b t) ∙ f) o l g h refl refl refl
+
 -- a refusal is below 64
 low : (m : ℕ) (b : Bool) (l : List Test) → m < 64 → first l < 64 → first ((m, b) ∷ l) < 64
 unfolding first

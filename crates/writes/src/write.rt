@@ -5,7 +5,6 @@ ghost use Prim.Native.Nat.{_+_, _-_, _*_, _≤_};
 ghost use lib.ListN.{set};
 ghost use Rattle.layout.specs.Limits.{widthMax, objectMax};
 ghost use Rattle.records.specs.Record.{cluster, withWritten};
-ghost use Rattle.layout.specs.ControlRecord.{withWriteLoss};
 ghost use Rattle.layout.specs.Refusal.{first};
 ghost use Rattle.graph.specs.Writes.{dissolves, storeBy};
 ghost use Rattle.rules.specs.Buffers.{recOf};
@@ -143,14 +142,6 @@ fn store_dissolving(
 
 // ---- the call
 
-fn with_write_loss(c: Control, k: u32) -> Control
-    ensures { λ d. ⌜ d ≡ withWriteLoss k c ⌝ }
-{
-    let mut d = c;
-    d.write_loss = k;
-    d
-}
-
 // Above all refusals: what `attempt` answers from here on is a write loss.
 const LOSS: u32 = 64;
 
@@ -199,16 +190,14 @@ pub fn write(
     ensures { λ a. ⌜ Write.gives a (now (records .exit)) (now (slots .exit))
         ≡ Write.write c object slot word (now (records .entry)) (now (slots .entry)) ⌝ }
 {
-    let k = attempt(c, object, slot, word, records, slots, false);
-    if k < LOSS {
-        return Done {
-            refusal: k,
-            control: c,
-        };
+    let mut d = c;
+    let mut k = attempt(d, object, slot, word, records, slots, false);
+    if LOSS <= k {
+        d.write_loss = k - LOSS;
+        k = attempt(d, object, slot, word, records, slots, true);
     }
-    let d = with_write_loss(c, k - LOSS);
     Done {
-        refusal: attempt(d, object, slot, word, records, slots, true),
+        refusal: k,
         control: d,
     }
 }

@@ -1,10 +1,9 @@
 -- `writes::write::attempt` meets its contract: one case for each of its ends. Assumes nothing.
-use mathlib.Core.Path.{refl, sym, _∙_}
+use mathlib.Core.Path.{refl}
 use native.Mathlib.Omega.{arith}
 use borrow.Author.Needs.{needs}
-use borrow.Author.Tests.{not-true, not-false}
-use Rattle.writes.specs.Writes.{refuses, keeps, overflows, asks, breaks}
-use Rattle.writes.proofs.WriteLaws.{slot-there, losses}
+use Rattle.writes.specs.Writes.{refuses}
+use Rattle.writes.proofs.WriteLaws.{slot-there, losses, ends-kept, ends-broken, ends-full, ends-asked}
 use Rattle.writes.proofs.write.attempt.Statement.{statement}
 use Rattle.writes.proofs.write.attempt.Tie as tie
 
@@ -38,7 +37,7 @@ returns-2 c =
     let d = s .before .before .before in
     let t = d .before .before .before .before in
     let e = s .store-staying .ensures in
-    keeps (sym (t .if1 .left) ∙ t .before .write-refusal .ensures) (sym (not-true _ (d .if2 .taken)) ∙ d .before .does-dissolve .ensures) refl (e .0) (e .1)
+    ends-kept _ _ _ _ _ _ _ (t .before .write-refusal .ensures) (t .if1 .left) _ (d .before .does-dissolve .ensures) _ (d .if2 .taken) _ _ (e .0) (e .1)
 
 store-dissolving-requires : tie.Need-store-dissolving-requires
 store-dissolving-requires c κs = let t = c .before .before .before .before .before .before .before in slot-there _ _ _ _ _ _ _ (t .before .write-refusal .ensures) (t .if1 .left)
@@ -56,7 +55,7 @@ returns-3 c =
     let d = m .before in
     let t = d .before .before .before .before in
     let e = s .store-dissolving .ensures in
-    breaks (sym (t .if1 .left) ∙ t .before .write-refusal .ensures) (sym (not-false _ (d .if2 .left)) ∙ d .before .does-dissolve .ensures) (m .if3 .taken) refl (e .0) (e .1)
+    ends-broken _ _ _ _ _ _ _ (t .before .write-refusal .ensures) (t .if1 .left) _ (d .before .does-dissolve .ensures) _ (d .if2 .left) (m .if3 .taken) _ _ (e .0) (e .1)
 
 loss-after-requires : tie.Need-loss-after-requires
 loss-after-requires c κs = let t = c .before .before .before .before .before .before in losses _ _ _ _ _ _ _ (t .before .write-refusal .ensures) (t .if1 .left)
@@ -73,7 +72,7 @@ returns-4 c =
     let m = l .before .before in
     let d = m .before in
     let t = d .before .before .before .before in
-    overflows (sym (t .if1 .left) ∙ t .before .write-refusal .ensures) (sym (not-false _ (d .if2 .left)) ∙ d .before .does-dissolve .ensures) (m .if3 .left) _ (l .loss-after .ensures) (c .if4 .taken) refl refl refl
+    ends-full _ _ _ _ _ _ _ (t .before .write-refusal .ensures) (t .if1 .left) _ (d .before .does-dissolve .ensures) _ (d .if2 .left) (m .if3 .left) _ (l .loss-after .ensures) (c .if4 .taken)
 
 add-result : tie.Need-add-result
 add-result c =
@@ -94,7 +93,7 @@ returns-5 c =
     let m = l .before .before in
     let d = m .before in
     let t = d .before .before .before .before in
-    asks (sym (t .if1 .left) ∙ t .before .write-refusal .ensures) (sym (not-false _ (d .if2 .left)) ∙ d .before .does-dissolve .ensures) (m .if3 .left) _ (l .loss-after .ensures) (c .if4 .left) refl refl refl
+    ends-asked _ _ _ _ _ _ _ (t .before .write-refusal .ensures) (t .if1 .left) _ (d .before .does-dissolve .ensures) _ (d .if2 .left) (m .if3 .left) _ (l .loss-after .ensures) (c .if4 .left)
 
 pub attempt-spec : {M : Type 1} → statement M
 attempt-spec =
