@@ -1,4 +1,4 @@
-// The calls as C sees them: numbers and structs by value, a slice as a pointer and a length. Nothing but exports stands here.
+// The calls as C sees them: numbers and structs by value, a slice as a pointer and a length. Only exports are here.
 ghost use mathlib.Core.Path.{_≡_};
 ghost use Rattle.rules.specs.Create as Create;
 ghost use Rattle.rules.specs.Allocate as Allocate;
@@ -59,7 +59,7 @@ pub extern "C" fn pakzid_read(
     heap::read::read(c, object, slot, records, slots)
 }
 
-// Where the part that `heap::show::show` gives stands in the lent slots.
+// Where in the lent slots the part is that `heap::show::show` gives.
 #[no_mangle]
 pub extern "C" fn pakzid_show(c: Control, object: u32, records: &[u32], slots: &[u32]) -> Part
     ensures { λ a. ⌜ a ≡ Show.show c object (now (records .entry)) (now (slots .entry)) .answer ⌝ }

@@ -25,7 +25,7 @@ wordTests n w recs = (6, not (legalWord n w)) ∷ (23, isPointer n w && not (leg
 unfoldable pub frontTests : Control → ℕ → ℕ → ℕ → List ℕ → List ℕ → List Test
 frontTests c i k w recs slots = showTests c i recs slots ++ (5, leb (width (recOf (c .n) recs i)) k) ∷ wordTests (c .n) w recs
 
--- slot k of object i stands in the buffers of a heap of n objects
+-- slot k of object i is in the buffers of a heap of n objects
 pub record Slot (n i k : ℕ) (recs slots : List ℕ) : Type 0 where
   pub most : n ≤ objectMax
   pub low : 1 ≤ i

@@ -4,7 +4,7 @@ ghost use mathlib.Core.Bool.{true, false};
 ghost use Prim.Native.Nat.{_+_, _-_, _*_, _≤_};
 ghost use lib.ListN.{set};
 ghost use Rattle.layout.specs.Limits.{widthMax, objectMax};
-ghost use Rattle.records.specs.Record.{cluster, withWritten};
+ghost use Rattle.records.specs.Record.{withWritten};
 ghost use Rattle.layout.specs.Refusal.{first};
 ghost use Rattle.graph.specs.Writes.{dissolves, storeBy};
 ghost use Rattle.rules.specs.Buffers.{recOf};
@@ -177,8 +177,8 @@ fn attempt(
     LOSS + loss
 }
 
-// A write that dissolves is attempted a second time, with its loss in the control record.
-// So a record that stays is copied whole, and never taken apart (docs/BENCHMARK.md, "Write").
+// A write that dissolves is attempted a second time, with its loss in the control record. With two calls of `attempt` the
+// compiler leaves it a function, puts this one into both exports, and copies a record that stays whole (docs/BENCHMARK.md).
 pub fn write(
     c: Control,
     object: u32,
