@@ -216,8 +216,8 @@ pakzid_done pakzid_set_root(pakzid_control control, uint32_t index, uint32_t wor
  */
 pakzid_done pakzid_declare_sink(pakzid_control control, uint32_t object,
                                 uint32_t *records, size_t records_length,
-                                uint32_t *slots, size_t slots_length,
-                                uint32_t *roots, size_t roots_length);
+                                const uint32_t *slots, size_t slots_length,
+                                const uint32_t *roots, size_t roots_length);
 
 /*
  * Forms clusters for later collections, out of objects that are in none and
@@ -228,8 +228,8 @@ pakzid_done pakzid_declare_sink(pakzid_control control, uint32_t object,
  */
 pakzid_analysed pakzid_analyse(pakzid_control control,
                                uint32_t *records, size_t records_length,
-                               uint32_t *slots, size_t slots_length,
-                               uint32_t *roots, size_t roots_length,
+                               const uint32_t *slots, size_t slots_length,
+                               const uint32_t *roots, size_t roots_length,
                                uint32_t *work, size_t work_length);
 
 /*
@@ -243,14 +243,14 @@ pakzid_analysed pakzid_analyse(pakzid_control control,
 pakzid_collected pakzid_collect_plain(pakzid_control control,
                                       uint32_t *records, size_t records_length,
                                       uint32_t *slots, size_t slots_length,
-                                      uint32_t *roots, size_t roots_length,
+                                      const uint32_t *roots, size_t roots_length,
                                       uint32_t *work, size_t work_length,
                                       uint64_t *map, size_t map_length);
 
 pakzid_collected pakzid_collect_clusters(pakzid_control control,
                                          uint32_t *records, size_t records_length,
                                          uint32_t *slots, size_t slots_length,
-                                         uint32_t *roots, size_t roots_length,
+                                         const uint32_t *roots, size_t roots_length,
                                          uint32_t *work, size_t work_length,
                                          uint64_t *map, size_t map_length);
 

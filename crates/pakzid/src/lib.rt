@@ -1,4 +1,4 @@
-// The calls as C sees them: numbers and structs by value, a slice as a pointer and a length. Nothing but exports stands here.
+// The calls as C sees them: numbers and structs by value, a slice as a pointer and a length. Only exports are here.
 ghost use mathlib.Core.Path.{_≡_};
 ghost use Rattle.rules.specs.Create as Create;
 ghost use Rattle.rules.specs.Allocate as Allocate;
@@ -59,7 +59,7 @@ pub extern "C" fn pakzid_read(
     heap::read::read(c, object, slot, records, slots)
 }
 
-// Where the part that `heap::show::show` gives stands in the lent slots.
+// Where in the lent slots the part is that `heap::show::show` gives.
 #[no_mangle]
 pub extern "C" fn pakzid_show(c: Control, object: u32, records: &[u32], slots: &[u32]) -> Part
     ensures { λ a. ⌜ a ≡ Show.show c object (now (records .entry)) (now (slots .entry)) .answer ⌝ }
@@ -67,7 +67,6 @@ pub extern "C" fn pakzid_show(c: Control, object: u32, records: &[u32], slots: &
     heap::show::show_part(c, object, records, slots)
 }
 
-// The record is copied whole and lent, not taken apart and built anew: a caller that copies the answer whole would wait for stores of its pieces.
 #[no_mangle]
 pub extern "C" fn pakzid_write(
     c: Control,
@@ -80,12 +79,7 @@ pub extern "C" fn pakzid_write(
     ensures { λ a. ⌜ Write.gives a (now (records .exit)) (now (slots .exit))
         ≡ Write.write c object slot word (now (records .entry)) (now (slots .entry)) ⌝ }
 {
-    let mut d = c;
-    let k = in_place::write_lent(&mut d, object, slot, word, slots, records);
-    Done {
-        refusal: k,
-        control: d,
-    }
+    writes::write::write(c, object, slot, word, records, slots)
 }
 
 #[no_mangle]

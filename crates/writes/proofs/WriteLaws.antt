@@ -1,7 +1,7 @@
 -- What write answers and leaves at each of its ends. Assumes nothing.
 use Prim.Native.Nat.{ℕ, _+_, _-_, _*_, _^_, _≤_, _<_}
 use mathlib.Core.Path.{_≡_, refl, sym, ap, ap₂, _∙_, subst}
-use mathlib.Core.Bool.{Bool, true, false, not, cond, _||_}
+use mathlib.Core.Bool.{Bool, true, false, not, cond, _||_, true≢false}
 use mathlib.Core.List.{List, [], _∷_, _++_}
 use mathlib.Core.Logic.{_≢_}
 use native.Mathlib.Decide.{ℕ-discrete}
@@ -19,6 +19,7 @@ use Rattle.layout.specs.Word.{isNil, isPointer, isImmediate, legalWord, sortOf}
 use Rattle.layout.specs.ControlRecord.{withWriteLoss}
 use Rattle.layout.specs.Refusal.{Test, first}
 use Rattle.layout.proofs.LimitLaws.{below-within, above-within}
+use Rattle.layout.proofs.ControlLaws.{writes-sound, facts-control}
 use Rattle.layout.proofs.WordLaws.{Says, sort-says, pointer-legal}
 use Rattle.layout.proofs.RefusalLaws.{Numbered, nil, cons, first-passed, first-front, first-skip, first-zero, first-holds, first-fails, outcome-zero, outcome-number}
 use Rattle.graph.specs.Writes.{dissolves, storeBy, store, lossBy, lossOf}
@@ -31,8 +32,7 @@ use Rattle.rules.specs.Write as Write
 use Rattle.rules.proofs.BufferLaws.{recOf-get}
 use Rattle.rules.proofs.StoreLaws.{recOf-set-same, store-staying, store-dissolving, exact-stored, dissolves-loose, dissolves-member}
 use Rattle.table.specs.Clusters.{clusterOf, membersOf, dissolvedRecord, dissolved}
-use Rattle.writes.specs.declared.write.Stored.{Stored}
-use Rattle.writes.specs.Writes.{wordTests, frontTests, Slot, after}
+use Rattle.writes.specs.Writes.{wordTests, frontTests, Slot, Attempted, refuses, keeps, overflows, asks, breaks}
 use Rattle.table.proofs.NamedLaws.{named, named-rest}
 
 -- ---- the tests of the word
@@ -281,8 +281,83 @@ module _ (c : Control) (i k w : ℕ) (recs slots : List ℕ) where
           → Write.gives (record { refusal = 0; control = d }) rs ss ≡ Write.write c i k w recs slots
       dissolved-all h d q rs ss x y = done true dissolving (rw grown h) d (q ∙ ap (λ (v : ℕ). withWriteLoss v c) (sym grown)) rs ss x y
 
--- the control record of the answer may be built apart
-pub with-record : (c d : Control) (a : Stored) (rs ss : List ℕ) (o : Write.Outcome) → d ≡ withWriteLoss (a .«write_loss») c
-    → Write.gives (after c a) rs ss ≡ o → Write.gives (record { refusal = a .refusal; control = d }) rs ss ≡ o
-unfolding after
-with-record c d a rs ss o q e = ap (λ (x : Control). Write.gives (record { refusal = a .refusal; control = x }) rs ss) q ∙ e
+-- ---- the attempts
+
+-- the ends of an attempt whose tests passed
+module _ (c : Control) (i k w : ℕ) (recs slots : List ℕ) (m : ℕ) (e : m ≡ first (frontTests c i k w recs slots)) (z : m ≡ 0)
+    (b : Bool) (f : b ≡ dissolves (view (c .n) recs slots) i k 0) (may : Bool) where
+  pub ends-kept : not b ≡ true → (rs ss : List ℕ) → rs ≡ laid (storeBy false (view (c .n) recs slots) i k (target (c .n) w)) recs
+      → ss ≡ set slots (8 * (i - 1) + k) w → Attempted c i k w recs slots may 0 rs ss
+  ends-kept t rs ss = keeps (sym z ∙ e) (sym (not-true b t) ∙ f) refl
+
+  module _ (t : not b ≡ false) where
+    pub ends-broken : may ≡ true → (rs ss : List ℕ) → rs ≡ laid (storeBy true (view (c .n) recs slots) i k (target (c .n) w)) recs
+        → ss ≡ set slots (8 * (i - 1) + k) w → Attempted c i k w recs slots may 0 rs ss
+    ends-broken o rs ss = breaks (sym z ∙ e) (sym (not-false b t) ∙ f) o refl
+
+    module _ (o : may ≡ false) (l : ℕ) (g : l ≡ c .«write_loss» + membersOf (c .n) recs (clusterOf (c .n) recs i)) where
+      pub ends-full : c .n < l → Attempted c i k w recs slots may 25 recs slots
+      ends-full h = overflows (sym z ∙ e) (sym (not-false b t) ∙ f) o l g h refl refl refl
+
+      pub ends-asked : l ≤ c .n → Attempted c i k w recs slots may (64 + l) recs slots
+      ends-asked h = asks (sym z ∙ e) (sym (not-false b t) ∙ f) o l g h refl refl refl
+
+-- a refusal is below 64
+low : (m : ℕ) (b : Bool) (l : List Test) → m < 64 → first l < 64 → first ((m, b) ∷ l) < 64
+unfolding first
+low m true l h r = h
+low m false l h r = r
+
+none-low : first [] < 64
+unfolding first
+none-low = lit< tt
+
+pub front-low : (c : Control) (i k w : ℕ) (recs slots : List ℕ) → first (frontTests c i k w recs slots) < 64
+unfolding frontTests showTests wordTests
+front-low c i k w recs slots =
+    low 20 _ _ (lit< tt) (low 2 _ _ (lit< tt) (low 4 _ _ (lit< tt) (low 21 _ _ (lit< tt) (low 22 _ _ (lit< tt) (low 5 _ _ (lit< tt) (low 6 _ _ (lit< tt) (low 23 _ [] (lit< tt) none-low)))))))
+
+module _ (c : Control) (i k w : ℕ) (recs slots : List ℕ) where
+  -- an attempt that did not ask gave the outcome, with the control record as it was
+  pub answered : (a : ℕ) (rs ss : List ℕ) → Attempted c i k w recs slots false a rs ss → a < 64
+      → Write.gives (record { refusal = a; control = c }) rs ss ≡ Write.write c i k w recs slots
+  answered a rs ss (refuses e d p q) h = ap₂ (Write.gives _) p q ∙ refused c i k w recs slots a e d
+  answered a rs ss (keeps e f z p q) h =
+      ap (λ (x : ℕ). Write.gives (record { refusal = x; control = c }) rs ss) z ∙ stayed c i k w recs slots 0 e refl false f refl rs ss p q
+  answered a rs ss (overflows e f m l g o z p q) h =
+      (λ j. Write.gives (record { refusal = z j; control = c }) (p j) (q j)) ∙ too-many c i k w recs slots 0 e refl true f refl l g o
+  answered a rs ss (asks e f m l g o z p q) h = absurd (omega arith)
+  answered a rs ss (breaks e f m z p q) h = absurd (true≢false (sym m))
+
+  -- the tests pass with a loss that is not above n, too
+  with-loss : (l : ℕ) → 0 ≡ first (frontTests c i k w recs slots) → l ≤ c .n → first (frontTests (withWriteLoss l c) i k w recs slots) ≡ 0
+  unfolding frontTests showTests withWriteLoss
+  with-loss l e h =
+      let s = named c i recs slots (shown c i k w recs slots 0 e refl) .sound in
+      first-fails 20 _ _ (facts-control _ (writes-sound c s l h)) ∙ first-passed 19 _ _ (sym e) .1
+
+  -- the second attempt, after one that asked
+  granted : (l b : ℕ) (rs ss : List ℕ) → 0 ≡ first (frontTests c i k w recs slots) → true ≡ dissolves (view (c .n) recs slots) i k 0
+      → l ≡ c .«write_loss» + membersOf (c .n) recs (clusterOf (c .n) recs i) → l ≤ c .n → Attempted (withWriteLoss l c) i k w recs slots true b rs ss
+      → Write.gives (record { refusal = b; control = withWriteLoss l c }) rs ss ≡ Write.write c i k w recs slots
+  unfolding withWriteLoss
+  granted l b rs ss e f g h (refuses e′ d p q) = absurd (d (e′ ∙ with-loss l e h))
+  granted l b rs ss e f g h (keeps e′ f′ z p q) = absurd (true≢false (f ∙ sym f′))
+  granted l b rs ss e f g h (overflows e′ f′ m _ _ _ _ _ _) = absurd (true≢false m)
+  granted l b rs ss e f g h (asks e′ f′ m _ _ _ _ _ _) = absurd (true≢false m)
+  granted l b rs ss e f g h (breaks e′ f′ m z p q) =
+      ap (λ (x : ℕ). Write.gives (record { refusal = x; control = withWriteLoss l c }) rs ss) z
+      ∙ dissolved-all c i k w recs slots 0 e refl true f refl l g h (withWriteLoss l c) refl rs ss p q
+
+  pub attempted-again : (a : ℕ) (rs₁ ss₁ : List ℕ) → Attempted c i k w recs slots false a rs₁ ss₁ → 64 ≤ a → (d : Control) → d ≡ withWriteLoss (a - 64) c
+      → (b : ℕ) (rs ss : List ℕ) → Attempted d i k w rs₁ ss₁ true b rs ss → Write.gives (record { refusal = b; control = d }) rs ss ≡ Write.write c i k w recs slots
+  attempted-again a rs₁ ss₁ (refuses e _ _ _) h d q b rs ss t = let x = front-low c i k w recs slots in absurd (omega arith)
+  attempted-again a rs₁ ss₁ (keeps _ _ z _ _) h d q b rs ss t = absurd (omega arith)
+  attempted-again a rs₁ ss₁ (overflows _ _ _ _ _ _ z _ _) h d q b rs ss t = absurd (omega arith)
+  attempted-again a rs₁ ss₁ (breaks _ _ _ z _ _) h d q b rs ss t = absurd (omega arith)
+  attempted-again a rs₁ ss₁ (asks e f m l g o z x y) h d q b rs ss t =
+      let v : a - 64 ≡ l = omega arith in
+      let u : d ≡ withWriteLoss l c = q ∙ ap (λ (n : ℕ). withWriteLoss n c) v in
+      let t′ : Attempted (withWriteLoss l c) i k w recs slots true b rs ss
+      = subst (λ (n : Control). Attempted n i k w recs slots true b rs ss) u (subst (λ (n : List ℕ). Attempted d i k w recs n true b rs ss) y (subst (λ (n : List ℕ). Attempted d i k w n ss₁ true b rs ss) x t)) in
+      ap (λ (n : Control). Write.gives (record { refusal = b; control = n }) rs ss) u ∙ granted l b rs ss e f g o t′

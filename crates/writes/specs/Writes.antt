@@ -1,19 +1,21 @@
 -- What the functions of a write are held to.
-use Prim.Native.Nat.{ℕ, _*_, _≤_, _<_}
-use mathlib.Core.Bool.{not, _&&_}
+use Prim.Native.Nat.{ℕ, _+_, _-_, _*_, _≤_, _<_}
+use mathlib.Core.Path.{_≡_}
+use mathlib.Core.Logic.{_≢_}
+use mathlib.Core.Bool.{Bool, true, false, not, _&&_}
 use mathlib.Core.List.{List, [], _∷_, _++_}
 use lib.Dec.{leb}
-use lib.ListN.{length}
+use lib.ListN.{length, set}
 use Rattle.layout.specs.declared.answers.Control.{Control}
-use Rattle.layout.specs.declared.answers.Done.{Done}
 use Rattle.layout.specs.Limits.{objectMax, widthMax}
 use Rattle.records.specs.Record.{width, legal}
 use Rattle.layout.specs.Word.{isPointer, legalWord}
-use Rattle.layout.specs.ControlRecord.{withWriteLoss}
-use Rattle.layout.specs.Refusal.{Test}
+use Rattle.layout.specs.Refusal.{Test, first}
+use Rattle.graph.specs.Writes.{dissolves, storeBy}
 use Rattle.rules.specs.Buffers.{recOf}
+use Rattle.rules.specs.View.{target, view, laid}
 use Rattle.rules.specs.Show.{showTests}
-use Rattle.writes.specs.declared.write.Stored.{Stored}
+use Rattle.table.specs.Clusters.{clusterOf, membersOf}
 
 -- the tests of the word that is to be stored
 unfoldable pub wordTests : ℕ → ℕ → List ℕ → List Test
@@ -33,6 +35,18 @@ pub record Slot (n i k : ℕ) (recs slots : List ℕ) : Type 0 where
   pub used : k < width (recOf n recs i)
   pub narrow : width (recOf n recs i) ≤ widthMax
 
--- the answer of a write that is handed c and gives a
-unfoldable pub after : Control → Stored → Done
-after c a = record { refusal = a .refusal; control = withWriteLoss (a .«write_loss») c }
+-- what an attempt at a write answers and leaves: a refusal, the word stored, or the loss after a store that may not dissolve yet
+pub data Attempted (c : Control) (i k w : ℕ) (recs slots : List ℕ) (may : Bool) (a : ℕ) (rs ss : List ℕ) : Type 0 where
+  refuses : a ≡ first (frontTests c i k w recs slots) → a ≢ 0 → rs ≡ recs → ss ≡ slots → Attempted c i k w recs slots may a rs ss
+  keeps : 0 ≡ first (frontTests c i k w recs slots) → false ≡ dissolves (view (c .n) recs slots) i k 0 → a ≡ 0
+      → rs ≡ laid (storeBy false (view (c .n) recs slots) i k (target (c .n) w)) recs → ss ≡ set slots (widthMax * (i - 1) + k) w
+      → Attempted c i k w recs slots may a rs ss
+  overflows : 0 ≡ first (frontTests c i k w recs slots) → true ≡ dissolves (view (c .n) recs slots) i k 0 → may ≡ false
+      → (l : ℕ) → l ≡ c .«write_loss» + membersOf (c .n) recs (clusterOf (c .n) recs i) → c .n < l → a ≡ 25 → rs ≡ recs → ss ≡ slots
+      → Attempted c i k w recs slots may a rs ss
+  asks : 0 ≡ first (frontTests c i k w recs slots) → true ≡ dissolves (view (c .n) recs slots) i k 0 → may ≡ false
+      → (l : ℕ) → l ≡ c .«write_loss» + membersOf (c .n) recs (clusterOf (c .n) recs i) → l ≤ c .n → a ≡ 64 + l → rs ≡ recs → ss ≡ slots
+      → Attempted c i k w recs slots may a rs ss
+  breaks : 0 ≡ first (frontTests c i k w recs slots) → true ≡ dissolves (view (c .n) recs slots) i k 0 → may ≡ true → a ≡ 0
+      → rs ≡ laid (storeBy true (view (c .n) recs slots) i k (target (c .n) w)) recs → ss ≡ set slots (widthMax * (i - 1) + k) w
+      → Attempted c i k w recs slots may a rs ss

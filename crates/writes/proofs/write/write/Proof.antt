@@ -1,14 +1,16 @@
--- `writes::write::write` puts what `store` answers into the control record. Assumes nothing.
-use Rattle.writes.proofs.WriteLaws.{with-record}
+-- `writes::write::write` meets its contract: one attempt answers, or two. Assumes nothing.
+use mathlib.Core.Path.{refl}
 use borrow.Author.Needs.{needs}
+use Rattle.layout.specs.ControlRecord.{withWriteLoss}
+use Rattle.writes.proofs.WriteLaws.{answered, attempted-again}
 use Rattle.writes.proofs.write.write.Statement.{statement}
 use Rattle.writes.proofs.write.write.Tie as tie
 
-store-requires : tie.Need-store-requires
-store-requires c κs = search needs
+attempt-requires : tie.Need-attempt-requires
+attempt-requires c κs = search needs
 
-with-write-loss-requires : tie.Need-with-write-loss-requires
-with-write-loss-requires c κs = search needs
+attempt-requires-2 : tie.Need-attempt-requires-2
+attempt-requires-2 c κs = search needs
 
 same-length : tie.Need-same-length
 same-length c = search needs
@@ -17,7 +19,30 @@ same-length-2 : tie.Need-same-length-2
 same-length-2 c = search needs
 
 returns : tie.Need-returns
-returns c = with-record _ _ _ _ _ _ (c .with-write-loss .ensures) (c .before .before .before .before .before .store .ensures)
+unfolding withWriteLoss
+returns c =
+    let s = c .before .before .before .before in
+    let t = s .before .before .before in
+    attempted-again _ _ _ _ _ _ _ _ _ (t .before .before .before .before .before .attempt .ensures) (t .if1 .taken) _ refl _ _ _ (s .attempt2 .ensures)
+
+same-length-3 : tie.Need-same-length-3
+same-length-3 c = search needs
+
+same-length-4 : tie.Need-same-length-4
+same-length-4 c = search needs
+
+returns-2 : tie.Need-returns-2
+returns-2 c = answered _ _ _ _ _ _ _ _ _ (c .before .before .before .before .before .attempt .ensures) (c .if1 .left)
 
 pub write-spec : {M : Type 1} → statement M
-write-spec = tie.close (tie.spec store-requires with-write-loss-requires same-length same-length-2 returns)
+write-spec =
+    tie.close
+    (tie.spec
+    attempt-requires
+    attempt-requires-2
+    same-length
+    same-length-2
+    returns
+    same-length-3
+    same-length-4
+    returns-2)
