@@ -49,7 +49,7 @@
  * Answers
  *
  * `refusal` is 0 if the call was accepted, and else the number of the first of
- * its tests that failed, in the order that stands with the call. A refused call
+ * its tests that failed, in the order given with the call. A refused call
  * changes no buffer and no control record; its other answers are 0, and the
  * control record it gives back is the one handed in (for create: all 0).
  *
@@ -161,7 +161,7 @@ pakzid_done pakzid_create(uint32_t objects, uint32_t roots,
 
 /*
  * Gives a free object the width, with nil in every slot, and answers its number.
- * The search begins behind `last` and goes round. An object that no root, sink
+ * The search begins after `last` and goes round. An object that no root, sink
  * or pointer leads to by the next collection is freed there.
  * Tests: 20, 2, 3, 24.
  */

@@ -90,7 +90,7 @@ fn link_of(n: u32, work: &[u32], x: u32) -> u32
     work[8 * (n as usize) + (x as usize - 1)]
 }
 
-// Scans the out members of h's cluster that are not marked, from the highest down, so that their pointers stand by number in the end.
+// Scans the out members of h's cluster that are not marked, from the highest down, so that in the end their pointers are in number order.
 pub(crate) fn scan_outs(
     n: u32,
     records: &mut [u32],

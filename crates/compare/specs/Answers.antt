@@ -27,7 +27,7 @@ sameValues kind x y slots1 map1 slots2 map2 =
 unfoldable pub besides : ℕ → Ran → Ran → Ran
 besides kind x y = cond (eqb kind show) (record { refusal = y .refusal; a = x .a; b = y .b; c = y .c; control = y .control }) y
 
--- the same kind and answers, wherever the shown words are; after an accepted call what it left behind too
+-- the same kind and answers, wherever the shown words are; after an accepted call what it left too
 unfoldable pub sameAnswers : Line → Line → Ran → Ran → List ℕ → List ℕ → List ℕ → List ℕ → Bool
 sameAnswers l m x y slots1 map1 slots2 map2 =
     sameKind (partsOf l .kind) (partsOf m .kind)

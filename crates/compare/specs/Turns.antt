@@ -20,7 +20,7 @@ atCall = 1
 abbrev pub atAnalysis : ℕ
 atAnalysis = 2
 
--- a player behind its last line
+-- a player past its last line
 abbrev pub done : ℕ
 done = 3
 

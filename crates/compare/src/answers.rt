@@ -31,7 +31,7 @@ pub(crate) fn same_part(x: &[u32], y: &[u32], start: usize, other: usize, count:
     same_words(&x[start..start + n], &y[other..other + n])
 }
 
-// Whether what lies behind the answers of an accepted call is the same: what was freed, or the slots that are shown.
+// Whether what an accepted call gives besides its answer is the same: what was freed, or the slots that are shown.
 fn same_values(
     kind: u32,
     x: Ran,
@@ -52,7 +52,7 @@ fn same_values(
     true
 }
 
-// The answer y, but with a part that is shown as if it stood where that of x does: shown words count, and not where they stand.
+// The answer y, but with the place of the part that x shows: shown words count, and not where they are.
 fn beside(kind: u32, x: Ran, y: Ran) -> Ran
     ensures { λ z. ⌜ z ≡ besides kind x y ⌝ }
 {

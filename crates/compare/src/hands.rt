@@ -144,7 +144,7 @@ pub fn hand_of(hands: &[u64], is_left: bool, x: u32) -> u64
     hand_at(hands, word_of(is_left, x))
 }
 
-// The word at place i, 0 behind the end.
+// The word at place i, 0 past the end.
 fn hand_at(hands: &[u64], i: usize) -> u64
     ensures { λ w. ⌜ w ≡ getD (now (hands .entry)) i 0 ⌝ }
 {

@@ -7,7 +7,7 @@ use layout::limits::slots_len;
 use records::is_sink;
 use records::width_of;
 
-// The word at place i, 0 behind the end.
+// The word at place i, 0 past the end.
 pub fn word_at(words: &[u32], i: usize) -> u32
     ensures { λ w. ⌜ w ≡ getD (now (words .entry)) i 0 ⌝ }
 {

@@ -1,4 +1,4 @@
-// Two players beside each other: the k-th call of one with the k-th of the other. Analyses stand alone.
+// Two players beside each other: the k-th call of one with the k-th of the other. Analyses have rows of their own.
 ghost use mathlib.Core.Path.{_≡_};
 ghost use Rattle.compare.specs.Turns.{asRun, stateAfter, nextTurn, isOver, notedAfter};
 ghost use Rattle.compare.specs.Turns as T;
@@ -8,7 +8,7 @@ use crate::kinds::parts_of;
 use calls::compare::plainly;
 use lines::Line;
 
-// How a player stands: on its way to the next call, at a call that was run, at an analysis that was run, behind the last line.
+// Where a player is: on its way to the next call, at a call that was run, at an analysis that was run, past the last line.
 pub const READING: u32 = 0;
 
 pub const AT_CALL: u32 = 1;
@@ -40,14 +40,14 @@ pub struct Verdict {
     pub right: u64,
 }
 
-// The line as a player runs it: plainly, or as it stands.
+// The line as a player runs it: plainly, or as it is.
 pub fn as_run(line: Line, plain: bool) -> Line
     ensures { λ l. ⌜ l ≡ asRun plain line ⌝ }
 {
     if plain { plainly(line) } else { line }
 }
 
-// How a player stands after it ran the line.
+// Where a player is after it ran the line.
 pub fn state_after(line: Line) -> u32
     ensures { λ s. ⌜ s ≡ stateAfter line ⌝ }
 {
@@ -62,7 +62,7 @@ pub fn state_after(line: Line) -> u32
     }
 }
 
-// Which players are next, by how they stand; `same` says whether a pair of calls answered the same.
+// Which players are next, by where they are; `same` says whether a pair of calls answered the same.
 pub fn next_turn(left: u32, right: u32, same: bool) -> Turn
     ensures { λ t. ⌜ t ≡ nextTurn left right same ⌝ }
 {

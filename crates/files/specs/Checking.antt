@@ -228,7 +228,7 @@ pub record NameOf (gives : ℕ → ℕ → Kind) (at n : ℕ) (sheet : List ℕ)
   pub given : kindOf (parsed line) ≡ gives start n
   pub bytes : (j : ℕ) → j < n → getD sheet (at + j) 0 ≡ getD line (start + j) 0
 
--- the list's part begins on the sheet and behind the names, and no byte to use lies before it
+-- the list's part begins on the sheet and after the names, and no byte to use lies before it
 abbrev pub Behind : Source → List ℕ → Type 0
 Behind s sheet = (loadedPlace + room ≤ s .base) × ((s .base ≤ length sheet) × (s .base ≤ s .from))
 

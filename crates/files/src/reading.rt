@@ -15,7 +15,7 @@ use tokens::words::line_end;
 // The most bytes of a line.
 const LONGEST: usize = 4096;
 
-// How a source stands: bytes are wanted, a line was found, the file is at its end, a line is too long, a read failed.
+// The state of a source: bytes are wanted, a line was found, the file is at its end, a line is too long, a read failed.
 const MORE: u32 = 0;
 
 pub const LINE: u32 = 1;

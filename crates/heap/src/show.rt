@@ -1,4 +1,4 @@
-// Show: an object's used slots, where they stand in the caller's buffer.
+// Show: an object's used slots, as a part of the caller's buffer.
 ghost use mathlib.Core.Path.{_≡_};
 ghost use Prim.Native.Nat.{_+_, _*_};
 ghost use Rattle.rules.specs.Show as Show;
@@ -31,7 +31,7 @@ pub fn show<'a>(
     &slots[start..end]
 }
 
-// Where the part stands, for callers that cannot be given a slice.
+// Where the part is, for callers that cannot be given a slice.
 pub fn show_part(c: Control, object: u32, records: &[u32], slots: &[u32]) -> Part
     ensures { λ a. ⌜ a ≡ Show.show c object (now (records .entry)) (now (slots .entry)) .answer ⌝ }
 {

@@ -75,7 +75,7 @@ fn link_all(outs: bool, n: u32, records: &[u32], work: &mut [u32])
     }
 }
 
-// Writes the link words of n objects, `outs`: of the out members alone; nothing changes where n is no size or a slice is too short.
+// Writes the link words of n objects, `outs`: of the out members alone; nothing changes where n is above 4,095 or a slice is too short.
 pub fn link(outs: bool, n: u32, records: &[u32], work: &mut [u32])
     ensures { λ _. ⌜ now (work .exit) ≡ cond (linkable n (now (records .entry)) (now (work .entry))) (links n (linkedAt outs n (now (records .entry))) (now (work .entry))) (now (work .entry)) ⌝ }
 {

@@ -3,7 +3,7 @@ use Prim.Native.Nat.{ℕ}
 use mathlib.Core.Bool.{cond}
 use lib.Dec.{ltb}
 
--- behind this place the page is written out
+-- past this place the page is written out
 abbrev pub fullFrom : ℕ
 fullFrom = 49152
 

@@ -55,7 +55,7 @@ unfoldable pub listed : Bool → List (List ℕ) → List ℕ
 listed first [] = []
 listed first (t ∷ l) = commaText first ++ t ++ listed false l
 
--- the words from place `start` on, n of them; those behind the end are 0
+-- the words from place `start` on, n of them; those past the end are 0
 unfoldable pub wordsFrom : List ℕ → ℕ → ℕ → List ℕ
 wordsFrom slots start zero = []
 wordsFrom slots start (suc n) = getD slots start 0 ∷ wordsFrom slots (suc start) n

@@ -101,7 +101,7 @@ fn comma(s: &mut [u8; SHEET], at: usize, is_first: bool) -> usize
     if is_first { at } else { text(s, at, b", ") }
 }
 
-// The word k places after start, 0 behind the end.
+// The word k places after start, 0 past the end.
 fn word_after(slots: &[u32; SLOTS], start: usize, k: u32) -> u32
     ensures { λ r. ⌜ r ≡ getD (now (slots .entry)) (start + k) 0 ⌝ }
 {

@@ -1,4 +1,4 @@
-// Two players beside each other: the k-th call of one with the k-th of the other. Analyses stand alone.
+// Two players beside each other: the k-th call of one with the k-th of the other. Analyses have rows of their own.
 use crate::player::Player;
 use crate::player::standing;
 use compare::answers::same_answers;
@@ -38,7 +38,7 @@ pub(crate) struct Both {
 
 // ---- comparing
 
-// Whether the players stand at a difference, or at the same answers.
+// Whether the players have come to a difference, or to the same answers.
 fn is_same(
     l: Player,
     r: Player,
@@ -138,7 +138,7 @@ fn empty_cell(s: &mut [u8; SHEET], at: usize, one: bool, mark: bool) -> usize {
     at
 }
 
-// A player's answer, or what stands for it.
+// A player's answer, or what is printed for it.
 fn answer_cell(
     s: &mut [u8; SHEET],
     at: usize,

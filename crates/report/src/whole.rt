@@ -275,9 +275,9 @@ fn close_both(b: Both) {
     libc::close(y.fd);
 }
 
-// ---- what stands around the rows
+// ---- what comes before and after the rows
 
-// A build's name, which stands at `name` of the sheet.
+// A build's name, which is at `name` of the sheet.
 fn build_line(s: &mut [u8; SHEET], at: usize, label: &[u8], name: usize, length: usize) -> usize {
     let after = text(s, at, label);
     if length == 0 {
@@ -454,7 +454,7 @@ fn ending(s: &mut [u8; SHEET], at: usize, b: Both, n: Names, differ: bool) {
     flush(libc::STDOUT_FILENO, s, end);
 }
 
-// What stands behind the rows: the survivors, what changed hands, and the verdict.
+// What follows the rows: the survivors, what changed hands, and the verdict.
 fn finish(
     s: &mut [u8; SHEET],
     b: Both,

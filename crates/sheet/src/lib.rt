@@ -23,7 +23,7 @@ pub fn less(a: usize, b: usize) -> usize
     if b < a { a - b } else { 0 }
 }
 
-// The byte at place i, 0 behind the end.
+// The byte at place i, 0 past the end.
 pub fn byte_at(s: &[u8; SHEET], i: usize) -> u8
     ensures { λ r. ⌜ r ≡ getD (now (s .entry)) i 0 ⌝ }
 {

@@ -118,7 +118,7 @@ fn dissolve(n: u32, records: &mut [u32])
 // ---- the sweep
 
 // Frees what is in use and not marked, dissolves the clusters whose heads are not marked, takes the marks off, and answers how many
-// objects it freed; the map tells which. Where n is no size or a slice is too short it does nothing.
+// objects it freed; the map tells which. Where n is above 4,095 or a slice is too short it does nothing.
 pub fn sweep(n: u32, records: &mut [u32], slots: &mut [u32], map: &mut [u64]) -> u32
     ensures { λ k. ⌜ S.Swept n (now (records .entry)) (now (slots .entry)) (now (map .entry)) (now (records .exit)) (now (slots .exit)) (now (map .exit)) k ⌝ }
 {

@@ -25,7 +25,7 @@ pub fn zero(words: &mut [u32], k: usize)
 }
 
 // Eight words that are all there become 0.
-// The stores stand one by one because a loop would become a call of memset, which takes longer than they do.
+// The stores are written one by one because a loop would become a call of memset, which takes longer than they do.
 fn store_eight(words: &mut [u32], at: usize)
     requires { ⌜ at + widthMax ≤ length (now words) ⌝ }
     ensures { λ _. ⌜ now (words .exit) ≡ cleared at (at + widthMax) (now (words .entry)) ⌝ }

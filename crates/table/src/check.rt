@@ -33,7 +33,7 @@ fn head_ok(n: u32, r: u32, records: &[u32]) -> bool
     c == 0 || cluster_of(record_of(n, c, records)) == c
 }
 
-// Word w may stand in slot k of an object of that width: an unused slot is 0, and a used one holds no illegal word and names no free object.
+// Slot k of an object of that width may hold word w: an unused slot is 0, and a used one holds no illegal word and names no free object.
 fn slot_ok(n: u32, width: u32, k: usize, w: u32, records: &[u32]) -> bool
     requires { ⌜ n ≤ objectMax ⌝ }
     ensures { λ b. ⌜ b ≡ slotOk n (now (records .entry)) width k w ⌝ }
@@ -59,7 +59,7 @@ fn member_leaves(n: u32, c: u32, w: u32, records: &[u32]) -> bool
     leaves(n, c, w, records)
 }
 
-// The out bit stands exactly where the object is a member and a used word of it leaves the cluster.
+// The out bit is set exactly where the object is a member and a used word of it leaves the cluster.
 fn out_ok(r: u32, leaving: bool) -> bool
     ensures { λ b. ⌜ b ≡ outOk r leaving ⌝ }
 {
@@ -121,7 +121,7 @@ fn roots_ok(n: u32, r: u32, records: &[u32], roots: &[u32]) -> bool
     true
 }
 
-// Whether the heap is well formed; false where n is no size or a slice is too short.
+// Whether the heap is well formed; false where n is above 4,095 or a slice is too short.
 pub fn well_formed(n: u32, r: u32, records: &[u32], slots: &[u32], roots: &[u32]) -> bool
     ensures { λ b. ⌜ b ≡ checked n r (now (records .entry)) (now (slots .entry)) (now (roots .entry)) ⌝ }
 {

@@ -88,7 +88,7 @@ fn is_hex(word: &[u8]) -> bool
     word[1] == b'x' || word[1] == b'X'
 }
 
-// The number that a word stands for.
+// The number that a word says.
 pub fn value(word: &[u8]) -> Number
     ensures { λ r. ⌜ r ≡ valueOf (now (word .entry)) ⌝ }
 {
