@@ -46,7 +46,7 @@ pub data Visits (H : Heap) (limit : ℕ) : ℕ → List ℕ → Known → Known 
   first : {o c d : ℕ} {l m : List ℕ} {k k₁ k₂ k₃ : Known} → Meets H limit o c k m d k₁ → Visits H limit d m k₁ k₂ → Visits H limit c l k₂ k₃
       → Visits H limit c (o ∷ l) k k₃
 
--- the walk from the roots by index, then from the sinks by number, with no cluster passed, ends with the clusters cl
+-- the walk from the roots and then from the sinks, none of them passed a cluster, ends with the clusters cl
 abbrev pub Forms : Heap → ℕ → List ℕ → (ℕ → ℕ) → Type 0
 Forms H limit roots cl =
     (k : Known)

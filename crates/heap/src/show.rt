@@ -1,4 +1,4 @@
-// Show: an object's used slots, as a part of the caller's buffer.
+// Show: an object's used slots, in the caller's own buffer.
 ghost use mathlib.Core.Path.{_≡_};
 ghost use Prim.Native.Nat.{_+_, _*_};
 ghost use Rattle.rules.specs.Show as Show;

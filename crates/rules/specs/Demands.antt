@@ -90,7 +90,7 @@ Ended H w = (w .todo ≡ []) × ((x : ℕ) → Obj (H .n) x → w .flags postpon
 unfoldable pub place : ℕ → ℕ → ℕ → ℕ
 place last n x = cond (ltb last x) (x - last) (n - last + x)
 
--- an accepted allocate gives i, the first free object in that order: in use with that width and no other bit, its words 0; no other object changes
+-- an accepted allocate gives i, the first free object in that order, whose record then has bit 0 and the width alone, and whose words are 0; no other object changes
 pub record Gives (c : Control) (width : ℕ) (recs slots : List ℕ) (i : ℕ) (o : Allocate.Outcome) : Type 0 where
   pub object : Obj (c .n) i
   pub free : recOf (c .n) recs i ≡ 0
@@ -288,7 +288,7 @@ pub record Analyses (s : State) (work : List ℕ) : Type 0 where
   pub formed : (x : ℕ) → Led s x → cluster (rec s x) ≡ 0 → isWritten (rec s x) ≡ false → isSink (rec s x) ≡ false
       → (walkedIn s work x ≢ 0) × (cluster (rec s (walkedIn s work x)) ≡ 0)
   pub sizes : (c : ℕ) → c ≢ 0 → cluster (rec s c) ≡ 0 → membersIn s work c ≤ limitIn s work
-  -- a new cluster is deleted exactly if 2p > 5s or s < 4
+  -- a new cluster is deleted exactly where it has too many out pointers (2p > 5s) or too few members (s < 4)
   pub deleted : (x : ℕ) → walkedIn s work x ≢ 0 → cluster (rec s (walkedIn s work x)) ≡ 0
       → let c = walkedIn s work x in
       cluster (recAfter (analyse work) s x)
@@ -308,7 +308,7 @@ pub record Analyses (s : State) (work : List ℕ) : Type 0 where
 -- the control record that an accepted analysis of any buffers answers
 pub record Adjusts (s : State) (work : List ℕ) : Type 0 where
   pub same : let c = analysed s work .answer .control in (c .n ≡ s .control .n) × (c .r ≡ s .control .r) × (c .last ≡ s .control .last)
-  -- the limit is first a sixteenth of the objects in use, later half or twice what it was, and always held to 8 to 4,095
+  -- the limit is first a sixteenth of the objects in use, later half or twice what it was, and always at least 8 and at most 4,095
   pub first : s .control .limit ≡ 0 → limitIn s work ≡ max 8 (min 4095 (count (s .control .n) (λ x. inUse (rec s x)) / 16))
   pub halved : s .control .limit ≢ 0 → s .control .«out_loss» < s .control .«write_loss» → limitIn s work ≡ max 8 (min 4095 (s .control .limit / 2))
   pub doubled : s .control .limit ≢ 0 → s .control .«write_loss» ≤ s .control .«out_loss» → limitIn s work ≡ max 8 (min 4095 (2 * s .control .limit))
