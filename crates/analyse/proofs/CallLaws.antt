@@ -256,7 +256,7 @@ outcome c recs slots roots work z long m e recs′ work′ loss clusters members
         recs′ work′
         ≡ (let a = analysed c recs slots roots work in
         record {
-          answer = record { refusal = 0; clusters = a .clusters; members = a .members; control = withAnalysis (limitAfter c recs slots roots work) (a .outLoss) c };
+          answer = record { refusal = 0; clusters = a .clusters; members = a .members; control = withAnalysis (limitAfter c recs) (a .outLoss) c };
           records = laid (a .heap) recs;
           work = zeros (workLen (c .n)) work;
         })

@@ -115,7 +115,7 @@ objectOf (Refusal k) = 0
 -- what is known of the object chosen
 pub record Given (c : Control) (width : ℕ) (recs slots : List ℕ) (x : ℕ) : Type 0 where
   pub passed : first (allocateTests c width recs slots) ≡ 0
-  pub same : x ≡ given c width recs slots
+  pub same : x ≡ given c recs
   pub low : 1 ≤ x
   pub high : x ≤ c .n
   pub recs-long : c .n ≤ length recs
@@ -126,12 +126,12 @@ module _ (c : Control) (width : ℕ) (recs slots : List ℕ) where
   unfolding Allocate.allocate choice outcome by refusalOf
   refused k e = go (first (allocateTests c width recs slots)) e
     where
-      go : (m : ℕ) → Refusal k ≡ by m (Object (given c width recs slots)) (λ j. Refusal j)
+      go : (m : ℕ) → Refusal k ≡ by m (Object (given c recs)) (λ j. Refusal j)
           → Allocate.gives (record { refusal = k; object = 0; control = c }) recs slots
           ≡ by m (record {
-            answer = record { refusal = 0; object = given c width recs slots; control = withLast (given c width recs slots) c };
-            records = eachRecord (c .n) (λ x r. cond (eqb x (given c width recs slots)) (newRecord width) r) recs;
-            slots = eachSlot (c .n) (λ x w. cond (eqb x (given c width recs slots)) 0 w) slots;
+            answer = record { refusal = 0; object = given c recs; control = withLast (given c recs) c };
+            records = eachRecord (c .n) (λ x r. cond (eqb x (given c recs)) (newRecord width) r) recs;
+            slots = eachSlot (c .n) (λ x w. cond (eqb x (given c recs)) 0 w) slots;
           }) (λ j. record { answer = record { refusal = j; object = 0; control = c }; records = recs; slots = slots })
       go zero e = let q : suc k ≡ 0 = ap refusalOf e in absurd (omega arith)
       go (suc m) e =
@@ -140,7 +140,7 @@ module _ (c : Control) (width : ℕ) (recs slots : List ℕ) where
           ap (λ (j : ℕ). Allocate.gives (record { refusal = j; object = 0; control = c }) recs slots) r
 
   -- a found object is one of the n
-  given-named : given c width recs slots ≢ 0 → c .last ≤ c .n → (1 ≤ given c width recs slots) × (given c width recs slots ≤ c .n)
+  given-named : given c recs ≢ 0 → c .last ≤ c .n → (1 ≤ given c recs) × (given c recs ≤ c .n)
   unfolding given
   given-named d l =
       candidates-of (c .last) (c .n) _ l (firstOf-found (λ y. free (recOf (c .n) recs y)) (candidates (c .last) (c .n)) d .0)
@@ -149,7 +149,7 @@ module _ (c : Control) (width : ℕ) (recs slots : List ℕ) where
   unfolding short
   long t e = ltb-false (length recs) (c .n) (or-split (ltb (length recs) (c .n)) t e .0)
 
-  passes : (x : ℕ) → first (allocateTests c width recs slots) ≡ 0 → x ≡ given c width recs slots → Given c width recs slots x
+  passes : (x : ℕ) → first (allocateTests c width recs slots) ≡ 0 → x ≡ given c recs → Given c width recs slots x
   unfolding allocateTests
   passes x z s =
       let t = first-passed 19 _ _ z in
@@ -163,7 +163,7 @@ module _ (c : Control) (width : ℕ) (recs slots : List ℕ) where
   unfolding choice outcome by refusalOf objectOf
   given-facts x e = go (first (allocateTests c width recs slots)) refl e
     where
-      go : (m : ℕ) → first (allocateTests c width recs slots) ≡ m → Object x ≡ by m (Object (given c width recs slots)) (λ j. Refusal j) → Given c width recs slots x
+      go : (m : ℕ) → first (allocateTests c width recs slots) ≡ m → Object x ≡ by m (Object (given c recs)) (λ j. Refusal j) → Given c width recs slots x
       go zero z e = passes x z (ap objectOf e)
       go (suc m) z e = let q : 0 ≡ suc (suc m) = ap refusalOf e in absurd (omega arith)
 

@@ -8,4 +8,4 @@ use Rattle.heap.specs.declared.allocate.Choice.{Choice}
 use Rattle.heap.specs.declared.allocate.Choice.the-variants.{Object, Refusal}
 
 unfoldable pub choice : Control → ℕ → List ℕ → List ℕ → Choice
-choice c width recs slots = outcome (allocateTests c width recs slots) (Object (given c width recs slots)) (λ k. Refusal k)
+choice c width recs slots = outcome (allocateTests c width recs slots) (Object (given c recs)) (λ k. Refusal k)

@@ -213,7 +213,7 @@ module _ (s : State) (I : Inv s) (i v : ℕ) (low : 1 ≤ i) (high : i ≤ s .co
 -- ---- the call
 
 module _ (s : State) (I : Inv s) (v : ℕ) where
-  same-given : given (s .control) v (s .records) (s .slots) ≡ plainGiven (plainOf s)
+  same-given : given (s .control) (s .records) ≡ plainGiven (plainOf s)
   unfolding given plainGiven
   same-given =
       rw (cells-size (s .control .n) (s .records) (s .slots))
@@ -227,9 +227,9 @@ module _ (s : State) (I : Inv s) (v : ℕ) where
       rw (inv-control s I, enough (s .control .n) (s .records) (I .recs-long), enough (8 * s .control .n) (s .slots) (I .slots-long), same-given) refl
 
   record Passed : Type 0 where
-    low : 1 ≤ given (s .control) v (s .records) (s .slots)
-    high : given (s .control) v (s .records) (s .slots) ≤ s .control .n
-    blank : rec s (given (s .control) v (s .records) (s .slots)) ≡ 0
+    low : 1 ≤ given (s .control) (s .records)
+    high : given (s .control) (s .records) ≤ s .control .n
+    blank : rec s (given (s .control) (s .records)) ≡ 0
     narrow : v ≤ 8
 
   facts : first (Allocate.allocateTests (s .control) v (s .records) (s .slots)) ≡ 0 → Passed
@@ -249,7 +249,7 @@ module _ (s : State) (I : Inv s) (v : ℕ) where
   unfolding step Allocate.allocate answer
   allocate-inv =
       all-by (λ (o : Allocate.Outcome). Inv (stateOf o)) _ _ _
-      (λ z. let F = facts z in given-inv s I (given (s .control) v (s .records) (s .slots)) v (F .low) (F .high) (F .blank) (F .narrow)) (λ m. I)
+      (λ z. let F = facts z in given-inv s I (given (s .control) (s .records)) v (F .low) (F .high) (F .blank) (F .narrow)) (λ m. I)
 
   pub allocate-same : Same (allocate v) s
   unfolding step Allocate.allocate answer plainStep
@@ -263,11 +263,11 @@ module _ (s : State) (I : Inv s) (v : ℕ) where
     where
       accepted : Passed → _≡_ {A = Plain}
           (record {
-            last = given (s .control) v (s .records) (s .slots);
+            last = given (s .control) (s .records);
             roots = rootsOf s;
             cells = cellsOf (s .control .n)
-                (eachRecord (s .control .n) (λ x r. cond (eqb x (given (s .control) v (s .records) (s .slots))) (newRecord v) r) (s .records))
-                (eachSlot (s .control .n) (λ x w. cond (eqb x (given (s .control) v (s .records) (s .slots))) 0 w) (s .slots));
+                (eachRecord (s .control .n) (λ x r. cond (eqb x (given (s .control) (s .records))) (newRecord v) r) (s .records))
+                (eachSlot (s .control .n) (λ x w. cond (eqb x (given (s .control) (s .records))) 0 w) (s .slots));
           })
           (record {
             last = plainGiven (plainOf s);
@@ -275,8 +275,8 @@ module _ (s : State) (I : Inv s) (v : ℕ) where
             cells = set (cellsOf (s .control .n) (s .records) (s .slots)) (plainGiven (plainOf s) - 1) (object (replicate v 0) false);
           })
       accepted F =
-          ap (λ (l : List Cell). record { last = given (s .control) v (s .records) (s .slots); roots = rootsOf s; cells = l })
-          (given-cells s I (given (s .control) v (s .records) (s .slots)) v (F .low) (F .high) (F .blank) (F .narrow))
+          ap (λ (l : List Cell). record { last = given (s .control) (s .records); roots = rootsOf s; cells = l })
+          (given-cells s I (given (s .control) (s .records)) v (F .low) (F .high) (F .blank) (F .narrow))
           ∙ ap (λ (x : ℕ). record { last = x; roots = rootsOf s; cells = set (cellsOf (s .control .n) (s .records) (s .slots)) (x - 1) (object (replicate v 0) false) }) same-given
 
 -- the form that is lent the control record leaves the same state

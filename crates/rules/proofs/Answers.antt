@@ -82,7 +82,7 @@ nil-words (w ∷ l) = ap (λ r. 0 ∷ r) (nil-words l)
 
 module _ (c : Control) (v : ℕ) (recs slots : List ℕ) where
   abbrev g : ℕ
-  g = Allocate.given c v recs slots
+  g = Allocate.given c recs
 
   -- refused with 24
   full : Refuses 24 (Allocate.allocateTests c v recs slots) → (x : ℕ) → Obj (c .n) x → recOf (c .n) recs x ≢ 0

@@ -54,10 +54,10 @@ beq-same true false e = absurd (true≢false e)
 beq-same false true e = absurd (false≢true e)
 beq-same false false e = refl
 
-legal-at : (n : ℕ) (recs slots : List ℕ) (x : ℕ) → (recOf n recs x ≡ 0) ⊎ Legal n (recOf n recs x) → legalAt n recs slots x ≡ true
+legal-at : (n : ℕ) (recs : List ℕ) (x : ℕ) → (recOf n recs x ≡ 0) ⊎ Legal n (recOf n recs x) → legalAt n recs x ≡ true
 unfolding legalAt R.free
-legal-at n recs slots x (inl e) = rw e refl
-legal-at n recs slots x (inr L) = rw (facts-legal n (recOf n recs x) L) (or-true (eqb (recOf n recs x) 0))
+legal-at n recs x (inl e) = rw e refl
+legal-at n recs x (inr L) = rw (facts-legal n (recOf n recs x) L) (or-true (eqb (recOf n recs x) 0))
 
 pub sane : (n r : ℕ) → (r ≡ 0) ⊎ Legal n r → damaged n r ≡ false
 sane n r (inl e) = free-undamaged n r (zero-free n r e)
@@ -70,7 +70,7 @@ illegal n r (inr L) = ap not (facts-legal n r L) ∙ sym (ne-eqb r 0 (legal-nonz
 
 -- the rules of a well-formed heap, from what they say of each object
 module _ (n r : ℕ) (recs slots roots : List ℕ) where
-  head-at : (x : ℕ) → Heads (view n recs slots .cluster) → Dec (cluster (recOf n recs x) ≡ 0) → headAt n recs slots x ≡ true
+  head-at : (x : ℕ) → Heads (view n recs slots .cluster) → Dec (cluster (recOf n recs x) ≡ 0) → headAt n recs x ≡ true
   unfolding headAt view
   head-at x h (yes e) = rw e refl
   head-at x h (no e) = rw (eq-eqb _ _ (h x e)) (or-true (eqb (cluster (recOf n recs x)) 0))
@@ -85,10 +85,10 @@ module _ (n r : ℕ) (recs slots roots : List ℕ) where
   unfolding wellFormed emptyAt wordsAt outAt rootsNamed
   formed-by legal empty named heads exact rooted =
       rw (
-        allTo-all n (legalAt n recs slots) (λ x p q. legal-at n recs slots x (legal x)),
+        allTo-all n (legalAt n recs) (λ x p q. legal-at n recs x (legal x)),
         allTo-all n (λ x. allOf isNil (otherWords n recs slots x)) empty,
         allTo-all n (λ x. allOf (λ w. isNil w || isImmediate w || names n recs w) (usedWords n recs slots x)) (λ x p q. allOf-all _ _ (named x)),
-        allTo-all n (headAt n recs slots) (λ x p q. head-at x heads (ℕ-discrete _ _)),
+        allTo-all n (headAt n recs) (λ x p q. head-at x heads (ℕ-discrete _ _)),
         allTo-all n (λ x. Bool·beq (view n recs slots .out x) (exactOut (view n recs slots) x)) (λ x p q. beq-same _ _ (exact x)),
       )
       (allOf-all _ _ rooted)

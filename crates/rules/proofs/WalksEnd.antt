@@ -45,10 +45,10 @@ module _ (n r : ℕ) (recs slots roots : List ℕ) (formed : wellFormed n r recs
   from = starts H (take r roots)
 
   -- what the check says of heads and of roots
-  parts : (allTo n (headAt n recs slots) ≡ true) × (rootsNamed n r recs roots ≡ true)
+  parts : (allTo n (headAt n recs) ≡ true) × (rootsNamed n r recs roots ≡ true)
   unfolding wellFormed
   parts =
-      fourth-sixth (allTo n (legalAt n recs slots)) (allTo n (emptyAt n recs slots)) (allTo n (wordsAt n recs slots)) (allTo n (headAt n recs slots))
+      fourth-sixth (allTo n (legalAt n recs)) (allTo n (emptyAt n recs slots)) (allTo n (wordsAt n recs slots)) (allTo n (headAt n recs))
       (allTo n (outAt n recs slots)) (rootsNamed n r recs roots) formed
 
   formed-roots : (y : ℕ) → List·Memᴰ y (take r roots) → y ≤ n
@@ -64,7 +64,7 @@ module _ (n r : ℕ) (recs slots roots : List ℕ) (formed : wellFormed n r recs
   unfolding view headAt
   formed-heads x nz =
       let b = view-range n recs slots x nz in
-      go (eqb (cluster (recOf n recs x)) 0) refl (allTo-at n (headAt n recs slots) (parts .0) x (b .0) (b .1))
+      go (eqb (cluster (recOf n recs x)) 0) refl (allTo-at n (headAt n recs) (parts .0) x (b .0) (b .1))
     where
       go : (a : Bool) → eqb (cluster (recOf n recs x)) 0 ≡ a
           → (a || eqb (cluster (recOf n recs (cluster (recOf n recs x)))) (cluster (recOf n recs x))) ≡ true

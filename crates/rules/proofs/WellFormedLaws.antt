@@ -157,9 +157,9 @@ module _ (n r : ℕ) (recs slots roots : List ℕ) where
         rooted = λ w m. root w (allOf-at (λ v. isNil v || names n recs v) (take r roots) w (unfold rootsNamed in (f .1)) m);
       }
     where
-      fit : allTo n (legalAt n recs slots) ≡ true → (x : ℕ) → Obj n x ⊎ (recOf n recs x ≡ 0) → (recOf n recs x ≡ 0) ⊎ Legal n (recOf n recs x)
+      fit : allTo n (legalAt n recs) ≡ true → (x : ℕ) → Obj n x ⊎ (recOf n recs x ≡ 0) → (recOf n recs x ≡ 0) ⊎ Legal n (recOf n recs x)
       fit a x (inr z) = inl z
-      fit a x (inl (p, q)) = go (or-cases _ _ (unfold legalAt in (allTo-at n (legalAt n recs slots) a x p q)))
+      fit a x (inl (p, q)) = go (or-cases _ _ (unfold legalAt in (allTo-at n (legalAt n recs) a x p q)))
         where
           go : (free (recOf n recs x) ≡ true) ⊎ (legal n (recOf n recs x) ≡ true) → (recOf n recs x ≡ 0) ⊎ Legal n (recOf n recs x)
           go (inl z) = inl (unfold free in (eqb-true (recOf n recs x) 0 z))
@@ -183,12 +183,12 @@ module _ (n r : ℕ) (recs slots roots : List ℕ) where
           (allOf-at (λ v. isNil v || isImmediate v || names n recs v) (usedWords n recs slots x) w
           (unfold wordsAt in (allTo-at n (wordsAt n recs slots) a x p q)) m)
 
-      heads : allTo n (headAt n recs slots) ≡ true → (x : ℕ) → cluster (recOf n recs x) ≢ 0 → Obj n x ⊎ (recOf n recs x ≡ 0)
+      heads : allTo n (headAt n recs) ≡ true → (x : ℕ) → cluster (recOf n recs x) ≢ 0 → Obj n x ⊎ (recOf n recs x ≡ 0)
           → cluster (recOf n recs (cluster (recOf n recs x))) ≡ cluster (recOf n recs x)
       heads a x z (inr y) = absurd (z (cluster-none n recs x y))
       heads a x z (inl (p, q)) =
           go (or-cases (eqb (cluster (recOf n recs x)) 0) (eqb (cluster (recOf n recs (cluster (recOf n recs x)))) (cluster (recOf n recs x)))
-          (unfold headAt in (allTo-at n (headAt n recs slots) a x p q)))
+          (unfold headAt in (allTo-at n (headAt n recs) a x p q)))
         where
           go : (eqb (cluster (recOf n recs x)) 0 ≡ true) ⊎ (eqb (cluster (recOf n recs (cluster (recOf n recs x)))) (cluster (recOf n recs x)) ≡ true)
               → cluster (recOf n recs (cluster (recOf n recs x))) ≡ cluster (recOf n recs x)

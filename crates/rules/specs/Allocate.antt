@@ -21,6 +21,10 @@ unfoldable pub firstOf : (ℕ → Bool) → List ℕ → ℕ
 firstOf t [] = 0
 firstOf t (x ∷ l) = cond (t x) x (firstOf t l)
 
+-- the object that is given, 0 where every record is nonzero
+unfoldable pub given : Control → List ℕ → ℕ
+given c recs = firstOf (λ x. free (recOf (c .n) recs x)) (candidates (c .last) (c .n))
+
 -- what allocate answers and leaves
 pub record Outcome : Type 0 where
   pub answer : Allocated
@@ -43,22 +47,19 @@ abbrev pub givesInPlace : AllocatedInPlace → Control → List ℕ → List ℕ
 givesInPlace a c recs slots = record { answer = a; control = c; records = recs; slots = slots }
 
 module _ (c : Control) (width : ℕ) (recs slots : List ℕ) where
-  -- the object that is given, 0 where every record is nonzero
-  unfoldable pub given : ℕ
-  given = firstOf (λ x. free (recOf (c .n) recs x)) (candidates (c .last) (c .n))
-
   -- its tests in their order ("From the state")
   unfoldable pub allocateTests : List Test
   allocateTests =
-      (20, badControl c) ∷ (2, short (c .n) recs || short (slotsLen (c .n)) slots) ∷ (3, ltb widthMax width) ∷ (24, eqb given 0) ∷ []
+      (20, badControl c) ∷ (2, short (c .n) recs || short (slotsLen (c .n)) slots) ∷ (3, ltb widthMax width) ∷ (24, eqb (given c recs) 0) ∷ []
 
   -- the outcome ("The heap")
   unfoldable pub allocate : Outcome
   allocate =
       outcome allocateTests
-      (gives (record { refusal = 0; object = given; control = withLast given c })
-      (eachRecord (c .n) (λ x r. cond (eqb x given) (newRecord width) r) recs)
-      (eachSlot (c .n) (λ x w. cond (eqb x given) 0 w) slots))
+      (let i = given c recs in
+      gives (record { refusal = 0; object = i; control = withLast i c })
+      (eachRecord (c .n) (λ x r. cond (eqb x i) (newRecord width) r) recs)
+      (eachSlot (c .n) (λ x w. cond (eqb x i) 0 w) slots))
       (λ k. gives (record { refusal = k; object = 0; control = c }) recs slots)
 
   -- the form that is lent the control record leaves there what the other answers

@@ -39,6 +39,10 @@ nextLimit c used =
 unfoldable pub usedCount : ℕ → List ℕ → ℕ
 usedCount n recs = count n (λ x. inUse (recOf n recs x))
 
+-- the size limit that the call works by and leaves ("Analysis")
+unfoldable pub limitAfter : Control → List ℕ → ℕ
+limitAfter c recs = nextLimit c (usedCount (c .n) recs)
+
 -- what analyse answers and leaves
 pub record Outcome : Type 0 where
   pub answer : Analysed
@@ -57,20 +61,16 @@ module _ (c : Control) (recs slots roots work : List ℕ) where
       ∷ (2, short (c .n) recs || short (slotsLen (c .n)) slots || short (c .r) roots || short (workLen (c .n)) work)
       ∷ (21, not (wellFormed (c .n) (c .r) recs slots roots)) ∷ []
 
-  -- the size limit that the call works by and leaves ("Analysis")
-  unfoldable pub limitAfter : ℕ
-  limitAfter = nextLimit c (usedCount (c .n) recs)
-
   -- the walk starts from the roots and from the sinks, which `Graph.analyse` adds
   unfoldable pub analysed : Graph.Analysed
-  analysed = Graph.analyse rule (view (c .n) recs slots) limitAfter (take (c .r) roots)
+  analysed = Graph.analyse rule (view (c .n) recs slots) (limitAfter c recs) (take (c .r) roots)
 
   -- the outcome ("Analysis")
   unfoldable pub analyse : Outcome
   analyse =
       outcome analyseTests
       (let a = analysed in
-      gives (record { refusal = 0; clusters = a .clusters; members = a .members; control = withAnalysis limitAfter (a .outLoss) c })
+      gives (record { refusal = 0; clusters = a .clusters; members = a .members; control = withAnalysis (limitAfter c recs) (a .outLoss) c })
       (laid (a .heap) recs)
       (zeros (workLen (c .n)) work))
       (λ m. gives (record { refusal = m; clusters = 0; members = 0; control = c }) recs work)

@@ -14,11 +14,15 @@ use Rattle.rules.specs.View.{view, exactOut}
 unfoldable pub names : ℕ → List ℕ → ℕ → Bool
 names n recs w = isPointer n w && inUse (recOf n recs w)
 
-module _ (n : ℕ) (recs slots : List ℕ) where
-  -- the record is 0 or legal
-  unfoldable pub legalAt : ℕ → Bool
-  legalAt x = free (recOf n recs x) || legal n (recOf n recs x)
+-- the record of x is 0 or legal
+unfoldable pub legalAt : ℕ → List ℕ → ℕ → Bool
+legalAt n recs x = free (recOf n recs x) || legal n (recOf n recs x)
 
+-- the object that its cluster number names carries that number too
+unfoldable pub headAt : ℕ → List ℕ → ℕ → Bool
+headAt n recs x = let c = cluster (recOf n recs x) in eqb c 0 || eqb (cluster (recOf n recs c)) c
+
+module _ (n : ℕ) (recs slots : List ℕ) where
   -- the unused slots are 0; a free object has width 0, so all its slots are
   unfoldable pub emptyAt : ℕ → Bool
   emptyAt x = allOf isNil (otherWords n recs slots x)
@@ -26,12 +30,6 @@ module _ (n : ℕ) (recs slots : List ℕ) where
   -- the used slots are nil, immediates, or name objects in use
   unfoldable pub wordsAt : ℕ → Bool
   wordsAt x = allOf (λ w. isNil w || isImmediate w || names n recs w) (usedWords n recs slots x)
-
-  -- the object that the cluster number names carries that number too
-  unfoldable pub headAt : ℕ → Bool
-  headAt x =
-      let c = cluster (recOf n recs x) in
-      eqb c 0 || eqb (cluster (recOf n recs c)) c
 
   -- the out bit is exact
   unfoldable pub outAt : ℕ → Bool
@@ -44,8 +42,8 @@ rootsNamed n r recs roots = allOf (λ w. isNil w || names n recs w) (take r root
 -- all rules together
 unfoldable pub wellFormed : ℕ → ℕ → List ℕ → List ℕ → List ℕ → Bool
 wellFormed n r recs slots roots =
-    allTo n (legalAt n recs slots) && allTo n (emptyAt n recs slots) && allTo n (wordsAt n recs slots)
-    && allTo n (headAt n recs slots) && allTo n (outAt n recs slots) && rootsNamed n r recs roots
+    allTo n (legalAt n recs) && allTo n (emptyAt n recs slots) && allTo n (wordsAt n recs slots)
+    && allTo n (headAt n recs) && allTo n (outAt n recs slots) && rootsNamed n r recs roots
 
 -- what the check answers for any slices: none is too short, n is a size, and the heap is well formed
 unfoldable pub checked : ℕ → ℕ → List ℕ → List ℕ → List ℕ → Bool

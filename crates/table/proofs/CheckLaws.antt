@@ -143,7 +143,7 @@ module _ (n : ℕ) (recs slots : List ℕ) (i : ℕ) where
     rec-is : recOf n recs (suc i) ≡ r
     rec-is = let z : suc i - 1 ≡ i = omega arith in recOf-get n recs (suc i) (omega arith) p ∙ ap (λ (j : ℕ). getD recs j 0) z ∙ sym e
 
-    legal-is : legalAt n recs slots (suc i) ≡ recordOk n r
+    legal-is : legalAt n recs (suc i) ≡ recordOk n r
     unfolding legalAt recordOk
     legal-is = rw rec-is refl
 
@@ -155,7 +155,7 @@ module _ (n : ℕ) (recs slots : List ℕ) (i : ℕ) where
     unfolding wordsAt usedWords names used
     words-are = rw rec-is refl
 
-    head-is : headAt n recs slots (suc i) ≡ headOk n recs r
+    head-is : headAt n recs (suc i) ≡ headOk n recs r
     unfolding headAt headOk
     head-is = rw rec-is refl
 
@@ -277,12 +277,12 @@ unfolding wellFormed objectsOk objectOk rootsNamed names rootsOk used
 formed-parts n r recs slots roots =
     ap (λ (b : Bool). b && rootsOk n r recs roots)
     (sym
-    (allTo-and n (λ x. legalAt n recs slots x && emptyAt n recs slots x && wordsAt n recs slots x && headAt n recs slots x) (outAt n recs slots)
+    (allTo-and n (λ x. legalAt n recs x && emptyAt n recs slots x && wordsAt n recs slots x && headAt n recs x) (outAt n recs slots)
     ∙ ap (λ (b : Bool). b && allTo n (outAt n recs slots))
-    (allTo-and n (λ x. legalAt n recs slots x && emptyAt n recs slots x && wordsAt n recs slots x) (headAt n recs slots)
-    ∙ ap (λ (b : Bool). b && allTo n (headAt n recs slots))
-    (allTo-and n (λ x. legalAt n recs slots x && emptyAt n recs slots x) (wordsAt n recs slots)
-    ∙ ap (λ (b : Bool). b && allTo n (wordsAt n recs slots)) (allTo-and n (legalAt n recs slots) (emptyAt n recs slots))))))
+    (allTo-and n (λ x. legalAt n recs x && emptyAt n recs slots x && wordsAt n recs slots x) (headAt n recs)
+    ∙ ap (λ (b : Bool). b && allTo n (headAt n recs))
+    (allTo-and n (λ x. legalAt n recs x && emptyAt n recs slots x) (wordsAt n recs slots)
+    ∙ ap (λ (b : Bool). b && allTo n (wordsAt n recs slots)) (allTo-and n (legalAt n recs) (emptyAt n recs slots))))))
 
 -- ---- the small tests
 

@@ -48,7 +48,7 @@ outOk r leaving = Bool·beq (isOut r) (not (eqb (cluster r) 0) && leaving)
 -- object x keeps the rules
 unfoldable pub objectOk : ℕ → List ℕ → List ℕ → ℕ → Bool
 objectOk n recs slots x =
-    legalAt n recs slots x && emptyAt n recs slots x && wordsAt n recs slots x && headAt n recs slots x && outAt n recs slots x
+    legalAt n recs x && emptyAt n recs slots x && wordsAt n recs slots x && headAt n recs x && outAt n recs slots x
 
 unfoldable pub objectsOk : ℕ → List ℕ → List ℕ → Bool
 objectsOk n recs slots = allTo n (objectOk n recs slots)
