@@ -39,7 +39,7 @@ for crate in crates:
                 uses.append(f'use Rattle.{crate}.specs.{module}{what}')
             uses.append(f'use Rattle.{crate}.specs.{module} as {name}')
             names += [f'{name}.{x}' for x in found]
-unfolding = 'unfolding told ctl nth stateOf ' + ' '.join(names)
+unfolding = 'unfolding observed ctl nth stateOf ' + ' '.join(names)
 definitions = '''
 unfoldable pub ctl : Control → List ℕ
 ctl c = c .n ∷ c .r ∷ c .last ∷ c .limit ∷ c .«write_loss» ∷ c .«out_loss» ∷ []
@@ -49,33 +49,33 @@ nth l i = getD l i 0
 
 unfoldable pub stateOf : List ℕ → List ℕ → List ℕ → List ℕ → State
 stateOf c recs slots roots = record {
-  control = record { n = nth c 0; r = nth c 1; last = nth c 2; limit = nth c 3; «write_loss» = nth c 4; «out_loss» = nth c 5 };
+  control = LControlRecord.controlWith (nth c 2) (nth c 3) (nth c 4) (nth c 5) (LControlRecord.newControl (nth c 0) (nth c 1));
   records = recs; slots = slots; roots = roots;
 }
 
-unfoldable pub told : Call → State → List (List ℕ)
-told (allocate width) s =
+unfoldable pub observed : Call → State → List (List ℕ)
+observed (allocate width) s =
     let o = RAllocate.allocate (s .control) width (s .records) (s .slots) in
     (o .answer .refusal ∷ o .answer .object ∷ []) ∷ ctl (o .answer .control) ∷ o .records ∷ o .slots ∷ s .roots ∷ []
-told (allocateInPlace width) s =
+observed (allocateInPlace width) s =
     let o = RAllocate.allocateInPlace (s .control) width (s .records) (s .slots) in
     (o .answer .refusal ∷ o .answer .object ∷ []) ∷ ctl (o .control) ∷ o .records ∷ o .slots ∷ s .roots ∷ []
-told (read i k) s =
+observed (read i k) s =
     let o = RRead.read (s .control) i k (s .records) (s .slots) in (o .refusal ∷ o .word ∷ []) ∷ ctl (o .control) ∷ s .records ∷ s .slots ∷ s .roots ∷ []
-told (show i) s =
+observed (show i) s =
     let o = RShow.show (s .control) i (s .records) (s .slots) in (o .answer .refusal ∷ []) ∷ o .words ∷ ctl (o .answer .control) ∷ s .records ∷ s .slots ∷ s .roots ∷ []
-told (write i k w) s =
+observed (write i k w) s =
     let o = RWrite.write (s .control) i k w (s .records) (s .slots) in (o .answer .refusal ∷ []) ∷ ctl (o .answer .control) ∷ o .records ∷ o .slots ∷ s .roots ∷ []
-told (writeInPlace i k w) s =
+observed (writeInPlace i k w) s =
     let o = RWrite.writeInPlace (s .control) i k w (s .records) (s .slots) in (o .refusal ∷ []) ∷ ctl (o .control) ∷ o .records ∷ o .slots ∷ s .roots ∷ []
-told (setRoot j w) s =
+observed (setRoot j w) s =
     let o = RSetRoot.setRoot (s .control) j w (s .records) (s .roots) in (o .answer .refusal ∷ []) ∷ ctl (o .answer .control) ∷ s .records ∷ s .slots ∷ o .roots ∷ []
-told (declareSink i) s =
+observed (declareSink i) s =
     let o = RDeclareSink.declareSink (s .control) i (s .records) (s .slots) (s .roots) in (o .answer .refusal ∷ []) ∷ ctl (o .answer .control) ∷ o .records ∷ s .slots ∷ s .roots ∷ []
-told (collect kind work map) s =
+observed (collect kind work map) s =
     let o = RCollect.collect kind (s .control) (s .records) (s .slots) (s .roots) work map in
     (o .answer .refusal ∷ o .answer .freed ∷ o .answer .kept ∷ o .answer .scanned ∷ []) ∷ o .work ∷ o .map ∷ ctl (o .answer .control) ∷ o .records ∷ o .slots ∷ s .roots ∷ []
-told (analyse work) s =
+observed (analyse work) s =
     let o = RAnalyse.analyse (s .control) (s .records) (s .slots) (s .roots) work in
     (o .answer .refusal ∷ o .answer .clusters ∷ o .answer .members ∷ []) ∷ o .work ∷ ctl (o .answer .control) ∷ o .records ∷ s .slots ∷ s .roots ∷ []
 '''
@@ -112,7 +112,7 @@ def arg(b, n):
 def ctl(c):
     return [c.n, c.r, c.last, c.limit, c.wl, c.ol]
 def call(op, s, a):
-    """s = (control list, recs, slots, roots); gives (told, new s)"""
+    """s = (control list, recs, slots, roots); gives (observed, new s)"""
     c = Ctl(*s[0]); n = s[0][0]
     rb, sb, qb = buf(s[1]), buf(s[2]), buf(s[3])
     ra, sa, qa = arg(rb, len(s[1])), arg(sb, len(s[2])), arg(qb, len(s[3]))
@@ -167,10 +167,10 @@ out = [header()]
 stats = {}
 def lits(ls):
     return '(' + ''.join(f'{par(l)} ∷ ' for l in ls) + '[])'
-def emit(i, calls, last, st, told):
+def emit(i, calls, last, st, observed):
     cs = '(' + ''.join(f'{term(*c)} ∷ ' for c in calls) + '[])'
-    out.append(f't{i} : told {term(*last)} (afterAll step {cs} {st}) ≡ {lits(told)}\n{unfolding}\nt{i} = refl\n')
-    k = (last[0], told[0][0]); stats[k] = stats.get(k, 0) + 1
+    out.append(f't{i} : observed {term(*last)} (afterAll step {cs} {st}) ≡ {lits(observed)}\n{unfolding}\nt{i} = refl\n')
+    k = (last[0], observed[0][0]); stats[k] = stats.get(k, 0) + 1
 for i in range(made):
     n, r = R.randint(5, 9), R.randint(1, 3)
     b = ([1] * (n + 1), [1] * (8 * n + 1), [1] * (r + 1))

@@ -1,23 +1,19 @@
 -- The answers, counted object by object.
 -- Assumes nothing.
-use Prim.Native.Nat.{ℕ, zero, suc, _+_, _-_, _*_, _/_, _%_, _≤_, _<_}
+use Prim.Native.Nat.{ℕ, suc, _+_, _*_, _/_, _%_, _≤_, _<_}
 use mathlib.Core.Path.{_≡_, refl, sym, ap, ap₂, _∙_}
-use mathlib.Core.Bool.{Bool, true, false, cond, not, _&&_}
+use mathlib.Core.Bool.{Bool, true, false, cond, not}
 use mathlib.Core.List.{List}
 use mathlib.Core.Logic.{_≢_}
 use native.Mathlib.Omega.{arith}
 use lib.Dec.{eqb}
-use lib.ListN.{getD}
 use borrow.Author.Tests.{eq-eqb, ne-eqb}
-use Rattle.records.specs.Record.{cluster}
 use Rattle.graph.specs.Numbers.{bit, sum, count}
 use Rattle.graph.proofs.NumberLaws.{count-le}
-use Rattle.rules.specs.Buffers.{recOf}
-use Rattle.rules.proofs.PlaceLaws.{rec-at}
-use Rattle.links.specs.Links.{clOf}
+use Rattle.table.specs.Clusters.{clusterOf}
 use Rattle.choices.specs.Choices.{overBy, lossBy}
-use Rattle.analyse.specs.Memory.{area, sizeIn}
-use Rattle.analyse.specs.Judge.{lossAt, headAt, memberAt}
+use Rattle.analyse.specs.Memory.{area}
+use Rattle.analyse.specs.Judge.{lossAt, newHeadAt, newMemberAt}
 
 loss-le : (s p : ℕ) → lossBy s p ≤ s
 unfolding lossBy
@@ -27,39 +23,36 @@ loss-le s p = go (overBy s p)
     go true = omega arith
     go false = omega arith
 
-module _ (n : ℕ) (recs work : List ℕ) (h : ℕ) (low : 1 ≤ h) (fits : h ≤ n) (d : ℕ) (is : d ≡ cluster (getD recs (h - 1) 0)) where
-  old-is : clOf n recs h ≡ d
-  old-is = ap cluster (sym (rec-at n recs h low fits)) ∙ sym is
-
+module _ (n : ℕ) (recs work : List ℕ) (h d : ℕ) (old : d ≡ clusterOf n recs h) where
   pub loss-old : d ≢ 0 → (0 ≡ lossAt n recs work h) × (0 ≤ 4095)
   unfolding lossAt
-  loss-old p = (rw (old-is, ne-eqb d 0 p) refl, omega arith)
+  loss-old p = (rw (← old, ne-eqb d 0 p) refl, omega arith)
 
-  pub head-old : d ≢ 0 → false ≡ headAt n recs work h
-  unfolding headAt
-  head-old p = rw (old-is, ne-eqb d 0 p) refl
+  pub head-old : d ≢ 0 → false ≡ newHeadAt n recs work h
+  unfolding newHeadAt
+  head-old p = rw (← old, ne-eqb d 0 p) refl
 
-  pub member-old : d ≢ 0 → false ≡ memberAt n recs work h
-  unfolding memberAt
-  member-old p = rw (old-is, ne-eqb d 0 p) refl
+  pub member-old : d ≢ 0 → false ≡ newMemberAt n recs work h
+  unfolding newMemberAt
+  member-old p = rw (← old, ne-eqb d 0 p) refl
 
   module _ (z : d ≡ 0) (w : ℕ) where
-    pub head-new : w ≡ area n n work h → eqb (w % 4096) h ≡ headAt n recs work h
-    unfolding headAt
-    head-new e = rw (old-is, z, ← e) refl
+    pub head-new : w ≡ area n n work h → eqb (w % 4096) h ≡ newHeadAt n recs work h
+    unfolding newHeadAt
+    head-new e = rw (← old, z, ← e) refl
 
-    pub member-new : w ≡ area n n work h → not (eqb (w % 4096) 0) ≡ memberAt n recs work h
-    unfolding memberAt
-    member-new e = rw (old-is, z, ← e) refl
+    pub member-new : w ≡ area n n work h → not (eqb (w % 4096) 0) ≡ newMemberAt n recs work h
+    unfolding newMemberAt
+    member-new e = rw (← old, z, ← e) refl
 
     pub loss-other : w ≡ area n (9 * n) work h → w % 4096 ≢ h → (0 ≡ lossAt n recs work h) × (0 ≤ 4095)
     unfolding lossAt
-    loss-other e p = (rw (old-is, z, ← e, ne-eqb (w % 4096) h p) refl, omega arith)
+    loss-other e p = (rw (← old, z, ← e, ne-eqb (w % 4096) h p) refl, omega arith)
 
     pub loss-new : w ≡ area n (9 * n) work h → w % 4096 ≡ h → (s p : ℕ) → s ≡ area n (8 * n) work h → p ≡ area n 0 work h → s / 4096 ≤ 4095
         → (m : ℕ) → m ≡ lossBy (s / 4096) p → (m ≡ lossAt n recs work h) × (m ≤ 4095)
     unfolding lossAt lossBy
-    loss-new e own s p ss ps few m is = (is ∙ rw (old-is, z, head-is, ← ss, ← ps) refl, omega (arith, is, loss-le (s / 4096) p, few))
+    loss-new e own s p ss ps few m is = (is ∙ rw (← old, z, head-is, ← ss, ← ps) refl, omega (arith, is, loss-le (s / 4096) p, few))
       where
         head-is : eqb (area n (9 * n) work h % 4096) h ≡ true
         head-is = rw (← e) (eq-eqb (w % 4096) h own)
@@ -72,8 +65,8 @@ sum-more k f = let e : k + 1 ≡ suc k = omega arith in rw e refl
 
 pub record Found (n : ℕ) (recs work : List ℕ) (k loss clusters members : ℕ) : Type 0 where
   pub loss-is : loss ≡ sum k (lossAt n recs work)
-  pub clusters-is : clusters ≡ count k (headAt n recs work)
-  pub members-is : members ≡ count k (memberAt n recs work)
+  pub clusters-is : clusters ≡ count k (newHeadAt n recs work)
+  pub members-is : members ≡ count k (newMemberAt n recs work)
   pub most : k ≤ n
   pub loss-most : loss ≤ 4095 * k
 
@@ -84,21 +77,21 @@ module _ (n : ℕ) (recs work : List ℕ) where
 
   module _ (k loss clusters members : ℕ) (F : Found n recs work k loss clusters members) where
     pub clusters-most : clusters ≤ k
-    clusters-most = rw (F .clusters-is) (count-le k (headAt n recs work))
+    clusters-most = rw (F .clusters-is) (count-le k (newHeadAt n recs work))
 
     pub members-most : members ≤ k
-    members-most = rw (F .members-is) (count-le k (memberAt n recs work))
+    members-most = rw (F .members-is) (count-le k (newMemberAt n recs work))
 
-    pub found-turn : k < n → (a b c : ℕ) (p q : Bool) → a ≡ lossAt n recs work (k + 1) → a ≤ 4095 → b ≡ bit p → p ≡ headAt n recs work (k + 1)
-        → c ≡ bit q → q ≡ memberAt n recs work (k + 1) → Found n recs work (k + 1) (loss + a) (clusters + b) (members + c)
+    pub found-turn : k < n → (a : ℕ) (p q : Bool) → (a ≡ lossAt n recs work (k + 1)) × (a ≤ 4095) → p ≡ newHeadAt n recs work (k + 1)
+        → q ≡ newMemberAt n recs work (k + 1) → Found n recs work (k + 1) (loss + a) (clusters + bit p) (members + bit q)
     unfolding count
-    found-turn h a b c p q la al bp ph cq qm = record {
-      loss-is = ap₂ (λ (x y : ℕ). x + y) (F .loss-is) la ∙ sym (sum-more k (lossAt n recs work));
-      clusters-is = ap₂ (λ (x y : ℕ). x + y) (F .clusters-is) (bp ∙ ap bit ph) ∙ sym (sum-more k (λ x. bit (headAt n recs work x)));
-      members-is = ap₂ (λ (x y : ℕ). x + y) (F .members-is) (cq ∙ ap bit qm) ∙ sym (sum-more k (λ x. bit (memberAt n recs work x)));
+    found-turn h a p q la ph qm = record {
+      loss-is = ap₂ (λ (x y : ℕ). x + y) (F .loss-is) (la .0) ∙ sym (sum-more k (lossAt n recs work));
+      clusters-is = ap₂ (λ (x y : ℕ). x + y) (F .clusters-is) (ap bit ph) ∙ sym (sum-more k (λ x. bit (newHeadAt n recs work x)));
+      members-is = ap₂ (λ (x y : ℕ). x + y) (F .members-is) (ap bit qm) ∙ sym (sum-more k (λ x. bit (newMemberAt n recs work x)));
       most = omega arith;
-      loss-most = omega (arith, F .loss-most);
+      loss-most = omega (arith, F .loss-most, la .1);
     }
 
-    pub found-end : n ≤ k → (loss ≡ sum n (lossAt n recs work)) × (clusters ≡ count n (headAt n recs work)) × (members ≡ count n (memberAt n recs work))
+    pub found-end : n ≤ k → (loss ≡ sum n (lossAt n recs work)) × (clusters ≡ count n (newHeadAt n recs work)) × (members ≡ count n (newMemberAt n recs work))
     found-end h = let e : k ≡ n = omega (arith, F .most) in (rw e at (F .loss-is), rw e at (F .clusters-is), rw e at (F .members-is))

@@ -1,46 +1,38 @@
 -- What the tables say of a cluster is what the definition says.
 -- Assumes nothing.
-use Prim.Native.Nat.{ℕ, zero, suc, _+_, _-_, _*_, _/_, _%_, _≤_, _<_}
-use mathlib.Core.Path.{_≡_, refl, sym, ap, ap₂, _∙_, fun-ext, subst}
+use Prim.Native.Nat.{ℕ, _+_, _*_, _%_, _≤_, _<_}
+use mathlib.Core.Path.{_≡_, refl, sym, ap, ap₂, _∙_, fun-ext}
 use mathlib.Core.Bool.{Bool, true, false, cond, not, _&&_, _||_}
 use mathlib.Core.List.{List}
-use mathlib.Core.Logic.{_≢_, _⊎_, inl, inr}
+use mathlib.Core.Logic.{_≢_, inl, inr}
 use native.Mathlib.Decide.{ℕ-discrete}
 use native.Mathlib.Omega.{arith}
 use lib.Dec.{eqb, ltb, leb}
-use lib.ListN.{length}
-use borrow.Author.Tests.{eqb-true, eq-eqb, ne-eqb, le-leb, lt-leb}
+use borrow.Author.Tests.{eqb-true, le-leb, lt-leb}
 use Rattle.records.specs.Record.{isSink}
 use Rattle.graph.specs.Numbers.{bit, sum, count}
 use Rattle.graph.specs.Heap.{Heap}
 use Rattle.graph.specs.Clusters.{size, keep, outBit, outsOf}
 use Rattle.graph.specs.Analysis.{isNew, newHead, over, few, stays, outLossOf}
+use Rattle.graph.specs.Invariant.{Sizes}
 use Rattle.graph.proofs.NumberLaws.{sum-ext, count-ext}
-use Rattle.graph.proofs.SizeTable.{Sizes}
-use Rattle.rules.specs.Buffers.{recOf, eachFrom}
-use Rattle.rules.specs.View.{view, laidRecord}
-use Rattle.rules.specs.Analyse.{rule, least, outPerTen}
+use Rattle.rules.specs.Buffers.{eachFrom, zeros}
+use Rattle.rules.specs.View.{view, encodedRecord}
+use Rattle.rules.specs.Analyse.{rule, least}
 use Rattle.rules.proofs.ListLaws.{each-same}
-use Rattle.links.specs.Links.{clOf}
+use Rattle.table.specs.Clusters.{clusterOf}
 use Rattle.analyse.specs.Memory.{area, clusterIn, sizeIn}
-use Rattle.analyse.specs.Contracts.{Sized}
 use Rattle.analyse.specs.Filling.{Filling}
 use Rattle.choices.specs.Choices.{overBy, lasts, settled}
-use Rattle.analyse.specs.Judge.{formed, Tallying, Judging, Judgeable, Judged, leftOf, staysBy, staysIn, leftWord, lossAt, headAt, memberAt}
-use Rattle.analyse.proofs.JudgeLaws.{tally-start, judging-now}
-use Rattle.analyse.proofs.FillLaws.{area-zero, area-over}
+use Rattle.analyse.specs.Judge.{walkClusters, Tallying, Judgeable, Judged, leftOf, staysBy, staysIn, leftWord, lossAt, newHeadAt, newMemberAt}
+use Rattle.analyse.proofs.JudgeLaws.{judgeable-now, tally-start, judging-now}
+use Rattle.analyse.proofs.PartLaws.{zeros-filled}
 
 -- ---- before the counting
 
-module _ (n : ℕ) (recs slots work₀ work₁ : List ℕ) (J : Judgeable n recs slots work₀) (C : Filling n 0 (λ x. 0) work₀ work₁ n) where
-  sized-one : Sized n recs slots work₁
-  sized-one = record {
-    most = J .sized .most;
-    recs-long = J .sized .recs-long;
-    slots-long = J .sized .slots-long;
-    work-long = C .long ∙ J .sized .work-long;
-    widths = J .sized .widths;
-  }
+module _ (n : ℕ) (recs slots work₀ work₁ : List ℕ) (J : Judgeable n recs slots work₀) (zeroed : work₁ ≡ zeros n work₀) where
+  C : Filling n 0 (λ x. 0) work₀ work₁ n
+  C = zeros-filled n work₀ work₁ (omega (arith, J .sized .work-long)) zeroed
 
   states-one : area n (9 * n) work₁ ≡ area n (9 * n) work₀
   states-one = C .others (9 * n) (inr (omega arith))
@@ -48,12 +40,8 @@ module _ (n : ℕ) (recs slots work₀ work₁ : List ℕ) (J : Judgeable n recs
   links-one : area n (8 * n) work₁ ≡ area n (8 * n) work₀
   links-one = C .others (8 * n) (inr (omega arith))
 
-  pub tally-may : Sized n recs slots work₁ × ((x : ℕ) → formed n work₁ x ≤ n) × Tallying n recs slots work₁ work₁ 0
-  tally-may = (
-    sized-one,
-    λ x. rw (ap (λ (g : ℕ → ℕ). clusterIn g x) states-one) (J .fits x),
-    tally-start n recs slots work₀ work₁ C (λ x h. area-over n 0 work₁ x h) (area-zero n 0 work₁),
-  )
+  pub tally-may : Judgeable n recs slots work₁ × Tallying n recs slots work₁ work₁ 0
+  tally-may = (judgeable-now n recs slots work₀ work₁ (C .long) links-one states-one J, tally-start n recs slots work₀ work₁ C)
 
   -- ---- after it
 
@@ -62,7 +50,7 @@ module _ (n : ℕ) (recs slots work₀ work₁ : List ℕ) (J : Judgeable n recs
     H = view n recs slots
 
     abbrev cl : ℕ → ℕ
-    cl = formed n work₀
+    cl = walkClusters n work₀
 
     states-two : area n (9 * n) work₂ ≡ area n (9 * n) work₀
     states-two = T .others (9 * n) (omega arith) ∙ states-one
@@ -70,48 +58,31 @@ module _ (n : ℕ) (recs slots work₀ work₁ : List ℕ) (J : Judgeable n recs
     links-two : area n (8 * n) work₂ ≡ area n (8 * n) work₀
     links-two = T .others (8 * n) (omega arith) ∙ links-one
 
-    pub decide-may : Judging n recs slots work₂
-    decide-may = record {
-      sized = record {
-        most = J .sized .most;
-        recs-long = J .sized .recs-long;
-        slots-long = J .sized .slots-long;
-        work-long = T .long ∙ C .long ∙ J .sized .work-long;
-        widths = J .sized .widths;
-      };
-      small = λ x. rw (ap (λ (g : ℕ → ℕ). sizeIn g x) links-two) (J .small x);
-      fits = λ x. rw (ap (λ (g : ℕ → ℕ). clusterIn g x) states-two) (J .fits x);
-    }
+    pub decide-may : Judgeable n recs slots work₂
+    decide-may = judgeable-now n recs slots work₀ work₂ (T .long ∙ C .long) links-two states-two J
 
     outs-is : (c : ℕ) → 1 ≤ c → c ≤ n → area n 0 work₂ c ≡ outsOf n (H .kids) (H .sink) cl c
     outs-is c p q = T .entry c p q ∙ ap (λ (g : ℕ → ℕ). outsOf n (H .kids) (H .sink) (clusterIn g) c) states-one
 
-    size-is : (c : ℕ) → c ≢ 0 → clOf n recs c ≡ 0 → sizeIn (area n (8 * n) work₂) c ≡ size n cl c
+    size-is : (c : ℕ) → c ≢ 0 → clusterOf n recs c ≡ 0 → sizeIn (area n (8 * n) work₂) c ≡ size n cl c
     unfolding Sizes view
     size-is c p e = ap (λ (g : ℕ → ℕ). sizeIn g c) links-two ∙ J .sizes c p e
 
-    over-is : (c : ℕ) → 1 ≤ c → c ≤ n → clOf n recs c ≡ 0 → overBy (sizeIn (area n (8 * n) work₂) c) (area n 0 work₂ c) ≡ over rule H cl c
+    over-is : (c : ℕ) → 1 ≤ c → c ≤ n → clusterOf n recs c ≡ 0 → overBy (sizeIn (area n (8 * n) work₂) c) (area n 0 work₂ c) ≡ over rule H cl c
     unfolding overBy over view
     over-is c p q e = rw (size-is c (λ z. absurd (omega arith)) e, outs-is c p q) refl
 
-    stays-new : (c : ℕ) → 1 ≤ c → c ≤ n → eqb (clOf n recs c) 0 ≡ true → staysIn n recs work₂ c ≡ stays rule H cl c
-    unfolding staysIn staysBy lasts stays isNew few view
-    stays-new c p q e =
-        let z : clOf n recs c ≡ 0 = eqb-true _ _ e in
-        rw e (ap₂ (λ (a : Bool) (s : ℕ). not (a || ltb s least)) (over-is c p q z) (size-is c (λ z. absurd (omega arith)) z))
-
-    stays-older : (c : ℕ) → eqb (clOf n recs c) 0 ≡ false → staysIn n recs work₂ c ≡ stays rule H cl c
-    unfolding staysIn staysBy stays isNew view
-    stays-older c e = rw e refl
-
     stays-is : (c : ℕ) → 1 ≤ c → c ≤ n → staysIn n recs work₂ c ≡ stays rule H cl c
-    stays-is c p q = go (eqb (clOf n recs c) 0) refl
+    unfolding staysIn staysBy lasts stays isNew few view
+    stays-is c p q = go (eqb (clusterOf n recs c) 0) refl
       where
-        go : (b : Bool) → eqb (clOf n recs c) 0 ≡ b → staysIn n recs work₂ c ≡ stays rule H cl c
-        go true e = stays-new c p q e
-        go false e = stays-older c e
+        go : (b : Bool) → eqb (clusterOf n recs c) 0 ≡ b → staysIn n recs work₂ c ≡ stays rule H cl c
+        go true e =
+            let z : clusterOf n recs c ≡ 0 = eqb-true _ _ e in
+            rw e (ap₂ (λ (a : Bool) (s : ℕ). not (a || ltb s least)) (over-is c p q z) (size-is c (λ z. absurd (omega arith)) z))
+        go false e = rw e refl
 
-    keep-is : (x : ℕ) → keep (staysIn n recs work₂) (formed n work₂) x ≡ leftOf H cl x
+    keep-is : (x : ℕ) → keep (staysIn n recs work₂) (walkClusters n work₂) x ≡ leftOf H cl x
     unfolding keep
     keep-is x = ap (λ (g : ℕ → ℕ). cond (staysIn n recs work₂ (clusterIn g x)) (clusterIn g x) 0) states-two ∙ go (ℕ-discrete (cl x) 0)
       where
@@ -140,7 +111,7 @@ module _ (n : ℕ) (recs slots work₀ work₁ : List ℕ) (J : Judgeable n recs
     lf-low x = go (stays rule H cl (cl x))
       where
         go : (b : Bool) → cond b (cl x) 0 ≤ 4095
-        go true = omega (arith, J .fits x, J .sized .most)
+        go true = omega (arith, J .fits x, J .sized .room .most)
         go false = omega arith
 
     word-low : (v : ℕ) (b : Bool) → v ≤ 4095 → (v + 4096 * bit b) % 4096 ≡ v
@@ -152,7 +123,7 @@ module _ (n : ℕ) (recs slots work₀ work₁ : List ℕ) (J : Judgeable n recs
     word-high v false h = lt-leb 4096 (v + 0) (omega arith)
 
     module _ (work₃ : List ℕ) (D : Filling n n (leftWord n recs slots work₂) work₂ work₃ n) where
-      pub count-may : Judging n recs slots work₃
+      pub count-may : Judgeable n recs slots work₃
       count-may = judging-now n recs slots work₂ work₃ (leftWord n recs slots work₂) n D decide-may
 
       note-is : (x : ℕ) → 1 ≤ x → x ≤ n → area n n work₃ x ≡ lf x + 4096 * bit (ob x)
@@ -162,11 +133,11 @@ module _ (n : ℕ) (recs slots work₀ work₁ : List ℕ) (J : Judgeable n recs
       note-low x p q = ap (λ (w : ℕ). w % 4096) (note-is x p q) ∙ word-low (lf x) (ob x) (lf-low x)
 
       records-are : (recs′ : List ℕ) → recs′ ≡ eachFrom 1 n (λ x r. settled (area n n work₃ x) r) recs
-          → recs′ ≡ eachFrom 1 n (λ x r. laidRecord (lf x) (ob x) (isSink r) false r) recs
+          → recs′ ≡ eachFrom 1 n (λ x r. encodedRecord (lf x) (ob x) (isSink r) false r) recs
       unfolding settled
       records-are recs′ e =
-          e ∙ each-same 1 n (λ x r. settled (area n n work₃ x) r) (λ x r. laidRecord (lf x) (ob x) (isSink r) false r) recs
-          (λ x r p q. ap₂ (λ (c : ℕ) (o : Bool). laidRecord c o (isSink r) false r) (note-low x p (omega arith))
+          e ∙ each-same 1 n (λ x r. settled (area n n work₃ x) r) (λ x r. encodedRecord (lf x) (ob x) (isSink r) false r) recs
+          (λ x r p q. ap₂ (λ (c : ℕ) (o : Bool). encodedRecord c o (isSink r) false r) (note-low x p (omega arith))
           (ap (leb 4096) (note-is x p (omega arith)) ∙ word-high (lf x) (ob x) (lf-low x)))
 
       counts-three : area n 0 work₃ ≡ area n 0 work₂
@@ -178,34 +149,25 @@ module _ (n : ℕ) (recs slots work₀ work₁ : List ℕ) (J : Judgeable n recs
       states-three : area n (9 * n) work₃ ≡ area n (9 * n) work₀
       states-three = D .others (9 * n) (inr (omega arith)) ∙ states-two
 
-      loss-new : (h : ℕ) → 0 < h → h ≤ n → eqb (clOf n recs h) 0 ≡ true
-          → lossAt n recs work₃ h ≡ cond (newHead rule H cl h && over rule H cl h) (size n cl h) 0
-      unfolding lossAt newHead isNew view
-      loss-new h p q e =
-          let z : clOf n recs h ≡ 0 = eqb-true _ _ e in
-          rw e (ap₂ (λ (g l : ℕ → ℕ). cond (eqb (clusterIn g h) h && overBy (sizeIn l h) (area n 0 work₃ h)) (sizeIn l h) 0) states-three links-three
-          ∙ ap (λ (a : ℕ → ℕ). cond (eqb (cl h) h && overBy (sizeIn (area n (8 * n) work₂) h) (a h)) (sizeIn (area n (8 * n) work₂) h) 0) counts-three
-          ∙ ap₂ (λ (b : Bool) (s : ℕ). cond (eqb (cl h) h && b) s 0) (over-is h p q z) (size-is h (λ y. absurd (omega arith)) z))
-
-      loss-older : (h : ℕ) → eqb (clOf n recs h) 0 ≡ false → lossAt n recs work₃ h ≡ cond (newHead rule H cl h && over rule H cl h) (size n cl h) 0
-      unfolding lossAt newHead isNew view
-      loss-older h e = rw e refl
-
       loss-same : (h : ℕ) → 0 < h → h ≤ n → lossAt n recs work₃ h ≡ cond (newHead rule H cl h && over rule H cl h) (size n cl h) 0
-      loss-same h p q = loss-at h p q (eqb (clOf n recs h) 0) refl
+      unfolding lossAt newHead isNew view
+      loss-same h p q = go (eqb (clusterOf n recs h) 0) refl
         where
-          loss-at : (h : ℕ) → 0 < h → h ≤ n → (b : Bool) → eqb (clOf n recs h) 0 ≡ b
-              → lossAt n recs work₃ h ≡ cond (newHead rule H cl h && over rule H cl h) (size n cl h) 0
-          loss-at h p q true e = loss-new h p q e
-          loss-at h p q false e = loss-older h e
+          go : (b : Bool) → eqb (clusterOf n recs h) 0 ≡ b → lossAt n recs work₃ h ≡ cond (newHead rule H cl h && over rule H cl h) (size n cl h) 0
+          go true e =
+              let z : clusterOf n recs h ≡ 0 = eqb-true _ _ e in
+              rw e (ap₂ (λ (g l : ℕ → ℕ). cond (eqb (clusterIn g h) h && overBy (sizeIn l h) (area n 0 work₃ h)) (sizeIn l h) 0) states-three links-three
+              ∙ ap (λ (a : ℕ → ℕ). cond (eqb (cl h) h && overBy (sizeIn (area n (8 * n) work₂) h) (a h)) (sizeIn (area n (8 * n) work₂) h) 0) counts-three
+              ∙ ap₂ (λ (b : Bool) (s : ℕ). cond (eqb (cl h) h && b) s 0) (over-is h p q z) (size-is h (λ y. absurd (omega arith)) z))
+          go false e = rw e refl
 
       pub judged : (recs′ : List ℕ) (loss clusters members : ℕ) → recs′ ≡ eachFrom 1 n (λ x r. settled (area n n work₃ x) r) recs
-          → (loss ≡ sum n (lossAt n recs work₃)) × (clusters ≡ count n (headAt n recs work₃)) × (members ≡ count n (memberAt n recs work₃))
+          → (loss ≡ sum n (lossAt n recs work₃)) × (clusters ≡ count n (newHeadAt n recs work₃)) × (members ≡ count n (newMemberAt n recs work₃))
           → Judged n recs slots cl recs′ loss clusters members
-      unfolding outLossOf view headAt memberAt
+      unfolding outLossOf view newHeadAt newMemberAt
       judged recs′ loss clusters members e f = record {
         records = records-are recs′ e;
         loss-is = f .0 ∙ sum-ext n _ _ (λ h p q. loss-same h p q);
-        clusters-is = f .1 ∙ count-ext n _ _ (λ h b. ap (λ (v : ℕ). eqb (clOf n recs h) 0 && eqb v h) (note-low h (b .0) (b .1)));
-        members-is = f .2 ∙ count-ext n _ _ (λ x b. ap (λ (v : ℕ). eqb (clOf n recs x) 0 && not (eqb v 0)) (note-low x (b .0) (b .1)));
+        clusters-is = f .1 ∙ count-ext n _ _ (λ h b. ap (λ (v : ℕ). eqb (clusterOf n recs h) 0 && eqb v h) (note-low h (b .0) (b .1)));
+        members-is = f .2 ∙ count-ext n _ _ (λ x b. ap (λ (v : ℕ). eqb (clusterOf n recs x) 0 && not (eqb v 0)) (note-low x (b .0) (b .1)));
       }

@@ -1,19 +1,16 @@
 -- A pass that writes one word for each object.
 -- Assumes nothing.
-use Prim.Native.Nat.{ℕ, zero, suc, _+_, _-_, _*_, _≤_, _<_}
-use mathlib.Core.Path.{_≡_, refl, sym, ap, _∙_}
+use Prim.Native.Nat.{ℕ, _+_, _-_, _≤_, _<_}
+use mathlib.Core.Path.{_≡_, refl, ap, _∙_}
 use mathlib.Core.List.{List}
 use mathlib.Core.Logic.{_⊎_, inl, inr}
 use native.Mathlib.Decide.{ℕ-discrete}
 use native.Mathlib.Omega.{arith}
-use lib.ListN.{length, getD, set, length-set}
-use Rattle.records.specs.Record.{cluster}
+use lib.ListN.{length, set, length-set}
 use Rattle.graph.specs.Numbers.{upd}
 use Rattle.graph.proofs.NumberLaws.{upd-same, upd-other}
 use Rattle.rules.specs.Buffers.{recOf}
 use Rattle.rules.proofs.ListLaws.{recOf-above}
-use Rattle.rules.proofs.PlaceLaws.{rec-at}
-use Rattle.links.specs.Links.{clOf}
 use Rattle.analyse.specs.Memory.{area}
 use Rattle.analyse.specs.Filling.{Filling}
 use Rattle.analyse.proofs.MemoryLaws.{area-put, area-below, area-above}
@@ -45,9 +42,3 @@ area-zero n base work = refl
 pub area-over : (n base : ℕ) (work : List ℕ) (x : ℕ) → n < x → area n base work x ≡ 0
 unfolding area
 area-over n base work x h = recOf-above n _ x h
-
--- the record that the code reads
-pub cluster-here : (n : ℕ) (recs : List ℕ) (k c : ℕ) → k < n → c ≡ cluster (getD recs k 0) → c ≡ clOf n recs (k + 1)
-cluster-here n recs k c h e =
-    let i : k + 1 - 1 ≡ k = omega arith in
-    e ∙ ap cluster (rw i at (rec-at n recs (k + 1) (omega arith) (omega arith)))

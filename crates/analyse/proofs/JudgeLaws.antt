@@ -1,34 +1,34 @@
 -- Out pointers counted by cluster, and what is left of the clusters.
 -- Assumes nothing.
 use Prim.Native.Nat.{ℕ, zero, suc, _+_, _-_, _*_, _/_, _%_, _^_, _≤_, _<_}
-use mathlib.Core.Path.{_≡_, refl, sym, ap, ap₂, _∙_, fun-ext}
-use mathlib.Core.Bool.{Bool, true, false, cond, not, _&&_, _||_}
+use mathlib.Core.Path.{_≡_, refl, sym, ap, ap₂, _∙_, fun-ext, subst}
+use mathlib.Core.Bool.{Bool, true, false, cond, not, _&&_}
 use mathlib.Core.List.{List, [], _∷_, map}
-use mathlib.Core.Logic.{_≢_, _⊎_, inl, inr}
+use mathlib.Core.Logic.{_≢_, inl, inr}
 use native.Mathlib.Decide.{ℕ-discrete, decLe}
 use native.Mathlib.Omega.{arith}
-use lib.Dec.{eqb, ltb, leb}
+use lib.Dec.{eqb, ltb}
 use lib.ListN.{length, getD, take, drop, set, length-set, length-drop, drop-of-length-le}
 use lib.Seq.{drop-cons, getD-take, getD-drop, length-take-le}
-use borrow.Author.Tests.{eq-eqb, ne-eqb, le-ltb, lt-ltb, le-leb, lt-leb}
-use Rattle.records.specs.Record.{isSink, cluster, width}
+use borrow.Author.Tests.{eq-eqb, ne-eqb, lt-ltb}
+use Rattle.records.specs.Record.{isSink, width}
 use Rattle.graph.specs.Numbers.{bit, sum, upd}
-use Rattle.graph.specs.Heap.{Heap}
 use Rattle.graph.specs.Clusters.{keep, leaves, outCount, outBit, outsOf}
+use Rattle.graph.specs.Invariant.{Sizes}
 use Rattle.graph.proofs.NumberLaws.{bit-le, upd-same, upd-other}
 use Rattle.graph.proofs.OutLaws.{outBit-keep, outBit-none}
 use Rattle.rules.specs.Buffers.{recOf}
 use Rattle.rules.specs.View.{view, target}
-use Rattle.rules.proofs.PlaceLaws.{rec-at}
 use Rattle.rules.proofs.ViewLaws.{target-low}
-use Rattle.links.specs.Links.{clOf}
+use Rattle.table.specs.Clusters.{clusterOf}
 use Rattle.choices.specs.Choices.{lasts}
 use Rattle.analyse.specs.Memory.{area, clusterIn, sizeIn}
-use Rattle.analyse.specs.Contracts.{Sized}
+use Rattle.table.specs.Room.{Sized}
 use Rattle.analyse.specs.Filling.{Filling}
-use Rattle.analyse.specs.Judge.{formed, outsAt, Tallying, Judging, staysBy, staysIn, leftWord}
+use Rattle.analyse.specs.Judge.{walkClusters, outsAt, Tallying, Judgeable, staysBy, staysIn, leftWord}
 use Rattle.analyse.proofs.MemoryLaws.{area-put, area-below}
-use Rattle.analyse.proofs.SlotLaws.{kids-at}
+use Rattle.analyse.proofs.FillLaws.{area-zero, area-over}
+use Rattle.analyse.proofs.SlotLaws.{kids-at, resized}
 
 -- ---- one word: is it a pointer out of the cluster?
 
@@ -40,17 +40,14 @@ module _ (n : ℕ) (recs : List ℕ) (cl : ℕ → ℕ) (c y : ℕ) where
   unfolding leaves
   leaves-none e = rw e refl
 
-  module _ (p : y ≢ 0) (q : y ≤ n) (v : Bool) (is : v ≡ isSink (getD recs (y - 1) 0)) where
-    own : isSink (recOf n recs y) ≡ v
-    own = ap isSink (sym (rec-at n recs y (omega (arith, p)) q)) ∙ sym is
-
+  module _ (p : y ≢ 0) (v : Bool) (is : v ≡ isSink (recOf n recs y)) where
     pub leaves-sink : v ≡ true → false ≡ leaves sinks cl c y
     unfolding leaves
-    leaves-sink f = rw (ne-eqb y 0 p, own, f) refl
+    leaves-sink f = rw (ne-eqb y 0 p, ← is, f) refl
 
     pub leaves-test : v ≡ false → (w : ℕ) → w % 4096 ≡ cl y → not (eqb (w % 4096) c) ≡ leaves sinks cl c y
     unfolding leaves
-    leaves-test f w e = rw (ne-eqb y 0 p, own, f, e) refl
+    leaves-test f w e = rw (ne-eqb y 0 p, ← is, f, e) refl
 
 pub target-fits : (n w t : ℕ) → t ≡ target n w → t ≤ n
 target-fits n w t e = omega (arith, target-low n w)
@@ -70,20 +67,17 @@ out-turn n sink cl c s j p q =
 -- the words of object x are counted from the last of k down to the one at j
 abbrev pub So : ℕ → List ℕ → List ℕ → List ℕ → ℕ → ℕ → ℕ → ℕ → ℕ → Type 0
 So n recs slots work c from k j total =
-    (total ≡ outCount (λ x. isSink (recOf n recs x)) (formed n work) c (map (target n) (drop j (take k (drop from slots))))) × (total + j ≤ k)
+    (total ≡ outCount (λ x. isSink (recOf n recs x)) (walkClusters n work) c (map (target n) (drop j (take k (drop from slots))))) × (total + j ≤ k)
 
-module _ (n : ℕ) (recs slots work : List ℕ) (z : Sized n recs slots work) (x c : ℕ) (p : 1 ≤ x) (q : x ≤ n) (k : ℕ) (ks : k ≡ width (getD recs (x - 1) 0)) where
+module _ (n : ℕ) (recs slots work : List ℕ) (z : Sized n recs slots work) (x c : ℕ) (p : 1 ≤ x) (q : x ≤ n) (k : ℕ) (ks : k ≡ width (recOf n recs x)) where
   abbrev words : List ℕ
   words = take k (drop (8 * (x - 1)) slots)
 
-  width-is : k ≡ width (recOf n recs x)
-  width-is = ks ∙ ap width (rec-at n recs x p q)
-
   pub outs-few : k ≤ 8
-  outs-few = omega (arith, width-is, z .widths x)
+  outs-few = omega (arith, ks, z .widths x)
 
   pub outs-room : 8 * (x - 1) + k ≤ length slots
-  outs-room = omega (arith, outs-few, z .slots-long)
+  outs-room = omega (arith, outs-few, z .room .slots-long)
 
   words-long : length words ≡ k
   words-long = length-take-le k (drop (8 * (x - 1)) slots) (simp length-drop (omega (arith, outs-room)))
@@ -94,33 +88,43 @@ module _ (n : ℕ) (recs slots work : List ℕ) (z : Sized n recs slots work) (x
       let e : drop k words ≡ [] = drop-of-length-le words {i = k} (omega (arith, words-long)) in
       (rw e refl, omega arith)
 
-  pub outs-again : (j total m : ℕ) (b : Bool) → So n recs slots work c (8 * (x - 1)) k j total → 0 < j
-      → b ≡ leaves (λ y. isSink (recOf n recs y)) (formed n work) c (target n (getD slots (8 * (x - 1) + (j - 1)) 0)) → m ≡ bit b
-      → So n recs slots work c (8 * (x - 1)) k (j - 1) (total + m)
-  outs-again j total m b g h e f =
+  pub outs-again : (j total : ℕ) (b : Bool) → So n recs slots work c (8 * (x - 1)) k j total → 0 < j
+      → b ≡ leaves (λ y. isSink (recOf n recs y)) (walkClusters n work) c (target n (getD slots (8 * (x - 1) + (j - 1)) 0))
+      → So n recs slots work c (8 * (x - 1)) k (j - 1) (total + bit b)
+  outs-again j total b g h e =
       let w : getD words (j - 1) 0 ≡ getD slots (8 * (x - 1) + (j - 1)) 0 =
       getD-take k (drop (8 * (x - 1)) slots) (j - 1) 0 (omega arith) ∙ getD-drop (8 * (x - 1)) slots (j - 1) 0 in
-      let t = out-turn n (λ y. isSink (recOf n recs y)) (formed n work) c words j h (omega (arith, words-long)) in
-      let u : m ≡ bit (leaves (λ y. isSink (recOf n recs y)) (formed n work) c (target n (getD words (j - 1) 0))) = rw w (f ∙ ap bit e) in
+      let t = out-turn n (λ y. isSink (recOf n recs y)) (walkClusters n work) c words j h (omega (arith, words-long)) in
+      let u : bit b ≡ bit (leaves (λ y. isSink (recOf n recs y)) (walkClusters n work) c (target n (getD words (j - 1) 0))) = rw w (ap bit e) in
       (omega arith, omega (arith, bit-le b))
 
-  pub outs-sum : (j total m : ℕ) → So n recs slots work c (8 * (x - 1)) k j total → m ≤ 1 → total + m < 2 ^ 32
-  outs-sum j total m g f = omega (arith, outs-few)
+  pub outs-sum : (j total : ℕ) (b : Bool) → So n recs slots work c (8 * (x - 1)) k j total → total + bit b < 2 ^ 32
+  outs-sum j total b g = omega (arith, outs-few, bit-le b)
 
   pub outs-end : (j total : ℕ) → So n recs slots work c (8 * (x - 1)) k j total → j ≤ 0 → (total ≡ outsAt n recs slots work x c) × (total ≤ 8)
   unfolding outsAt view
   outs-end j total g h =
       let o : j ≡ 0 = omega arith in
       let e : view n recs slots .kids x ≡ map (target n) words =
-      kids-at n recs slots x p (z .widths x) ∙ ap (λ (i : ℕ). map (target n) (take i (drop (8 * (x - 1)) slots))) (sym width-is) in
+      kids-at n recs slots x p (z .widths x) ∙ ap (λ (i : ℕ). map (target n) (take i (drop (8 * (x - 1)) slots))) (sym ks) in
       (rw e (rw o at (g .0)), omega (arith, outs-few))
 
 -- ---- the counts by cluster
 
-pub tally-start : (n : ℕ) (recs slots work₀ work : List ℕ) → Filling n 0 (λ x. 0) work₀ work n → ((x : ℕ) → n < x → area n 0 work x ≡ 0) → area n 0 work 0 ≡ 0
-    → Tallying n recs slots work work 0
+-- what the judging asks is asked of two tables
+pub judgeable-now : (n : ℕ) (recs slots work₀ work : List ℕ) → length work ≡ length work₀ → area n (8 * n) work ≡ area n (8 * n) work₀
+    → area n (9 * n) work ≡ area n (9 * n) work₀ → Judgeable n recs slots work₀ → Judgeable n recs slots work
+judgeable-now n recs slots work₀ work long links states J = record {
+  sized = resized (J .sized) long;
+  small = λ x. rw (ap (λ (g : ℕ → ℕ). sizeIn g x) links) (J .small x);
+  sizes = subst (λ (g : ℕ → ℕ). Sizes (view n recs slots) (walkClusters n work) (sizeIn g)) (sym links)
+      (subst (λ (g : ℕ → ℕ). Sizes (view n recs slots) (clusterIn g) (sizeIn (area n (8 * n) work₀))) (sym states) (J .sizes));
+  fits = λ x. rw (ap (λ (g : ℕ → ℕ). clusterIn g x) states) (J .fits x);
+}
+
+pub tally-start : (n : ℕ) (recs slots work₀ work : List ℕ) → Filling n 0 (λ x. 0) work₀ work n → Tallying n recs slots work work 0
 unfolding outsOf sum
-tally-start n recs slots work₀ work f over none = record {
+tally-start n recs slots work₀ work f = record {
   entry = λ c p q. f .filled c p q;
   most = λ c. go c (decLe c n);
   others = λ b h. refl;
@@ -128,96 +132,94 @@ tally-start n recs slots work₀ work f over none = record {
 }
   where
     go : (c : ℕ) → Dec (c ≤ n) → area n 0 work c ≤ 0
-    go zero q = omega (arith, none)
+    go zero q = omega (arith, area-zero n 0 work)
     go (suc c) (yes q) = omega (arith, f .filled (suc c) (omega arith) q)
-    go (suc c) (no q) = omega (arith, over (suc c) (omega (arith, q)))
+    go (suc c) (no q) = omega (arith, area-over n 0 work (suc c) (omega (arith, q)))
 
-module _ (n : ℕ) (recs slots work₀ work : List ℕ) (k : ℕ) (T : Tallying n recs slots work₀ work k) (h : k + 1 ≤ n) (c w : ℕ)
-    (read : w ≡ area n (9 * n) work (k + 1)) (is : c ≡ w % 4096) where
-  own-cluster : c ≡ formed n work₀ (k + 1)
-  own-cluster = is ∙ ap (λ (v : ℕ). v % 4096) (read ∙ ap (λ (f : ℕ → ℕ). f (k + 1)) (T .others (9 * n) (omega arith)))
+-- what the count of one object asks
+pub tally-asks : (n : ℕ) (recs slots work₀ work : List ℕ) (k : ℕ) → Judgeable n recs slots work₀ → Tallying n recs slots work₀ work k → k < n
+    → Judgeable n recs slots work × (1 ≤ k + 1) × (k + 1 ≤ n) × ((c : ℕ) → area n 0 work c ≤ 8 * (k + 1 - 1))
+tally-asks n recs slots work₀ work k J t h =
+    let e : k + 1 - 1 ≡ k = omega arith in
+    (judgeable-now n recs slots work₀ work (t .long) (t .others (8 * n) (omega arith)) (t .others (9 * n) (omega arith)) J, omega arith, omega arith, λ c. rw e (t .most c))
+
+module _ (n : ℕ) (recs slots work₀ work : List ℕ) (x : ℕ) (low : 1 ≤ x) (T : Tallying n recs slots work₀ work (x - 1)) (w : ℕ)
+    (read : w ≡ area n (9 * n) work x) where
+  abbrev c : ℕ
+  c = w % 4096
+
+  own-cluster : c ≡ walkClusters n work₀ x
+  own-cluster = ap (λ (v : ℕ). v % 4096) (read ∙ ap (λ (f : ℕ → ℕ). f x) (T .others (9 * n) (omega arith)))
 
   abbrev tot : ℕ → ℕ → ℕ
-  tot j d = outsOf j (view n recs slots .kids) (view n recs slots .sink) (formed n work₀) d
+  tot j d = outsOf j (view n recs slots .kids) (view n recs slots .sink) (walkClusters n work₀) d
 
-  more : (d : ℕ) → tot (k + 1) d
-      ≡ tot k d + cond (eqb (formed n work₀ (k + 1)) d) (outCount (view n recs slots .sink) (formed n work₀) d (view n recs slots .kids (k + 1))) 0
+  more : (d : ℕ) → tot x d ≡ tot (x - 1) d + cond (eqb (walkClusters n work₀ x) d) (outCount (view n recs slots .sink) (walkClusters n work₀) d (view n recs slots .kids x)) 0
   unfolding outsOf sum
-  more d = let e : k + 1 ≡ suc k = omega arith in rw e refl
+  more d = go x low
+    where
+      go : (y : ℕ) → 1 ≤ y
+          → tot y d ≡ tot (y - 1) d + cond (eqb (walkClusters n work₀ y) d) (outCount (view n recs slots .sink) (walkClusters n work₀) d (view n recs slots .kids y)) 0
+      go zero p = absurd (omega arith)
+      go (suc y) p = let e : suc y - 1 ≡ y = omega arith in rw e refl
 
-  pub tally-none : c ≡ 0 → Tallying n recs slots work₀ work (k + 1)
-  tally-none z = record {
+  pub tally-skip : c ≡ 0 → Tallying n recs slots work₀ work x
+  tally-skip z = record {
     entry = λ d p q.
-        let a = more d in
-        let b = ne-eqb (formed n work₀ (k + 1)) d (λ e. absurd (omega (arith, own-cluster))) in
-        T .entry d p q ∙ sym (rw b at a ∙ (omega arith));
+        let b = ne-eqb (walkClusters n work₀ x) d (λ e. absurd (omega (arith, own-cluster))) in
+        T .entry d p q ∙ sym (rw b at (more d) ∙ (omega arith));
     most = λ d. omega (arith, T .most d);
     others = T .others;
     long = T .long;
   }
 
-  module _ (nz : c ≢ 0) (fits : c ≤ n) (m p : ℕ) (ms : m ≡ outsAt n recs slots work (k + 1) c) (few : m ≤ 8) (ps : p ≡ area n 0 work c)
+  module _ (nz : c ≢ 0) (fits : c ≤ n) (m p : ℕ) (ms : m ≡ outsAt n recs slots work x c) (few : m ≤ 8) (ps : p ≡ area n 0 work c)
       (work′ : List ℕ) (room : n ≤ length work) (put : work′ ≡ set work (0 + c - 1) (p + m)) where
     counted : (d : ℕ) → area n 0 work′ d ≡ upd (area n 0 work) c (p + m) d
     counted d = ap (λ (l : List ℕ). area n 0 l d) put ∙ area-put n 0 work c (p + m) (omega (arith, nz)) fits (omega arith) d
 
-    m-is : m ≡ outCount (view n recs slots .sink) (formed n work₀) c (view n recs slots .kids (k + 1))
+    m-is : m ≡ outCount (view n recs slots .sink) (walkClusters n work₀) c (view n recs slots .kids x)
     unfolding outsAt
-    m-is = ms ∙ ap (λ (f : ℕ → ℕ). outCount (view n recs slots .sink) (clusterIn f) c (view n recs slots .kids (k + 1))) (T .others (9 * n) (omega arith))
+    m-is = ms ∙ ap (λ (f : ℕ → ℕ). outCount (view n recs slots .sink) (clusterIn f) c (view n recs slots .kids x)) (T .others (9 * n) (omega arith))
 
-    pub tally-some : Tallying n recs slots work₀ work′ (k + 1)
-    tally-some = record {
+    pub tally-add : Tallying n recs slots work₀ work′ x
+    tally-add = record {
       entry = λ d a b. counted d ∙ go d a b (ℕ-discrete d c);
       most = λ d. rw (counted d) (top d (ℕ-discrete d c));
       others = λ b l. ap (area n b) put ∙ area-below n b work (0 + c - 1) (p + m) (omega (arith, nz)) ∙ T .others b l;
       long = ap length put ∙ length-set work (0 + c - 1) (p + m) ∙ T .long;
     }
       where
-        go : (d : ℕ) → 1 ≤ d → d ≤ n → Dec (d ≡ c) → upd (area n 0 work) c (p + m) d ≡ tot (k + 1) d
+        go : (d : ℕ) → 1 ≤ d → d ≤ n → Dec (d ≡ c) → upd (area n 0 work) c (p + m) d ≡ tot x d
         go d a b (yes e) =
             rw (e, upd-same (area n 0 work) c (p + m))
             (let t = T .entry c (omega (arith, nz)) fits in
-            let y = eq-eqb (formed n work₀ (k + 1)) c (sym own-cluster) in
+            let y = eq-eqb (walkClusters n work₀ x) c (sym own-cluster) in
             let u = rw y at (more c) in omega (arith, m-is))
         go d a b (no e) =
             upd-other (area n 0 work) c d (p + m) e ∙ T .entry d a b
-            ∙ sym ((rw (ne-eqb (formed n work₀ (k + 1)) d (λ i. e (sym i ∙ sym own-cluster))) at (more d)) ∙ (omega arith))
+            ∙ sym ((rw (ne-eqb (walkClusters n work₀ x) d (λ i. e (sym i ∙ sym own-cluster))) at (more d)) ∙ (omega arith))
 
-        top : (d : ℕ) → Dec (d ≡ c) → upd (area n 0 work) c (p + m) d ≤ 8 * (k + 1)
+        top : (d : ℕ) → Dec (d ≡ c) → upd (area n 0 work) c (p + m) d ≤ 8 * x
         top d (yes e) = rw (e, upd-same (area n 0 work) c (p + m)) (omega (arith, T .most c))
         top d (no e) = rw (upd-other (area n 0 work) c d (p + m) e) (omega (arith, T .most d))
-
--- the same for object x, as the code has it
-module _ (n : ℕ) (recs slots work₀ work : List ℕ) (x k : ℕ) (e : x ≡ k + 1) (T : Tallying n recs slots work₀ work k) (h : x ≤ n) (w : ℕ)
-    (read : w ≡ area n (9 * n) work x) where
-  pub tally-skip : w % 4096 ≡ 0 → Tallying n recs slots work₀ work (k + 1)
-  tally-skip z = tally-none n recs slots work₀ work k T (omega arith) (w % 4096) w (read ∙ ap (area n (9 * n) work) e) refl z
-
-  pub tally-add : w % 4096 ≢ 0 → w % 4096 ≤ n → (m p : ℕ) → m ≡ outsAt n recs slots work x (w % 4096) → m ≤ 8 → p ≡ area n 0 work (w % 4096)
-      → (work′ : List ℕ) → n ≤ length work → work′ ≡ set work (0 + w % 4096 - 1) (p + m) → Tallying n recs slots work₀ work′ (k + 1)
-  tally-add nz fits m p ms few ps work′ room put =
-      tally-some n recs slots work₀ work k T (omega arith) (w % 4096) w (read ∙ ap (area n (9 * n) work) e) refl nz fits m p
-      (ms ∙ ap (λ (y : ℕ). outsAt n recs slots work y (w % 4096)) e) few ps work′ room put
 
 pub add-fits : (n : ℕ) (work : List ℕ) (x d p m : ℕ) → ((c : ℕ) → area n 0 work c ≤ 8 * (x - 1)) → x ≤ n → n ≤ 4095 → p ≡ area n 0 work d → m ≤ 8 → p + m < 2 ^ 32
 add-fits n work x d p m h q r e f = let a = h d in omega arith
 
-pub read-fits : (n : ℕ) (work : List ℕ) (x w : ℕ) → w ≡ area n (9 * n) work x → formed n work x ≤ n → w % 4096 ≤ n
+pub read-fits : (n : ℕ) (work : List ℕ) (x w : ℕ) → w ≡ area n (9 * n) work x → walkClusters n work x ≤ n → w % 4096 ≤ n
 read-fits n work x w e h = rw e h
 
 -- ---- does a cluster stay?
 
-module _ (n : ℕ) (recs work : List ℕ) (c : ℕ) (low : 1 ≤ c) (fits : c ≤ n) (d : ℕ) (is : d ≡ cluster (getD recs (c - 1) 0)) where
-  old-is : clOf n recs c ≡ d
-  old-is = ap cluster (sym (rec-at n recs c low fits)) ∙ sym is
-
+module _ (n : ℕ) (recs work : List ℕ) (c d : ℕ) (is : d ≡ clusterOf n recs c) where
   pub stays-old : d ≢ 0 → true ≡ staysIn n recs work c
   unfolding staysIn staysBy
-  stays-old p = rw (old-is, ne-eqb d 0 p) refl
+  stays-old p = rw (← is, ne-eqb d 0 p) refl
 
   pub stays-new : d ≡ 0 → (w p : ℕ) → w ≡ area n (8 * n) work c → p ≡ area n 0 work c → (b : Bool) → b ≡ lasts (w / 4096) p → b ≡ staysIn n recs work c
   unfolding staysIn staysBy
-  stays-new z w p ws ps b o = o ∙ rw (old-is, z, ← ws, ← ps) refl
+  stays-new z w p ws ps b o = o ∙ rw (← is, z, ← ws, ← ps) refl
 
 -- ---- what an object is left with
 
@@ -225,23 +227,23 @@ module _ (n : ℕ) (recs slots work : List ℕ) (x c w : ℕ) (ws : w ≡ area n
   abbrev q : ℕ → Bool
   q = staysIn n recs work
 
-  own-formed : formed n work x ≡ c
+  own-formed : walkClusters n work x ≡ c
   own-formed = ap (λ (v : ℕ). v % 4096) (sym ws) ∙ sym is
 
   abbrev out : ℕ → Bool
-  out = outBit (view n recs slots .kids) (view n recs slots .sink) (formed n work)
+  out = outBit (view n recs slots .kids) (view n recs slots .sink) (walkClusters n work)
 
   word-is : leftWord n recs slots work x ≡ cond (q c) c 0 + 4096 * bit (q c && out x)
   unfolding leftWord keep
   word-is =
-      ap (λ (b : Bool). cond (q (formed n work x)) (formed n work x) 0 + 4096 * bit b) (outBit-keep (view n recs slots .kids) (view n recs slots .sink) q (formed n work) x)
+      ap (λ (b : Bool). cond (q (walkClusters n work x)) (walkClusters n work x) 0 + 4096 * bit b) (outBit-keep (view n recs slots .kids) (view n recs slots .sink) q (walkClusters n work) x)
       ∙ ap (λ (v : ℕ). cond (q v) v 0 + 4096 * bit (q v && out x)) own-formed
 
   pub left-none : c ≡ 0 → 0 ≡ leftWord n recs slots work x
   left-none z = sym (word-is ∙ go (q c) (out x) out-none)
     where
       out-none : out x ≡ false
-      out-none = outBit-none (view n recs slots .kids) (view n recs slots .sink) (formed n work) x (own-formed ∙ z)
+      out-none = outBit-none (view n recs slots .kids) (view n recs slots .sink) (walkClusters n work) x (own-formed ∙ z)
 
       go : (b o : Bool) → o ≡ false → cond b c 0 + 4096 * bit (b && o) ≡ 0
       go true o e = rw (e, z) refl
@@ -273,23 +275,13 @@ module _ (n : ℕ) (recs slots work₀ work : List ℕ) (f : ℕ → ℕ) (k : �
   states-same : area n (9 * n) work ≡ area n (9 * n) work₀
   states-same = F .others (9 * n) (inr (omega arith))
 
-  pub judging-now : Judging n recs slots work₀ → Judging n recs slots work
-  judging-now J = record {
-    sized = record {
-      most = J .sized .most;
-      recs-long = J .sized .recs-long;
-      slots-long = J .sized .slots-long;
-      work-long = F .long ∙ J .sized .work-long;
-      widths = J .sized .widths;
-    };
-    small = λ x. rw (ap (λ (g : ℕ → ℕ). sizeIn g x) links-same) (J .small x);
-    fits = λ x. rw (ap (λ (g : ℕ → ℕ). clusterIn g x) states-same) (J .fits x);
-  }
+  pub judging-now : Judgeable n recs slots work₀ → Judgeable n recs slots work
+  judging-now J = judgeable-now n recs slots work₀ work (F .long) links-same states-same J
 
   stays-same : staysIn n recs work ≡ staysIn n recs work₀
   unfolding staysIn
   stays-same =
-      fun-ext (λ c. ap₂ (λ (g h : ℕ → ℕ). staysBy (clOf n recs c) (sizeIn g c) (h c)) links-same counts-same)
+      fun-ext (λ c. ap₂ (λ (g h : ℕ → ℕ). staysBy (clusterOf n recs c) (sizeIn g c) (h c)) links-same counts-same)
 
   pub left-same : (x : ℕ) → leftWord n recs slots work x ≡ leftWord n recs slots work₀ x
   unfolding leftWord

@@ -6,7 +6,6 @@ pub mod PartLaws
 -- ---- one visit
 pub mod PushLaws
 pub mod SlotLaws
-pub mod CountLaws
 pub mod OlderLaws
 pub mod PlaceLaws
 pub mod VisitLaws
@@ -15,7 +14,6 @@ pub mod WalkLaws
 pub mod StartLaws
 -- ---- what is left
 pub mod JudgeLaws
-pub mod TallyLaws
 pub mod AnswerLaws
 pub mod BridgeLaws
 pub mod SettleLaws

@@ -1,23 +1,20 @@
 -- What a store into the work words does to what they hold.
 -- Assumes nothing.
-use Prim.Native.Nat.{ℕ, zero, suc, _+_, _-_, _*_, _/_, _%_, _≤_, _<_}
+use Prim.Native.Nat.{ℕ, suc, _+_, _-_, _*_, _/_, _%_, _≤_, _<_}
 use mathlib.Core.Path.{_≡_, refl, sym, ap, ap₂, _∙_, fun-ext}
-use mathlib.Core.Bool.{Bool, true, false, cond}
 use mathlib.Core.List.{List, [], _∷_, _++_, map, map-append, append-assoc, List·Memᴰ, List·Memᴰ·head, List·Memᴰ·tail}
 use mathlib.Core.Logic.{_≢_}
 use native.Mathlib.Decide.{ℕ-discrete}
 use native.Mathlib.Omega.{arith}
-use lib.Dec.{eqb, leb}
-use lib.ListN.{length, getD, take, drop, set, length-set, length-drop, length-map}
+use lib.ListN.{length, getD, take, drop, set, length-set, length-drop}
 use lib.Seq.{drop-cons, drop-set-lt, drop-set-add, take-set-le, take-set-lt, getD-set-same, getD-drop, length-take-le, getD-take, drop-length}
 use borrow.Author.Tests.{ne-eqb}
 use Rattle.graph.specs.Numbers.{upd}
-use Rattle.graph.specs.Analysis.{Item, Work, items}
+use Rattle.graph.specs.Analysis.{Item, items}
 use Rattle.graph.proofs.NumberLaws.{upd-same, upd-other}
 use Rattle.rules.specs.Buffers.{recOf}
-use Rattle.rules.specs.View.{target}
 use Rattle.rules.proofs.PlaceLaws.{rec-at, rec-put, rec-take}
-use Rattle.analyse.specs.Memory.{area, Memory, memOf, itemOf, visitWords, walkOf, inFront, withState, withLink, counting}
+use Rattle.analyse.specs.Memory.{area, Memory, memOf, itemOf, visitWords, inFront, withState, withLink, counting}
 
 -- ---- one word for each object
 
@@ -26,10 +23,6 @@ unfolding area
 area-read n base work x p q =
     let e : base + x - 1 ≡ base + (x - 1) = omega arith in
     rw e (sym (getD-drop base work (x - 1) 0) ∙ rec-at n (drop base work) x p q)
-
-pub area-none : (n base : ℕ) (work : List ℕ) (x : ℕ) → x ≡ 0 → area n base work x ≡ 0
-unfolding area recOf
-area-none n base work x z = rw z refl
 
 pub area-put : (n base : ℕ) (work : List ℕ) (x v : ℕ) → 1 ≤ x → x ≤ n → base + n ≤ length work → (y : ℕ)
     → area n base (set work (base + x - 1) v) y ≡ upd (area n base work) x v y
@@ -57,7 +50,7 @@ pub mem-path : {t t′ : List ℕ} {l l′ s s′ : ℕ → ℕ} → t ≡ t′ 
     → _≡_ {A = Memory} (record { todo = t; link = l; state = s }) (record { todo = t′; link = l′; state = s′ })
 mem-path p q r = λ i. record { todo = p i; link = q i; state = r i }
 
-module _ (n : ℕ) (work : List ℕ) (long : length work ≡ 10 * n + 64) where
+module _ (n : ℕ) (work : List ℕ) (long : 10 * n + 64 ≤ length work) where
   todo-past : (i v top : ℕ) → 8 * n ≤ i → drop top (take (8 * n) (set work i v)) ≡ drop top (take (8 * n) work)
   todo-past i v top h = ap (drop top) (take-set-le (8 * n) work i v h)
 
@@ -128,10 +121,6 @@ words-items n c (x ∷ l) p h =
     ap₂ (λ (i : Item) (r : List Item). i ∷ r) (ap₂ (λ (y z : ℕ). record { obj = y; passed = z }) a b)
     (words-items n c l p (λ k m. h k (List·Memᴰ·tail m)))
 
-pub length-words : (c : ℕ) (l : List ℕ) → length (visitWords c l) ≡ length l
-unfolding visitWords
-length-words c l = length-map l (λ w. w + 4096 * c)
-
 -- one more member is counted
 pub counting-some : (e : ℕ) (f : ℕ → ℕ) → e ≢ 0 → counting e f ≡ upd f e (f e + 4096)
 unfolding counting
@@ -140,3 +129,31 @@ counting-some e f p = rw (ne-eqb e 0 p) refl
 pub counting-none : (e : ℕ) (f : ℕ → ℕ) → e ≡ 0 → counting e f ≡ f
 unfolding counting
 counting-none e f p = rw p refl
+
+pub counted : (n : ℕ) (work : List ℕ) → 10 * n + 64 ≤ length work → (e : ℕ) → e ≢ 0 → e ≤ n → (w : ℕ) → w ≡ area n (8 * n) work e
+    → (work′ : List ℕ) → work′ ≡ set work (8 * n + e - 1) (w + 4096)
+    → (top : ℕ) → memOf n work′ top ≡ withLink (counting e (area n (8 * n) work)) (memOf n work top)
+counted n work long e p q w i work′ j top =
+    ap (λ (l : List ℕ). memOf n l top) j ∙ put-link n work long e (w + 4096) top (omega (arith, p)) q
+    ∙ ap (λ (f : ℕ → ℕ). withLink f (memOf n work top)) (ap (λ (v : ℕ). upd (area n (8 * n) work) e (v + 4096)) i ∙ sym (counting-some e (area n (8 * n) work) p))
+
+pub not-counted : (n : ℕ) (work : List ℕ) (e : ℕ) → e ≡ 0
+    → (top : ℕ) → memOf n work top ≡ withLink (counting e (area n (8 * n) work)) (memOf n work top)
+unfolding withLink memOf
+not-counted n work e z top = ap (λ (f : ℕ → ℕ). withLink f (memOf n work top)) (sym (counting-none e (area n (8 * n) work) z))
+
+-- the low bits of a link word stay, and so do the other words
+pub counting-next : (e : ℕ) (f : ℕ → ℕ) (x : ℕ) → counting e f x % 4096 ≡ f x % 4096
+counting-next e f x = go (ℕ-discrete e 0) (ℕ-discrete x e)
+  where
+    go : Dec (e ≡ 0) → Dec (x ≡ e) → counting e f x % 4096 ≡ f x % 4096
+    go (yes z) d = rw (counting-none e f z) refl
+    go (no q) (yes i) = rw (counting-some e f q, i, upd-same f e (f e + 4096)) (omega arith)
+    go (no q) (no i) = rw (counting-some e f q, upd-other f e x (f e + 4096) i) refl
+
+pub counting-other : (e : ℕ) (f : ℕ → ℕ) (x : ℕ) → (e ≢ 0 → x ≢ e) → counting e f x ≡ f x
+counting-other e f x h = go (ℕ-discrete e 0)
+  where
+    go : Dec (e ≡ 0) → counting e f x ≡ f x
+    go (yes z) = rw (counting-none e f z) refl
+    go (no q) = rw (counting-some e f q) (upd-other f e x (f e + 4096) (h q))

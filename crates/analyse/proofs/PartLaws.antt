@@ -1,7 +1,7 @@
 -- A part of the work words that was lent: what is outside it stays.
 -- Assumes nothing.
 use Prim.Native.Nat.{ℕ, zero, suc, _+_, _-_, _*_, _≤_, _<_}
-use mathlib.Core.Path.{_≡_, refl, sym, ap, _∙_, fun-ext}
+use mathlib.Core.Path.{_≡_, sym, ap, _∙_, fun-ext}
 use mathlib.Core.Bool.{cond}
 use mathlib.Core.List.{List, _++_}
 use mathlib.Core.Logic.{_⊎_, inl, inr}
@@ -10,11 +10,12 @@ use native.Mathlib.Omega.{arith}
 use lib.ListN.{length, getD, take, drop, length-drop}
 use lib.Seq.{getD-take, getD-drop, drop-at, take-append-le, length-take-le}
 use borrow.Rule.Slice.PartMut.{putMid, midOf, postOf, same-len-mid, take-put, drop-put}
-use Rattle.rules.specs.Buffers.{recOf, eachFrom, eachRecord}
-use Rattle.rules.proofs.ListLaws.{recOf-each, recOf-above}
-use Rattle.rules.proofs.PlaceLaws.{rec-at, rec-take}
-use Rattle.links.specs.Links.{clOf, linkWord, links, linkable}
-use Rattle.links.proofs.LinkLaws.{linked}
+use Rattle.rules.specs.Buffers.{recOf, eachRecord, zeros}
+use Rattle.rules.proofs.ListLaws.{length-each, recOf-each}
+use Rattle.rules.proofs.PlaceLaws.{rec-take}
+use Rattle.table.specs.Clusters.{clusterOf}
+use Rattle.links.specs.Links.{linkWord, links, linkable}
+use Rattle.links.proofs.LinkLaws.{linked, zeros-none, zeros-past}
 use Rattle.analyse.specs.Memory.{area}
 use Rattle.analyse.specs.Filling.{Filling}
 use Rattle.analyse.proofs.MemoryLaws.{area-read}
@@ -28,6 +29,24 @@ area-same n b l m h = fun-ext (λ x. go x (decLe x n))
     go (suc x) (yes q) =
         sym (area-read n b m (suc x) (omega arith) q) ∙ h (b + suc x - 1) (omega arith) (omega arith) ∙ area-read n b l (suc x) (omega arith) q
     go (suc x) (no q) = area-over n b m (suc x) (omega (arith, q)) ∙ sym (area-over n b l (suc x) (omega (arith, q)))
+
+-- the first n words set to 0
+pub zeros-filled : (n : ℕ) (work work′ : List ℕ) → n ≤ length work → work′ ≡ zeros n work → Filling n 0 (λ x. 0) work work′ n
+unfolding area zeros
+zeros-filled n work work′ long e = record {
+  filled = λ x p q. ap (λ (l : List ℕ). recOf n l x) e ∙ zeros-none n work long x;
+  others = λ b a. area-same n b work work′ (λ i p q. past i (apart b a i p q));
+  long = ap length e ∙ length-each 0 n (λ i w. 0) work;
+}
+  where
+    past : (i : ℕ) → n ≤ i → getD work′ i 0 ≡ getD work i 0
+    past i h =
+        let s : n + (i - n) ≡ i = omega arith in
+        rw s at (sym (getD-drop n work′ (i - n) 0) ∙ ap (λ (l : List ℕ). getD l (i - n) 0) (ap (drop n) e ∙ zeros-past n work long) ∙ getD-drop n work (i - n) 0)
+
+    apart : (b : ℕ) → (b + n ≤ 0) ⊎ (0 + n ≤ b) → (i : ℕ) → b ≤ i → i < b + n → n ≤ i
+    apart b (inl a) i p q = omega arith
+    apart b (inr a) i p q = omega arith
 
 module _ (n base e : ℕ) (work part : List ℕ) (size : e - base ≡ n) (long : e ≤ length work) (ordered : base ≤ e) (len : length part ≡ length (midOf base (e - base) work)) where
   abbrev after : List ℕ
@@ -62,18 +81,18 @@ module _ (n base e : ℕ) (work part : List ℕ) (size : e - base ≡ n) (long :
       apart b (inl a) i p q = before-same i (omega arith)
       apart b (inr a) i p q = past-same i (omega arith)
 
-each-link : (n : ℕ) (recs mid : List ℕ) (x : ℕ) → 1 ≤ x → x ≤ n → n ≤ length mid → recOf n (links n (clOf n recs) mid) x ≡ linkWord n (clOf n recs) x
+each-link : (n : ℕ) (recs mid : List ℕ) (x : ℕ) → 1 ≤ x → x ≤ n → n ≤ length mid → recOf n (links n (clusterOf n recs) mid) x ≡ linkWord n (clusterOf n recs) x
 unfolding links eachRecord
-each-link n recs mid x p q l = recOf-each n (λ x w. linkWord n (clOf n recs) x) mid x p q l
+each-link n recs mid x p q l = recOf-each n (λ x w. linkWord n (clusterOf n recs) x) mid x p q l
 
-pub links-filled : (n : ℕ) (recs work part : List ℕ) → n ≤ 4095 → n ≤ length recs → length work ≡ 10 * n + 64
+pub links-filled : (n : ℕ) (recs work part : List ℕ) → n ≤ 4095 → n ≤ length recs → 10 * n + 64 ≤ length work
     → length part ≡ length (midOf (8 * n) (9 * n - 8 * n) work)
-    → part ≡ cond (linkable n recs (midOf (8 * n) (9 * n - 8 * n) work)) (links n (clOf n recs) (midOf (8 * n) (9 * n - 8 * n) work)) (midOf (8 * n) (9 * n - 8 * n) work)
-    → Filling n (8 * n) (linkWord n (clOf n recs)) work (putMid (8 * n) (9 * n - 8 * n) work part) n
+    → part ≡ cond (linkable n recs (midOf (8 * n) (9 * n - 8 * n) work)) (links n (clusterOf n recs) (midOf (8 * n) (9 * n - 8 * n) work)) (midOf (8 * n) (9 * n - 8 * n) work)
+    → Filling n (8 * n) (linkWord n (clusterOf n recs)) work (putMid (8 * n) (9 * n - 8 * n) work part) n
 unfolding links
 links-filled n recs work part m r w l e =
-    part-filled n (8 * n) (9 * n) work part size (omega arith) (omega arith) l (linkWord n (clOf n recs))
-    (λ x p q. ap (λ (t : List ℕ). recOf n t x) (e ∙ sym (linked n (clOf n recs) recs mid m r (omega (arith, len)))) ∙ each x p q)
+    part-filled n (8 * n) (9 * n) work part size (omega arith) (omega arith) l (linkWord n (clusterOf n recs))
+    (λ x p q. ap (λ (t : List ℕ). recOf n t x) (e ∙ sym (linked n (clusterOf n recs) recs mid m r (omega (arith, len)))) ∙ each x p q)
   where
     size : 9 * n - 8 * n ≡ n
     size = omega arith
@@ -84,5 +103,5 @@ links-filled n recs work part m r w l e =
     len : length mid ≡ n
     len = length-take-le (9 * n - 8 * n) (drop (8 * n) work) (let a = length-drop (8 * n) work in omega arith) ∙ size
 
-    each : (x : ℕ) → 1 ≤ x → x ≤ n → recOf n (links n (clOf n recs) mid) x ≡ linkWord n (clOf n recs) x
+    each : (x : ℕ) → 1 ≤ x → x ≤ n → recOf n (links n (clusterOf n recs) mid) x ≡ linkWord n (clusterOf n recs) x
     each x p q = each-link n recs mid x p q (omega (arith, len))

@@ -1,17 +1,21 @@
 -- Visits put in front of the others, word by word, and the cluster that an object gets.
 -- Assumes nothing.
-use Prim.Native.Nat.{ℕ, zero, suc, _+_, _-_, _*_, _/_, _%_, _≤_, _<_}
+use Prim.Native.Nat.{ℕ, suc, _+_, _-_, _*_, _≤_, _<_}
 use mathlib.Core.Path.{_≡_, refl, sym, ap, ap₂, _∙_}
 use mathlib.Core.Bool.{Bool, true, false}
-use mathlib.Core.List.{List, [], _∷_, _++_, map}
+use mathlib.Core.List.{List, [], _∷_, map}
 use native.Mathlib.Omega.{arith}
-use lib.ListN.{length, getD, take, drop}
-use lib.Seq.{drop-cons, length-take-le, getD-take, drop-length}
+use lib.ListN.{length, getD, take, drop, length-drop}
+use lib.Seq.{drop-cons, length-take-le, getD-take, getD-drop, drop-length}
 use borrow.Author.Tests.{le-leb, lt-leb}
-use Rattle.rules.specs.View.{target}
-use Rattle.choices.specs.Choices.{given}
+use Rattle.rules.specs.View.{target, view}
+use Rattle.choices.specs.Choices.{joined}
+use Rattle.records.specs.Record.{width}
+use Rattle.rules.specs.Buffers.{recOf}
+use Rattle.table.specs.Room.{Sized}
 use Rattle.analyse.specs.Memory.{Memory, memOf, visitWords, inFront}
 use Rattle.analyse.proofs.MemoryLaws.{front-front, front-none}
+use Rattle.analyse.proofs.SlotLaws.{kids-at, slots-room, kids-length}
 
 pub target-in : (n w : ℕ) → w ≤ n → w ≡ target n w
 unfolding target
@@ -28,7 +32,20 @@ pub record Pushing (n c : ℕ) (s : List ℕ) (k : ℕ) (work₀ : List ℕ) (to
   pub spot : at + j ≡ top
   pub most : j ≤ k
 
-module _ (n c : ℕ) (s : List ℕ) (k : ℕ) (work₀ : List ℕ) (top : ℕ) (more : k ≤ length s) where
+module _ (n c : ℕ) (recs slots work₀ : List ℕ) (z : Sized n recs slots work₀) (x : ℕ) (low : 1 ≤ x) (high : x ≤ n) (top : ℕ)
+    (room : length (view n recs slots .kids x) ≤ top) (k : ℕ) (wide : k ≡ width (recOf n recs x)) where
+  abbrev s : List ℕ
+  s = drop (8 * (x - 1)) slots
+
+  pub words-room : k ≤ top
+  words-room = omega (arith, kids-length n recs slots work₀ z x low high, room, wide)
+
+  pub slots-there : 8 * (x - 1) + k ≤ length slots
+  slots-there = omega (arith, slots-room n recs slots work₀ z x low high, wide)
+
+  more : k ≤ length s
+  more = let e = length-drop (8 * (x - 1)) slots in omega (arith, slots-there)
+
   pub pushing-start : Pushing n c s k work₀ top work₀ 0 top
   unfolding visitWords
   pushing-start = record {
@@ -43,19 +60,25 @@ module _ (n c : ℕ) (s : List ℕ) (k : ℕ) (work₀ : List ℕ) (top : ℕ) (
           let all : k - 0 ≡ length (take k s) = omega (arith, length-take-le k s more) in
           ap (λ (i : ℕ). drop i (take k s)) all ∙ drop-length (take k s)
 
-  pub pushing-turn : (work work′ : List ℕ) (j at t at′ : ℕ) → Pushing n c s k work₀ top work j at → j < k → t ≡ target n (getD s (k - (j + 1)) 0)
-      → memOf n work′ at′ ≡ inFront ((t + 4096 * c) ∷ []) (memOf n work at) → at′ ≡ at - 1 → length work′ ≡ length work → k ≤ top
+  pub pushing-turn : (work work′ : List ℕ) (j at t at′ : ℕ) → Pushing n c s k work₀ top work j at → j < k
+      → t ≡ target n (getD slots (8 * (x - 1) + k - (j + 1)) 0)
+      → memOf n work′ at′ ≡ inFront ((t + 4096 * c) ∷ []) (memOf n work at) → at′ ≡ at - 1 → length work′ ≡ length work
       → Pushing n c s k work₀ top work′ (j + 1) at′
   unfolding visitWords
-  pushing-turn work work′ j at t at′ g p e m a l q = record {
-    mem = m ∙ ap₂ (λ (v : ℕ) (w : Memory). inFront ((v + 4096 * c) ∷ []) w) e (g .mem)
+  pushing-turn work work′ j at t at′ g p e m a l = record {
+    mem = m ∙ ap₂ (λ (v : ℕ) (w : Memory). inFront ((v + 4096 * c) ∷ []) w) (e ∙ ap (target n) there) (g .mem)
         ∙ front-front ((target n (getD s (k - (j + 1)) 0) + 4096 * c) ∷ []) (visitWords c (map (target n) (drop (k - j) (take k s)))) (memOf n work₀ top)
         ∙ ap (λ (i : List ℕ). inFront (visitWords c (map (target n) i)) (memOf n work₀ top)) (sym cut);
     long = l ∙ g .long;
-    spot = omega (arith, g .spot);
+    spot = omega (arith, g .spot, words-room);
     most = omega arith;
   }
     where
+      there : getD slots (8 * (x - 1) + k - (j + 1)) 0 ≡ getD s (k - (j + 1)) 0
+      there =
+          let i : 8 * (x - 1) + k - (j + 1) ≡ 8 * (x - 1) + (k - (j + 1)) = omega arith in
+          ap (λ (a : ℕ). getD slots a 0) i ∙ sym (getD-drop (8 * (x - 1)) slots (k - (j + 1)) 0)
+
       cut : drop (k - (j + 1)) (take k s) ≡ getD s (k - (j + 1)) 0 ∷ drop (k - j) (take k s)
       cut =
           let one : suc (k - (j + 1)) ≡ k - j = omega arith in
@@ -64,13 +87,15 @@ module _ (n c : ℕ) (s : List ℕ) (k : ℕ) (work₀ : List ℕ) (top : ℕ) (
           ∙ ap₂ (λ (v : ℕ) (i : ℕ). v ∷ drop i (take k s)) (getD-take k s (k - (j + 1)) 0 (omega arith)) one
 
   pub pushing-end : (work : List ℕ) (j at : ℕ) → Pushing n c s k work₀ top work j at → k ≤ j
-      → (memOf n work at ≡ inFront (visitWords c (map (target n) (take k s))) (memOf n work₀ top)) × (at + k ≡ top)
-  pushing-end work j at g h = let z : k - j ≡ 0 = omega arith in (rw z at (g .mem), omega (arith, g .spot, g .most))
+      → (memOf n work at ≡ inFront (visitWords c (view n recs slots .kids x)) (memOf n work₀ top)) × (at + length (view n recs slots .kids x) ≡ top)
+  pushing-end work j at g h =
+      let e : k - j ≡ 0 = omega arith in
+      (rw (kids-at n recs slots x low (z .widths x), ← wide) (rw e at (g .mem)), omega (arith, g .spot, g .most, kids-length n recs slots work₀ z x low high, wide))
 
 -- ---- the cluster that an object gets
 
-pub given-fits : (b s : Bool) (o c n : ℕ) → o ≤ n → c ≤ n → given b s o c ≤ n
-unfolding given
-given-fits true s o c n p q = omega arith
-given-fits false true o c n p q = q
-given-fits false false o c n p q = p
+pub joined-fits : (b s : Bool) (o c n : ℕ) → o ≤ n → c ≤ n → joined b s o c ≤ n
+unfolding joined
+joined-fits true s o c n p q = omega arith
+joined-fits false true o c n p q = q
+joined-fits false false o c n p q = p

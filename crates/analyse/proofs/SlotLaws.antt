@@ -1,29 +1,22 @@
 -- The slots of an object as its pointers.
 -- Assumes nothing.
 use Prim.Native.Nat.{ℕ, zero, suc, _+_, _-_, _*_, _≤_}
-use mathlib.Core.Path.{_≡_, refl, sym, ap, _∙_}
-use mathlib.Core.Bool.{Bool, true, false, cond}
-use mathlib.Core.List.{List, [], map, List·Memᴰ, List·Memᴰ·head, List·Memᴰ·tail, _∷_}
+use mathlib.Core.Path.{_≡_, ap, _∙_}
+use mathlib.Core.List.{List, map}
 use native.Mathlib.Omega.{arith}
-use lib.ListN.{length, getD, take, drop, length-drop, length-map}
-use lib.Seq.{getD-drop, length-take-le}
+use lib.ListN.{length, take, drop, length-drop, length-map}
+use lib.Seq.{take-take, length-take-le}
 use Rattle.records.specs.Record.{width}
 use Rattle.rules.specs.Buffers.{recOf, eight, usedWords}
 use Rattle.rules.specs.View.{view, target}
-use Rattle.analyse.specs.Contracts.{Sized}
+use Rattle.table.specs.Room.{Sized}
 
 pub words-fit : (from k : ℕ) (slots : List ℕ) → from + k ≤ length slots → k ≤ length (drop from slots)
 words-fit from k slots h = let e = length-drop from slots in omega arith
 
--- what the word that the code reads at i points at
-pub word-there : (n from : ℕ) (slots : List ℕ) (j t i : ℕ) → t ≡ target n (getD slots i 0) → i ≡ from + j → t ≡ target n (getD (drop from slots) j 0)
-word-there n from slots j t i e f = e ∙ ap (λ (a : ℕ). target n (getD slots a 0)) f ∙ ap (target n) (sym (getD-drop from slots j 0))
-
-take-take : (a b : ℕ) (l : List ℕ) → a ≤ b → take a (take b l) ≡ take a l
-take-take zero b l h = refl
-take-take (suc a) zero l h = absurd (omega arith)
-take-take (suc a) (suc b) [] h = refl
-take-take (suc a) (suc b) (x ∷ l) h = ap (λ (r : List ℕ). x ∷ r) (take-take a b l (omega arith))
+-- other work words of the same length
+pub resized : {n : ℕ} {recs slots work work′ : List ℕ} → Sized n recs slots work → length work′ ≡ length work → Sized n recs slots work′
+resized z e = record { room = z .room; work-long = omega (arith, z .work-long); widths = z .widths }
 
 pub kids-at : (n : ℕ) (recs slots : List ℕ) (x : ℕ) → 1 ≤ x → width (recOf n recs x) ≤ 8
     → view n recs slots .kids x ≡ map (target n) (take (width (recOf n recs x)) (drop (8 * (x - 1)) slots))
@@ -35,7 +28,7 @@ kids-at n recs slots (suc i) p h =
 
 module _ (n : ℕ) (recs slots work : List ℕ) (z : Sized n recs slots work) (x : ℕ) (p : 1 ≤ x) (q : x ≤ n) where
   pub slots-room : 8 * (x - 1) + width (recOf n recs x) ≤ length slots
-  slots-room = omega (arith, z .slots-long, z .widths x)
+  slots-room = omega (arith, z .room .slots-long, z .widths x)
 
   pub kids-length : length (view n recs slots .kids x) ≡ width (recOf n recs x)
   kids-length =

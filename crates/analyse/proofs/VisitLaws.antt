@@ -1,34 +1,37 @@
 -- A visit of the code is a step of the walk.
 -- Assumes nothing.
-use Prim.Native.Nat.{ℕ, zero, suc, _+_, _-_, _*_, _/_, _%_, _≤_, _<_}
+use Prim.Native.Nat.{ℕ, _+_, _*_, _/_, _%_, _≤_, _<_}
 use mathlib.Core.Path.{_≡_, refl, sym, ap, ap₂, _∙_, fun-ext, subst}
 use mathlib.Core.Bool.{Bool, true, false, cond, not, _&&_, _||_}
-use mathlib.Core.List.{List, [], _∷_, _++_, map, map-append, List·Memᴰ}
+use mathlib.Core.List.{List, _∷_, _++_, map, map-append}
 use mathlib.Core.Logic.{_≢_}
 use native.Mathlib.Decide.{ℕ-discrete}
 use native.Mathlib.Omega.{arith}
 use lib.Dec.{eqb, leb}
 use lib.ListN.{length, length-append, length-map}
-use borrow.Author.Tests.{eqb-true, eqb-false, eq-eqb, ne-eqb, le-leb, lt-leb}
+use borrow.Author.Tests.{eqb-true, eq-eqb, ne-eqb, le-leb, lt-leb}
 use Rattle.records.specs.Record.{isWritten, isSink}
 use Rattle.graph.specs.Numbers.{upd, gather}
 use Rattle.graph.specs.Heap.{Heap}
-use Rattle.graph.specs.Analysis.{Item, Work, items, bars, Visit, skip, older, alone, join, head, pick, kind, visitsOfCluster, pushed, seenBy, clBy, act, step, needed, finish}
+use Rattle.graph.specs.Analysis.{Item, Work, items, bars, Visit, skip, older, pick, kind, visitsOfCluster, pushed, seenBy, clBy, act, step, needed, finish}
 use Rattle.graph.specs.Analysis as A
+use Rattle.graph.specs.Invariant.{Ready, Inv, Sizes}
 use Rattle.graph.proofs.NumberLaws.{upd-same, upd-other, gather-all}
 use Rattle.graph.proofs.OutLaws.{eqb-iff}
-use Rattle.graph.proofs.AnalysisInv.{Facts, facts, Ready, Inv, all-first, in-range, head-range, passed-range, size-none, or-split}
+use Rattle.graph.proofs.AnalysisInv.{Facts, facts, all-first, in-range, head-range, passed-range, size-none}
 use Rattle.graph.proofs.AnalysisEnds.{step-inv, finish-step, needed-act, length-items, older-same}
-use Rattle.graph.proofs.SizeTable.{Sizes, tableBy, sizes-act, kind-table}
+use Rattle.graph.proofs.SizeTable.{tableBy, sizes-act, kind-table}
 use Rattle.rules.specs.Buffers.{recOf}
 use Rattle.rules.specs.View.{view}
 use Rattle.rules.proofs.PlaceLaws.{upd-map}
 use Rattle.rules.proofs.ViewLaws.{view-closed}
-use Rattle.links.specs.Links.{topMember, clOf}
-use Rattle.choices.specs.Choices.{given, goesBy}
+use Rattle.table.specs.Clusters.{clusterOf}
+use Rattle.choices.specs.Choices.{joined, goesBy}
 use Rattle.analyse.specs.Memory.{area, Memory, memOf, itemOf, visitWords, seenIn, clusterIn, sizeIn, walkOf, inFront, withState, withLink, counting}
-use Rattle.analyse.specs.Contracts.{Sized, outsBelow, Chained, handledState, handled, goesTo, placed, Ground, visiting, Visiting, Walking, Visited}
-use Rattle.analyse.proofs.MemoryLaws.{todo-length, words-items, counting-some, counting-none}
+use Rattle.table.specs.Room.{Sized}
+use Rattle.analyse.specs.Contracts.{outsBelow, Chained, handledState, handled, goesTo, placed, Ground, visiting, Visiting, Visited}
+use Rattle.analyse.proofs.MemoryLaws.{todo-length, words-items, counting-some, counting-next, counting-other}
+use Rattle.analyse.proofs.SlotLaws.{resized}
 use Rattle.analyse.proofs.PlaceLaws.{goes-fits}
 
 pub work-path : {t t′ : List Item} {s s′ : ℕ → Bool} {c c′ : ℕ → ℕ} → t ≡ t′ → s ≡ s′ → c ≡ c′
@@ -56,24 +59,24 @@ module _ (H : Heap) (seen : ℕ → Bool) (cl : ℕ → ℕ) (o c : ℕ) (rest :
   unfolding act pushed seenBy clBy
   act-older = refl
 
-  act-given : (b s : Bool) → cl o ≡ 0
+  act-joined : (b s : Bool) → cl o ≡ 0
       → act H seen cl o c rest (pick false false b s)
-      ≡ record { todo = items (given b s o c) (H .kids o) ++ rest; seen = upd seen o true; cl = upd cl o (given b s o c) }
-  unfolding act pushed seenBy clBy pick given
-  act-given true s z =
+      ≡ record { todo = items (joined b s o c) (H .kids o) ++ rest; seen = upd seen o true; cl = upd cl o (joined b s o c) }
+  unfolding act pushed seenBy clBy pick joined
+  act-joined true s z =
       ap (λ (f : ℕ → ℕ). record { todo = items 0 (H .kids o) ++ rest; seen = upd seen o true; cl = f }) (fun-ext (λ x. same x (ℕ-discrete x o)))
     where
       same : (x : ℕ) → Dec (x ≡ o) → cl x ≡ upd cl o 0 x
       same x (yes i) = rw (i, upd-same cl o 0) z
       same x (no i) = sym (upd-other cl o x 0 i)
-  act-given false true z = refl
-  act-given false false z = refl
+  act-joined false true z = refl
+  act-joined false false z = refl
 
-pushed-given : (H : Heap) (cl : ℕ → ℕ) (o c : ℕ) (b s : Bool) → length (pushed H cl o c (pick false false b s)) ≡ length (H .kids o)
+pushed-joined : (H : Heap) (cl : ℕ → ℕ) (o c : ℕ) (b s : Bool) → length (pushed H cl o c (pick false false b s)) ≡ length (H .kids o)
 unfolding pushed pick
-pushed-given H cl o c true s = length-items 0 (H .kids o)
-pushed-given H cl o c false true = length-items c (H .kids o)
-pushed-given H cl o c false false = length-items o (H .kids o)
+pushed-joined H cl o c true s = length-items 0 (H .kids o)
+pushed-joined H cl o c false true = length-items c (H .kids o)
+pushed-joined H cl o c false false = length-items o (H .kids o)
 
 -- ---- a visit that may be made
 
@@ -203,9 +206,9 @@ module _ (n : ℕ) (recs slots : List ℕ) (limit : ℕ) (work : List ℕ) (o c 
           (λ e. older-same H limit R (record { todo = i ∷ rest; seen = seen; cl = cl }) I o x unseen (λ f. p (sym own ∙ f)) e .1 ∙ was)
           (λ e. I .kept x (λ f. p (sym e ∙ f)) ∙ e ∙ sym own)
 
-      head-own : clOf n recs s ≡ s
+      head-own : clusterOf n recs s ≡ s
       unfolding view
-      head-own = ap (clOf n recs) (sym was) ∙ R .heads o (λ e. p (sym was ∙ e)) ∙ was
+      head-own = ap (clusterOf n recs) (sym was) ∙ R .heads o (λ e. p (sym was ∙ e)) ∙ was
 
       pub older-chained : Chained n recs lk s
       older-chained = X .ground .chains s p head-own
@@ -251,7 +254,7 @@ module _ (n : ℕ) (recs slots : List ℕ) (limit : ℕ) (work : List ℕ) (o c 
             ap (λ (v : Memory). map itemOf (v .todo)) m
             ∙ map-append itemOf (visitWords 0 (outsBelow H s n)) (memOf n work top .todo)
             ∙ ap (λ (t : List Item). t ++ rest)
-            (words-items n 0 (outsBelow H s n) (sized .most) (gather-all (λ k. k ≤ n) n _ (H .kids) (λ x q k b. view-closed n recs slots x k b))
+            (words-items n 0 (outsBelow H s n) (sized .room .most) (gather-all (λ k. k ≤ n) n _ (H .kids) (λ x q k b. view-closed n recs slots x k b))
             ∙ ap (items 0) outs-same)
 
         pub visit-older : Visited n recs slots limit work o c top work′ top′
@@ -259,13 +262,7 @@ module _ (n : ℕ) (recs slots : List ℕ) (limit : ℕ) (work : List ℕ) (o c 
         visit-older =
             visited work′ top′ (work-path todo-now seen-now cl-now ∙ sym (ap (act H seen cl o c rest) is-older ∙ act-older H seen cl o c rest))
             (record {
-              sized = record {
-                most = sized .most;
-                recs-long = sized .recs-long;
-                slots-long = sized .slots-long;
-                work-long = l ∙ sized .work-long;
-                widths = sized .widths;
-              };
+              sized = resized sized l;
               ready = R;
               limits = X .ground .limits;
               sizes = subst (λ (f : ℕ → ℕ). Sizes H f (sizeIn (area n (8 * n) work′))) (sym cl-now)
@@ -311,7 +308,7 @@ module _ (n : ℕ) (recs slots : List ℕ) (limit : ℕ) (work : List ℕ) (o c 
       pub placed-room : length (H .kids o) ≤ top
       placed-room =
           let a = room-for kd kind-is in
-          let b = pushed-given H cl o c barred roomy in
+          let b = pushed-joined H cl o c barred roomy in
           omega arith
 
       to-fits : to ≤ n
@@ -319,15 +316,15 @@ module _ (n : ℕ) (recs slots : List ℕ) (limit : ℕ) (work : List ℕ) (o c 
 
       -- the cluster that it gets was none before the walk
       to-new : to ≢ 0 → H .cluster to ≡ 0
-      unfolding given goesTo goesBy
+      unfolding joined goesTo goesBy
       to-new p = go barred roomy p
         where
-          go : (b t : Bool) → given b t o c ≢ 0 → H .cluster (given b t o c) ≡ 0
+          go : (b t : Bool) → joined b t o c ≢ 0 → H .cluster (joined b t o c) ≡ 0
           go true t q = absurd (q refl)
           go false true q = passed-new q
           go false false q = was-none
 
-      new-to : to ≢ 0 → clOf n recs to ≡ 0
+      new-to : to ≢ 0 → clusterOf n recs to ≡ 0
       unfolding view
       new-to p = to-new p
 
@@ -339,14 +336,14 @@ module _ (n : ℕ) (recs slots : List ℕ) (limit : ℕ) (work : List ℕ) (o c 
 
       -- the table holds the sizes after the visit
       table-is : (x : ℕ) → sizeIn (counting to lk) x ≡ tableBy (sizeIn lk) o c kd x
-      unfolding pick given tableBy Sizes goesTo goesBy counting
+      unfolding pick joined tableBy Sizes goesTo goesBy counting
       table-is x = go barred roomy known
         where
           empty : sizeIn lk o ≡ 0
           empty = X .ground .sizes o nz was-none ∙ size-none H cl o (I .heads) none nz
 
           go : (b t : Bool) → Facts H limit seen cl o c (pick false false b t)
-              → sizeIn (counting (given b t o c) lk) x ≡ tableBy (sizeIn lk) o c (pick false false b t) x
+              → sizeIn (counting (joined b t o c) lk) x ≡ tableBy (sizeIn lk) o c (pick false false b t) x
           go true t f = refl
           go false true f = more x c (f .1)
           go false false f = more x o nz ∙ ap (λ (v : ℕ). upd (sizeIn lk) o (v + 1) x) empty
@@ -365,24 +362,6 @@ module _ (n : ℕ) (recs slots : List ℕ) (limit : ℕ) (work : List ℕ) (o c 
               at c (sizeIn lk c + 1) (omega (arith, f .2, X .ground .sizes c (f .1) (passed-new (f .1)), X .ground .limits .1)) (ℕ-discrete x c)
           go false false f = at o 1 (omega arith) (ℕ-discrete x o)
 
-      count-other : (x : ℕ) → (to ≢ 0 → x ≢ to) → counting to lk x ≡ lk x
-      count-other x h = go (ℕ-discrete to 0)
-        where
-          go : Dec (to ≡ 0) → counting to lk x ≡ lk x
-          go (yes e) = ap (λ (f : ℕ → ℕ). f x) (counting-none to lk e)
-          go (no q) = ap (λ (f : ℕ → ℕ). f x) (counting-some to lk q) ∙ upd-other lk to x (lk to + 4096) (h q)
-
-      count-next : (x : ℕ) → counting to lk x % 4096 ≡ lk x % 4096
-      count-next x = go (ℕ-discrete x to) (ℕ-discrete to 0)
-        where
-          go : Dec (x ≡ to) → Dec (to ≡ 0) → counting to lk x % 4096 ≡ lk x % 4096
-          go e (yes f) = ap (λ (g : ℕ → ℕ). g x % 4096) (counting-none to lk f)
-          go (yes e) (no q) =
-              let a : (lk to + 4096) % 4096 ≡ lk to % 4096 = omega arith in
-              ap (λ (f : ℕ → ℕ). f x % 4096) (counting-some to lk q) ∙ ap (λ (y : ℕ). upd lk to (lk to + 4096) y % 4096) e
-              ∙ ap (λ (w : ℕ). w % 4096) (upd-same lk to (lk to + 4096)) ∙ a ∙ ap (λ (y : ℕ). lk y % 4096) (sym e)
-          go (no e) (no q) = ap (λ (w : ℕ). w % 4096) (count-other x (λ f. e))
-
       module _ (work′ : List ℕ) (top′ : ℕ) (l : length work′ ≡ length work) (m : memOf n work′ top′ ≡ placed H to o (memOf n work top)) (h : top′ ≤ 8 * n) where
         link-then : area n (8 * n) work′ ≡ counting to lk
         unfolding placed inFront withState withLink memOf
@@ -394,7 +373,7 @@ module _ (n : ℕ) (recs slots : List ℕ) (limit : ℕ) (work : List ℕ) (o c 
 
         cl-then : clusterIn (area n (9 * n) work′) ≡ upd cl o to
         cl-then =
-            let a : (to + 4096) % 4096 ≡ to = omega (arith, to-fits, sized .most) in
+            let a : (to + 4096) % 4096 ≡ to = omega (arith, to-fits, sized .room .most) in
             fun-ext (λ x. ap (λ (f : ℕ → ℕ). f x % 4096) state-then ∙ upd-map (λ (w : ℕ). w % 4096) st o (to + 4096) x ∙ ap (λ (v : ℕ). upd cl o v x) a)
 
         seen-then : seenIn (area n (9 * n) work′) ≡ upd seen o true
@@ -407,17 +386,17 @@ module _ (n : ℕ) (recs slots : List ℕ) (limit : ℕ) (work : List ℕ) (o c 
         todo-then =
             ap (λ (v : Memory). map itemOf (v .todo)) m
             ∙ map-append itemOf (visitWords to (H .kids o)) (memOf n work top .todo)
-            ∙ ap (λ (t : List Item). t ++ rest) (words-items n to (H .kids o) (sized .most) (λ k b. view-closed n recs slots o k b))
+            ∙ ap (λ (t : List Item). t ++ rest) (words-items n to (H .kids o) (sized .room .most) (λ k b. view-closed n recs slots o k b))
 
-        given-to : act H seen cl o c rest what ≡ record { todo = items to (H .kids o) ++ rest; seen = upd seen o true; cl = upd cl o to }
+        joined-to : act H seen cl o c rest what ≡ record { todo = items to (H .kids o) ++ rest; seen = upd seen o true; cl = upd cl o to }
         unfolding goesTo goesBy
-        given-to = ap (act H seen cl o c rest) kind-is ∙ act-given H seen cl o c rest barred roomy none
+        joined-to = ap (act H seen cl o c rest) kind-is ∙ act-joined H seen cl o c rest barred roomy none
 
         sizes-then : Sizes H (clusterIn (area n (9 * n) work′)) (sizeIn (area n (8 * n) work′))
         unfolding act
         sizes-then =
             subst (λ (f : ℕ → ℕ). Sizes H f (sizeIn (area n (8 * n) work′)))
-            (ap (λ (k : Visit). clBy cl o c k) (sym kind-is) ∙ ap (λ (w : Work). w .cl) given-to ∙ sym cl-then)
+            (ap (λ (k : Visit). clBy cl o c k) (sym kind-is) ∙ ap (λ (w : Work). w .cl) joined-to ∙ sym cl-then)
             (subst (λ (t : ℕ → ℕ). Sizes H (clBy cl o c kd) t)
             (fun-ext (λ x. sym (ap (λ (f : ℕ → ℕ). sizeIn f x) link-then ∙ table-is x)))
             (sizes-act H limit R seen cl i rest I (sizeIn lk) (X .ground .sizes) kd known))
@@ -425,15 +404,9 @@ module _ (n : ℕ) (recs slots : List ℕ) (limit : ℕ) (work : List ℕ) (o c 
         pub visit-placed : Visited n recs slots limit work o c top work′ top′
         unfolding walkOf memOf
         visit-placed =
-            visited work′ top′ (work-path todo-then seen-then cl-then ∙ sym given-to)
+            visited work′ top′ (work-path todo-then seen-then cl-then ∙ sym joined-to)
             (record {
-              sized = record {
-                most = sized .most;
-                recs-long = sized .recs-long;
-                slots-long = sized .slots-long;
-                work-long = l ∙ sized .work-long;
-                widths = sized .widths;
-              };
+              sized = resized sized l;
               ready = R;
               limits = X .ground .limits;
               sizes = sizes-then;
@@ -442,14 +415,11 @@ module _ (n : ℕ) (recs slots : List ℕ) (limit : ℕ) (work : List ℕ) (o c 
             })
             h
           where
-            chain : (d : ℕ) → d ≢ 0 → clOf n recs d ≡ d → Chained n recs (area n (8 * n) work′) d
+            chain : (d : ℕ) → d ≢ 0 → clusterOf n recs d ≡ d → Chained n recs (area n (8 * n) work′) d
             chain d q e =
                 let old = X .ground .chains d q e in
                 record {
                   first = ap (λ (f : ℕ → ℕ). f d / 4096 % 4096) link-then
-                      ∙ ap (λ (w : ℕ). w / 4096 % 4096) (count-other d (λ g f. q (sym e ∙ older-none g f))) ∙ old .first;
-                  next = λ x f. ap (λ (g : ℕ → ℕ). g x % 4096) link-then ∙ count-next x ∙ old .next x f;
+                      ∙ ap (λ (w : ℕ). w / 4096 % 4096) (counting-other to lk d (λ g f. q (sym e ∙ ap (clusterOf n recs) f ∙ new-to g))) ∙ old .first;
+                  next = λ x f. ap (λ (g : ℕ → ℕ). g x % 4096) link-then ∙ counting-next to lk x ∙ old .next x f;
                 }
-              where
-                older-none : to ≢ 0 → d ≡ to → clOf n recs d ≡ 0
-                older-none g f = ap (clOf n recs) f ∙ new-to g

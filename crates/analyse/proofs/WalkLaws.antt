@@ -1,24 +1,21 @@
 -- The walk from one start: the visits one after the other.
 -- Assumes nothing.
-use Prim.Native.Nat.{ℕ, _+_, _-_, _*_, _/_, _%_, _≤_, _<_}
+use Prim.Native.Nat.{ℕ, _+_, _*_, _/_, _%_, _≤_, _<_}
 use mathlib.Core.Path.{_≡_, refl, sym, ap, _∙_, subst}
-use mathlib.Core.List.{List, [], _∷_, map}
-use mathlib.Core.Logic.{_≢_}
+use mathlib.Core.List.{List, [], map}
 use native.Mathlib.Omega.{arith}
 use lib.ListN.{length, getD}
-use Rattle.records.specs.Record.{width}
 use Rattle.graph.specs.Heap.{Heap}
 use Rattle.graph.specs.Analysis.{Item, Work, needed, finish}
-use Rattle.graph.proofs.AnalysisInv.{Ok, All, both, Inv}
+use Rattle.graph.specs.Invariant.{both, Inv}
 use Rattle.graph.proofs.AnalysisEnds.{finish-done, needed-le}
-use Rattle.rules.specs.Buffers.{recOf}
 use Rattle.rules.specs.View.{view}
+use Rattle.rules.proofs.ViewLaws.{view-kids}
 use Rattle.analyse.specs.Memory.{Memory, memOf, itemOf, walkOf}
-use Rattle.analyse.specs.Contracts.{Sized, Visiting, visiting, Walking, Visited, Walked}
+use Rattle.analyse.specs.Contracts.{Visiting, visiting, Walking, Visited, Walked}
 use Rattle.analyse.proofs.MemoryLaws.{todo-next, todo-end}
-use Rattle.analyse.proofs.SlotLaws.{kids-length}
 
-pub no-todo : (n : ℕ) (work : List ℕ) → length work ≡ 10 * n + 64 → walkOf (memOf n work (8 * n)) .todo ≡ []
+pub no-todo : (n : ℕ) (work : List ℕ) → 10 * n + 64 ≤ length work → walkOf (memOf n work (8 * n)) .todo ≡ []
 unfolding walkOf
 no-todo n work l = ap (map itemOf) (todo-end n work l)
 
@@ -67,9 +64,6 @@ module _ (n : ℕ) (recs slots : List ℕ) (limit : ℕ) (work : List ℕ) where
     abbrev m : Memory
     m = memOf n work (8 * n)
 
-    narrow : (x : ℕ) → 1 ≤ x → x ≤ n → length (H .kids x) ≤ 8
-    narrow x p q = let a = kids-length n recs slots work (W .ground .sized) x p q in omega (arith, W .ground .sized .widths x)
-
     -- a visit to one start may be made
     pub start-visit : Visiting n recs slots limit work o 0 (8 * n)
     unfolding view
@@ -89,7 +83,7 @@ module _ (n : ℕ) (recs slots : List ℕ) (limit : ℕ) (work : List ℕ) where
         small = W .inv .small;
       };
       room =
-          let a = needed-le H (visiting o 0 m) (λ x b. narrow x (b .0) (b .1)) in
+          let a = needed-le H (visiting o 0 m) (λ x b. view-kids n recs slots x) in
           let b = ap (λ (l : List Item). length l) (no-todo n work (W .ground .sized .work-long)) in
           omega arith;
       inside = omega arith;

@@ -2,30 +2,19 @@
 use Prim.Native.Nat.{ℕ, _+_, _-_, _*_, _/_, _%_, _≤_, _<_}
 use mathlib.Core.Path.{_≡_}
 use mathlib.Core.Bool.{cond, _&&_}
-use mathlib.Core.List.{List, [], _∷_, map, List·Memᴰ}
+use mathlib.Core.List.{List, [], _∷_}
 use mathlib.Core.Logic.{_≢_}
 use lib.Dec.{eqb}
-use lib.ListN.{length, take}
-use Rattle.records.specs.Record.{width}
 use Rattle.graph.specs.Numbers.{upd, gather}
 use Rattle.graph.specs.Heap.{Heap}
-use Rattle.graph.specs.Analysis.{Item, Work, visitsOfCluster, needed, finish}
-use Rattle.graph.proofs.Paths.{Heads}
-use Rattle.graph.proofs.AnalysisInv.{Ready, Inv}
-use Rattle.graph.proofs.SizeTable.{Sizes}
-use Rattle.rules.specs.Buffers.{recOf}
+use Rattle.graph.specs.Analysis.{Work, needed, finish}
+use Rattle.graph.specs.Invariant.{Ready, Inv, Sizes}
 use Rattle.rules.specs.View.{view}
-use Rattle.links.specs.Links.{topMember, clOf}
+use Rattle.table.specs.Room.{Sized}
+use Rattle.table.specs.Clusters.{clusterOf}
+use Rattle.links.specs.Links.{topMember}
 use Rattle.choices.specs.Choices.{goesBy}
-use Rattle.analyse.specs.Memory.{area, Memory, memOf, itemOf, visitWords, seenIn, clusterIn, sizeIn, walkOf, inFront, withState, withLink, counting}
-
--- The lent words are long enough, and no object is wider than its slots.
-pub record Sized (n : ℕ) (recs slots work : List ℕ) : Type 0 where
-  pub most : n ≤ 4095
-  pub recs-long : n ≤ length recs
-  pub slots-long : 8 * n ≤ length slots
-  pub work-long : length work ≡ 10 * n + 64
-  pub widths : (x : ℕ) → width (recOf n recs x) ≤ 8
+use Rattle.analyse.specs.Memory.{area, Memory, memOf, visitWords, clusterIn, sizeIn, walkOf, inFront, withState, withLink, counting}
 
 -- the pointers of object x, if it is an out member
 unfoldable pub outKids : Heap → ℕ → List ℕ
@@ -37,8 +26,8 @@ outsBelow H d k = gather k (λ x. eqb (H .cluster x) d && H .out x) (H .kids)
 
 -- The links lead through the members of the older cluster d from the highest down.
 pub record Chained (n : ℕ) (recs : List ℕ) (link : ℕ → ℕ) (d : ℕ) : Type 0 where
-  pub first : link d / 4096 % 4096 ≡ topMember (clOf n recs) d n
-  pub next : (x : ℕ) → clOf n recs x ≡ d → link x % 4096 ≡ topMember (clOf n recs) d (x - 1)
+  pub first : link d / 4096 % 4096 ≡ topMember (clusterOf n recs) d n
+  pub next : (x : ℕ) → clusterOf n recs x ≡ d → link x % 4096 ≡ topMember (clusterOf n recs) d (x - 1)
 
 -- the states after the older cluster d is handled: its members are seen
 abbrev pub handledState : Heap → ℕ → (ℕ → ℕ) → ℕ → ℕ
@@ -63,7 +52,7 @@ pub record Ground (n : ℕ) (recs slots : List ℕ) (limit : ℕ) (work : List �
   pub limits : (1 ≤ limit) × (limit ≤ 4095)
   pub sizes : Sizes (view n recs slots) (clusterIn (area n (9 * n) work)) (sizeIn (area n (8 * n) work))
   pub small : (x : ℕ) → sizeIn (area n (8 * n) work) x ≤ 4095
-  pub chains : (d : ℕ) → d ≢ 0 → clOf n recs d ≡ d → Chained n recs (area n (8 * n) work) d
+  pub chains : (d : ℕ) → d ≢ 0 → clusterOf n recs d ≡ d → Chained n recs (area n (8 * n) work) d
 
 -- the walk with a visit to object o, to which c is passed, in front
 abbrev pub visiting : ℕ → ℕ → Memory → Work

@@ -20,6 +20,7 @@ pub record Memory : Type 0 where
   pub link : ℕ → ℕ
   pub state : ℕ → ℕ
 
+-- what the work words hold, with the visits from `top` on
 unfoldable pub memOf : ℕ → List ℕ → ℕ → Memory
 memOf n work top = record { todo = drop top (take (8 * n) work); link = area n (8 * n) work; state = area n (9 * n) work }
 
@@ -27,15 +28,19 @@ memOf n work top = record { todo = drop top (take (8 * n) work); link = area n (
 unfoldable pub itemOf : ℕ → Item
 itemOf w = record { obj = w % 4096; passed = w / 4096 }
 
+-- visits to the objects of a list, with cluster c passed
 unfoldable pub visitWords : ℕ → List ℕ → List ℕ
 visitWords c l = map (λ w. w + 4096 * c) l
 
+-- the objects seen
 abbrev pub seenIn : (ℕ → ℕ) → ℕ → Bool
 seenIn state = λ x. leb 4096 (state x)
 
+-- the cluster of each object
 abbrev pub clusterIn : (ℕ → ℕ) → ℕ → ℕ
 clusterIn state = λ x. state x % 4096
 
+-- the members of each new cluster
 abbrev pub sizeIn : (ℕ → ℕ) → ℕ → ℕ
 sizeIn link = λ c. link c / 4096
 
@@ -47,9 +52,11 @@ walkOf m = record { todo = map itemOf (m .todo); seen = seenIn (m .state); cl = 
 unfoldable pub inFront : List ℕ → Memory → Memory
 inFront l m = record { todo = l ++ m .todo; link = m .link; state = m .state }
 
+-- other states
 unfoldable pub withState : (ℕ → ℕ) → Memory → Memory
 withState f m = record { todo = m .todo; link = m .link; state = f }
 
+-- other links
 unfoldable pub withLink : (ℕ → ℕ) → Memory → Memory
 withLink f m = record { todo = m .todo; link = f; state = m .state }
 

@@ -1,36 +1,39 @@
--- The walk from all its starts, one after the other: what is asked of the heap, and what is left.
-use Prim.Native.Nat.{ℕ, _+_, _*_, _≤_}
-use mathlib.Core.Path.{_≡_}
+-- The walk from a list of starts, one after the other: what is asked of the heap, and what is left.
+use Prim.Native.Nat.{ℕ, _*_, _≤_}
 use mathlib.Core.Bool.{cond}
 use mathlib.Core.List.{List, [], _∷_, _++_, List·Memᴰ}
-use lib.ListN.{length, take}
-use Rattle.records.specs.Record.{width}
 use Rattle.graph.specs.Numbers.{gather}
-use Rattle.graph.specs.Analysis.{begin}
-use Rattle.graph.proofs.Paths.{Heads}
-use Rattle.rules.specs.Buffers.{recOf}
+use Rattle.graph.specs.Analysis.{begin, finish}
+use Rattle.graph.specs.Invariant.{Heads}
 use Rattle.rules.specs.View.{view}
-use Rattle.links.specs.Links.{clOf}
-use Rattle.analyse.specs.Contracts.{Walked}
+use Rattle.table.specs.Room.{Sized}
+use Rattle.table.specs.Clusters.{clusterOf}
+use Rattle.analyse.specs.Contracts.{Walking, Walked}
 
--- What the analysis asks of the heap and the work words.
-pub record Formable (n r limit : ℕ) (recs slots roots work : List ℕ) : Type 0 where
-  pub most : n ≤ 4095
-  pub limits : (1 ≤ limit) × (limit ≤ 4095)
-  pub recs-long : n ≤ length recs
-  pub slots-long : 8 * n ≤ length slots
-  pub roots-long : r ≤ length roots
-  pub work-long : length work ≡ 10 * n + 64
-  pub widths : (x : ℕ) → width (recOf n recs x) ≤ 8
-  pub heads : Heads (clOf n recs)
-  pub roots-fit : (k : ℕ) → List·Memᴰ k (take r roots) → k ≤ n
-
--- the walk from the starts a is made to its end
-abbrev pub From : ℕ → List ℕ → List ℕ → ℕ → List ℕ → List ℕ → Type 0
-From n recs slots limit a work = Walked n recs slots limit (begin (view n recs slots) a) work
-
+-- every start is an object or 0
 abbrev pub Fit : ℕ → List ℕ → Type 0
-Fit n a = (k : ℕ) → List·Memᴰ k a → k ≤ n
+Fit n from = (k : ℕ) → List·Memᴰ k from → k ≤ n
+
+-- What the walk from these starts asks of the heap and the work words.
+pub record Formable (n limit : ℕ) (recs slots work from : List ℕ) : Type 0 where
+  pub sized : Sized n recs slots work
+  pub limits : (1 ≤ limit) × (limit ≤ 4095)
+  pub heads : Heads (clusterOf n recs)
+  pub fit : Fit n from
+
+-- The walk from these starts is made to its end.
+pub record From (n : ℕ) (recs slots : List ℕ) (limit : ℕ) (from work : List ℕ) : Type 0 where
+  pub fit : Fit n from
+  pub walked : Walked n recs slots limit (begin (view n recs slots) from) work
+
+-- The walk goes on from the starts b: where it was made from any a before, it is made from a and then b.
+pub record GoesOn (n : ℕ) (recs slots : List ℕ) (limit : ℕ) (b work work′ : List ℕ) : Type 0 where
+  pub walking : Walking n recs slots limit work′ (8 * n)
+  pub after : (a : List ℕ) → From n recs slots limit a work → From n recs slots limit (a ++ b) work′
+
+-- the clusters when the walk from these starts is over
+abbrev pub formedFrom : ℕ → List ℕ → List ℕ → ℕ → List ℕ → ℕ → ℕ
+formedFrom n recs slots limit from = finish (view n recs slots) limit (begin (view n recs slots) from) .cl
 
 -- the sinks among 1 to k
 abbrev pub sinksBelow : ℕ → List ℕ → List ℕ → ℕ → List ℕ

@@ -7,14 +7,14 @@ ghost use Rattle.graph.specs.Numbers.{sum, count};
 ghost use Rattle.graph.specs.Clusters.{leaves};
 ghost use Rattle.rules.specs.Buffers.{eachFrom, recOf};
 ghost use Rattle.records.specs.Record.{isSink};
-ghost use Rattle.rules.specs.View.{view, target};
+ghost use Rattle.rules.specs.View.{target};
 ghost use Rattle.choices.specs.Choices.{settled};
 ghost use Rattle.analyse.specs.Memory.{area};
-ghost use Rattle.analyse.specs.Contracts.{Sized};
+ghost use Rattle.table.specs.Room.{Sized};
 ghost use Rattle.analyse.specs.Filling.{Filling};
-ghost use Rattle.analyse.specs.Judge.{formed, outsAt, Tallying, Judging, staysIn, leftWord, lossAt, headAt, memberAt, Judgeable, Judged};
-use crate::memory::one_if;
+ghost use Rattle.analyse.specs.Judge.{walkClusters, outsAt, Tallying, staysIn, leftWord, lossAt, newHeadAt, newMemberAt, Judgeable, Judged};
 use crate::memory::put_word;
+use crate::memory::record_at;
 use crate::memory::word_of;
 use crate::walk::target_of;
 use choices::loss;
@@ -22,6 +22,7 @@ use choices::settled_record;
 use records::cluster_of;
 use records::is_sink;
 use records::width_of;
+use table::buffers::zero;
 
 // The out loss, and the clusters formed and left, with their members.
 pub(crate) struct Found {
@@ -33,13 +34,13 @@ pub(crate) struct Found {
 // Whether the word w is a pointer out of cluster c.
 fn leaves_cluster(n: u32, records: &[u32], work: &[u32], w: u32, c: u32) -> bool
     requires { ⌜ (n ≤ 4095) × (n ≤ length (now records)) × (10 * n ≤ length (now work)) ⌝ }
-    ensures { λ b. ⌜ b ≡ leaves (λ x. isSink (recOf n (now (records .entry)) x)) (formed n (now (work .entry))) c (target n w) ⌝ }
+    ensures { λ b. ⌜ b ≡ leaves (λ x. isSink (recOf n (now (records .entry)) x)) (walkClusters n (now (work .entry))) c (target n w) ⌝ }
 {
     let y = target_of(n, w);
     if y == 0 {
         return false;
     }
-    if is_sink(records[y as usize - 1]) {
+    if is_sink(record_at(n, records, y)) {
         return false;
     }
     word_of(n, work, 9 * n as usize, y) % 4096 != c
@@ -50,33 +51,20 @@ fn outs(n: u32, records: &[u32], slots: &[u32], work: &[u32], x: u32, c: u32) ->
     requires { ⌜ Sized n (now records) (now slots) (now work) × (1 ≤ x) × (x ≤ n) ⌝ }
     ensures { λ r. ⌜ (r ≡ outsAt n (now (records .entry)) (now (slots .entry)) (now (work .entry)) x c) × (r ≤ 8) ⌝ }
 {
-    let i = x as usize - 1;
-    let from = 8 * i;
-    let mut j = width_of(records[i]) as usize;
+    let from = 8 * (x as usize - 1);
+    let mut j = width_of(record_at(n, records, x)) as usize;
     let mut total: u32 = 0;
     while 0 < j {
         j -= 1;
-        total += one_if(leaves_cluster(n, records, work, slots[from + j], c));
+        total += leaves_cluster(n, records, work, slots[from + j], c) as u32;
     }
     total
 }
 
-// The count of out pointers of every cluster is 0.
-fn clear_counts(n: u32, work: &mut [u32])
-    requires { ⌜ n ≤ length (now work) ⌝ }
-    ensures { λ _. ⌜ Filling n 0 (λ x. 0) (now (work .entry)) (now (work .exit)) n ⌝ }
-{
-    let mut k: u32 = 0;
-    while k < n {
-        k += 1;
-        put_word(n, work, 0, k, 0);
-    }
-}
-
 // Counts the out pointers of object x in its cluster.
 fn tally_one(n: u32, records: &[u32], slots: &[u32], work: &mut [u32], x: u32)
-    requires { ⌜ Sized n (now records) (now slots) (now work) × (1 ≤ x) × (x ≤ n) × (formed n (now work) x ≤ n) × ((c : ℕ) → area n 0 (now work) c ≤ 8 * (x - 1)) ⌝ }
-    ensures { λ _. ⌜ ((k : ℕ) → x ≡ k + 1 → (work₀ : List ℕ) → Tallying n (now (records .entry)) (now (slots .entry)) work₀ (now (work .entry)) k → Tallying n (now (records .entry)) (now (slots .entry)) work₀ (now (work .exit)) (k + 1)) ⌝ }
+    requires { ⌜ Judgeable n (now records) (now slots) (now work) × (1 ≤ x) × (x ≤ n) × ((c : ℕ) → area n 0 (now work) c ≤ 8 * (x - 1)) ⌝ }
+    ensures { λ _. ⌜ ((work₀ : List ℕ) → Tallying n (now (records .entry)) (now (slots .entry)) work₀ (now (work .entry)) (x - 1) → Tallying n (now (records .entry)) (now (slots .entry)) work₀ (now (work .exit)) x) ⌝ }
 {
     let c = word_of(n, work, 9 * n as usize, x) % 4096;
     if c != 0 {
@@ -87,7 +75,7 @@ fn tally_one(n: u32, records: &[u32], slots: &[u32], work: &mut [u32], x: u32)
 }
 
 fn tally(n: u32, records: &[u32], slots: &[u32], work: &mut [u32])
-    requires { ⌜ Sized n (now records) (now slots) (now work) × ((x : ℕ) → formed n (now work) x ≤ n) × Tallying n (now records) (now slots) (now work) (now work) 0 ⌝ }
+    requires { ⌜ Judgeable n (now records) (now slots) (now work) × Tallying n (now records) (now slots) (now work) (now work) 0 ⌝ }
     ensures { λ _. ⌜ Tallying n (now (records .entry)) (now (slots .entry)) (now (work .entry)) (now (work .exit)) n ⌝ }
 {
     let mut k: u32 = 0;
@@ -99,10 +87,10 @@ fn tally(n: u32, records: &[u32], slots: &[u32], work: &mut [u32])
 
 // Whether cluster c stays.
 fn stays(n: u32, records: &[u32], slots: &[u32], work: &[u32], c: u32) -> bool
-    requires { ⌜ Judging n (now records) (now slots) (now work) × (1 ≤ c) × (c ≤ n) ⌝ }
+    requires { ⌜ Judgeable n (now records) (now slots) (now work) × (1 ≤ c) × (c ≤ n) ⌝ }
     ensures { λ b. ⌜ b ≡ staysIn n (now (records .entry)) (now (work .entry)) c ⌝ }
 {
-    if cluster_of(records[c as usize - 1]) != 0 {
+    if cluster_of(record_at(n, records, c)) != 0 {
         return true;
     }
     let s = word_of(n, work, 8 * n as usize, c) / 4096;
@@ -111,7 +99,7 @@ fn stays(n: u32, records: &[u32], slots: &[u32], work: &[u32], c: u32) -> bool
 
 // What object x is left with.
 fn left(n: u32, records: &[u32], slots: &[u32], work: &[u32], x: u32) -> u32
-    requires { ⌜ Judging n (now records) (now slots) (now work) × (1 ≤ x) × (x ≤ n) ⌝ }
+    requires { ⌜ Judgeable n (now records) (now slots) (now work) × (1 ≤ x) × (x ≤ n) ⌝ }
     ensures { λ w. ⌜ w ≡ leftWord n (now (records .entry)) (now (slots .entry)) (now (work .entry)) x ⌝ }
 {
     let c = word_of(n, work, 9 * n as usize, x) % 4096;
@@ -129,7 +117,7 @@ fn left(n: u32, records: &[u32], slots: &[u32], work: &[u32], x: u32) -> u32
 
 // Notes what each object is left with.
 fn decide(n: u32, records: &[u32], slots: &[u32], work: &mut [u32])
-    requires { ⌜ Judging n (now records) (now slots) (now work) ⌝ }
+    requires { ⌜ Judgeable n (now records) (now slots) (now work) ⌝ }
     ensures { λ _. ⌜ Filling n n (leftWord n (now (records .entry)) (now (slots .entry)) (now (work .entry))) (now (work .entry)) (now (work .exit)) n ⌝ }
 {
     let mut k: u32 = 0;
@@ -155,10 +143,10 @@ fn settle(n: u32, records: &mut [u32], work: &[u32])
 
 // The members of the cluster that h heads, if it is new and has too many out pointers.
 fn loss_of(n: u32, records: &[u32], slots: &[u32], work: &[u32], h: u32) -> u32
-    requires { ⌜ Judging n (now records) (now slots) (now work) × (1 ≤ h) × (h ≤ n) ⌝ }
+    requires { ⌜ Judgeable n (now records) (now slots) (now work) × (1 ≤ h) × (h ≤ n) ⌝ }
     ensures { λ r. ⌜ (r ≡ lossAt n (now (records .entry)) (now (work .entry)) h) × (r ≤ 4095) ⌝ }
 {
-    if cluster_of(records[h as usize - 1]) != 0 {
+    if cluster_of(record_at(n, records, h)) != 0 {
         return 0;
     }
     if word_of(n, work, 9 * n as usize, h) % 4096 != h {
@@ -171,9 +159,9 @@ fn loss_of(n: u32, records: &[u32], slots: &[u32], work: &[u32], h: u32) -> u32
 // Whether h heads a new cluster that is left.
 fn is_new_head(n: u32, records: &[u32], work: &[u32], h: u32) -> bool
     requires { ⌜ (n ≤ 4095) × (n ≤ length (now records)) × (2 * n ≤ length (now work)) × (1 ≤ h) × (h ≤ n) ⌝ }
-    ensures { λ b. ⌜ b ≡ headAt n (now (records .entry)) (now (work .entry)) h ⌝ }
+    ensures { λ b. ⌜ b ≡ newHeadAt n (now (records .entry)) (now (work .entry)) h ⌝ }
 {
-    if cluster_of(records[h as usize - 1]) != 0 {
+    if cluster_of(record_at(n, records, h)) != 0 {
         return false;
     }
     word_of(n, work, n as usize, h) % 4096 == h
@@ -182,9 +170,9 @@ fn is_new_head(n: u32, records: &[u32], work: &[u32], h: u32) -> bool
 // Whether x is in a new cluster that is left.
 fn is_new_member(n: u32, records: &[u32], work: &[u32], x: u32) -> bool
     requires { ⌜ (n ≤ 4095) × (n ≤ length (now records)) × (2 * n ≤ length (now work)) × (1 ≤ x) × (x ≤ n) ⌝ }
-    ensures { λ b. ⌜ b ≡ memberAt n (now (records .entry)) (now (work .entry)) x ⌝ }
+    ensures { λ b. ⌜ b ≡ newMemberAt n (now (records .entry)) (now (work .entry)) x ⌝ }
 {
-    if cluster_of(records[x as usize - 1]) != 0 {
+    if cluster_of(record_at(n, records, x)) != 0 {
         return false;
     }
     word_of(n, work, n as usize, x) % 4096 != 0
@@ -192,8 +180,8 @@ fn is_new_member(n: u32, records: &[u32], work: &[u32], x: u32) -> bool
 
 // The answers, counted over all objects.
 fn count_found(n: u32, records: &[u32], slots: &[u32], work: &[u32]) -> Found
-    requires { ⌜ Judging n (now records) (now slots) (now work) ⌝ }
-    ensures { λ f. ⌜ (f .loss ≡ sum n (lossAt n (now (records .entry)) (now (work .entry)))) × (f .clusters ≡ count n (headAt n (now (records .entry)) (now (work .entry)))) × (f .members ≡ count n (memberAt n (now (records .entry)) (now (work .entry)))) ⌝ }
+    requires { ⌜ Judgeable n (now records) (now slots) (now work) ⌝ }
+    ensures { λ f. ⌜ (f .loss ≡ sum n (lossAt n (now (records .entry)) (now (work .entry)))) × (f .clusters ≡ count n (newHeadAt n (now (records .entry)) (now (work .entry)))) × (f .members ≡ count n (newMemberAt n (now (records .entry)) (now (work .entry)))) ⌝ }
 {
     let mut loss: u32 = 0;
     let mut clusters: u32 = 0;
@@ -202,8 +190,8 @@ fn count_found(n: u32, records: &[u32], slots: &[u32], work: &[u32]) -> Found
     while k < n {
         k += 1;
         loss += loss_of(n, records, slots, work, k);
-        clusters += one_if(is_new_head(n, records, work, k));
-        members += one_if(is_new_member(n, records, work, k));
+        clusters += is_new_head(n, records, work, k) as u32;
+        members += is_new_member(n, records, work, k) as u32;
     }
     Found {
         loss,
@@ -215,9 +203,9 @@ fn count_found(n: u32, records: &[u32], slots: &[u32], work: &[u32]) -> Found
 // Dissolves the new clusters that do not stay, and settles every record.
 pub(crate) fn judge(n: u32, records: &mut [u32], slots: &[u32], work: &mut [u32]) -> Found
     requires { ⌜ Judgeable n (now records) (now slots) (now work) ⌝ }
-    ensures { λ f. ⌜ Judged n (now (records .entry)) (now (slots .entry)) (formed n (now (work .entry))) (now (records .exit)) (f .loss) (f .clusters) (f .members) ⌝ }
+    ensures { λ f. ⌜ Judged n (now (records .entry)) (now (slots .entry)) (walkClusters n (now (work .entry))) (now (records .exit)) (f .loss) (f .clusters) (f .members) ⌝ }
 {
-    clear_counts(n, work);
+    zero(work, n as usize);
     tally(n, records, slots, work);
     decide(n, records, slots, work);
     let found = count_found(n, records, slots, work);

@@ -6,13 +6,13 @@ mod memory;
 mod walk;
 
 ghost use mathlib.Core.Path.{_≡_};
-ghost use lib.ListN.{take};
+ghost use Prim.Native.Nat.{_≤_};
+ghost use lib.ListN.{length};
 ghost use Rattle.layout.specs.Refusal.{first};
-ghost use Rattle.graph.specs.Analysis.{walked};
-ghost use Rattle.rules.specs.View.{view};
+ghost use Rattle.rules.specs.View.{startsIn};
 ghost use Rattle.rules.specs.Analyse.{gives, analyseTests};
 ghost use Rattle.rules.specs.Analyse as Rules;
-ghost use Rattle.analyse.specs.Starts.{Formable};
+ghost use Rattle.analyse.specs.Starts.{Formable, formedFrom};
 ghost use Rattle.analyse.specs.Judge.{Judged};
 use crate::form::form;
 use crate::judge::Found;
@@ -21,39 +21,16 @@ use crate::limit::used_count;
 use choices::next_limit;
 use layout::answers::Analysed;
 use layout::answers::Control;
-use layout::limits::slots_len;
+use layout::control::with_analysis;
 use layout::limits::work_len;
-use layout::refusals::BAD_CONTROL;
-use layout::refusals::DAMAGED;
-use layout::refusals::TOO_SHORT;
-use layout::refusals::bad_control;
 use table::buffers::zero;
-use table::check::well_formed;
+use table::check::heap_refusal;
 
 // The number of the first test that holds, 0 where none does.
 fn analyse_refusal(c: Control, records: &[u32], slots: &[u32], roots: &[u32], work: &[u32]) -> u32
     ensures { λ k. ⌜ k ≡ first (analyseTests c (now (records .entry)) (now (slots .entry)) (now (roots .entry)) (now (work .entry))) ⌝ }
 {
-    if bad_control(c) {
-        return BAD_CONTROL;
-    }
-    if records.len() < c.n as usize {
-        return TOO_SHORT;
-    }
-    if slots.len() < slots_len(c.n) {
-        return TOO_SHORT;
-    }
-    if roots.len() < c.r as usize {
-        return TOO_SHORT;
-    }
-    if work.len() < work_len(c.n) {
-        return TOO_SHORT;
-    }
-    if well_formed(c.n, c.r, records, slots, roots) {
-        0
-    } else {
-        DAMAGED
-    }
+    heap_refusal(c, records, slots, roots, work.len() < work_len(c.n))
 }
 
 // The clusters are formed, and those that do not stay dissolved, with work words of just the length that this takes.
@@ -66,8 +43,8 @@ fn form_and_judge(
     roots: &[u32],
     work: &mut [u32],
 ) -> Found
-    requires { ⌜ Formable n r limit (now records) (now slots) (now roots) (now work) ⌝ }
-    ensures { λ f. ⌜ Judged n (now (records .entry)) (now (slots .entry)) (walked (view n (now (records .entry)) (now (slots .entry))) limit (take r (now (roots .entry)))) (now (records .exit)) (f .loss) (f .clusters) (f .members) ⌝ }
+    requires { ⌜ Formable n limit (now records) (now slots) (now work) (startsIn n r (now records) (now slots) (now roots)) × (r ≤ length (now roots)) ⌝ }
+    ensures { λ f. ⌜ Judged n (now (records .entry)) (now (slots .entry)) (formedFrom n (now (records .entry)) (now (slots .entry)) limit (startsIn n r (now (records .entry)) (now (slots .entry)) (now (roots .entry)))) (now (records .exit)) (f .loss) (f .clusters) (f .members) ⌝ }
 {
     form(n, r, limit, records, slots, roots, work);
     judge(n, records, slots, work)
@@ -100,13 +77,6 @@ pub fn analyse(
         refusal: 0,
         clusters: found.clusters,
         members: found.members,
-        control: Control {
-            n: c.n,
-            r: c.r,
-            last: c.last,
-            limit: limit,
-            write_loss: 0,
-            out_loss: found.loss,
-        },
+        control: with_analysis(c, limit, found.loss),
     }
 }

@@ -3,7 +3,7 @@ ghost use mathlib.Core.Path.{_≡_};
 ghost use Prim.Native.Nat.{_≤_};
 ghost use lib.ListN.{length};
 ghost use Rattle.rules.specs.Analyse.{usedCount};
-use crate::memory::one_if;
+use crate::memory::record_at;
 use records::in_use;
 
 // How many objects are in use.
@@ -14,8 +14,8 @@ pub(crate) fn used_count(n: u32, records: &[u32]) -> u32
     let mut total: u32 = 0;
     let mut k: u32 = 0;
     while k < n {
-        total += one_if(in_use(records[k as usize]));
         k += 1;
+        total += in_use(record_at(n, records, k)) as u32;
     }
     total
 }

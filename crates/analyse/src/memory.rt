@@ -1,9 +1,16 @@
-// One word for each object, from word `base` of the work words on; and small helpers.
+// One word for each object: its record, and one from word `base` of the work words on.
 ghost use mathlib.Core.Path.{_≡_};
 ghost use Prim.Native.Nat.{_+_, _-_, _≤_};
 ghost use lib.ListN.{length, set};
-ghost use Rattle.graph.specs.Numbers.{bit};
+ghost use Rattle.rules.specs.Buffers.{recOf};
 ghost use Rattle.analyse.specs.Memory.{area};
+
+pub(crate) fn record_at(n: u32, records: &[u32], x: u32) -> u32
+    requires { ⌜ (1 ≤ x) × (x ≤ n) × (n ≤ length (now records)) ⌝ }
+    ensures { λ r. ⌜ r ≡ recOf n (now (records .entry)) x ⌝ }
+{
+    records[x as usize - 1]
+}
 
 pub(crate) fn word_of(n: u32, work: &[u32], base: usize, x: u32) -> u32
     requires { ⌜ (1 ≤ x) × (x ≤ n) × (base + n ≤ length (now work)) ⌝ }
@@ -17,11 +24,4 @@ pub(crate) fn put_word(n: u32, work: &mut [u32], base: usize, x: u32, w: u32)
     ensures { λ _. ⌜ now (work .exit) ≡ set (now (work .entry)) (base + x - 1) w ⌝ }
 {
     work[base + x as usize - 1] = w;
-}
-
-// 1 for true.
-pub(crate) fn one_if(b: bool) -> u32
-    ensures { λ r. ⌜ (r ≡ bit b) × (r ≤ 1) ⌝ }
-{
-    if b { 1 } else { 0 }
 }

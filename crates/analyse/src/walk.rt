@@ -1,20 +1,20 @@
 // The walk of the analysis. A visit to make is one work word: the object, and above its 12 bits the cluster passed to it.
 ghost use mathlib.Core.Path.{_≡_};
-ghost use mathlib.Core.Bool.{cond};
-ghost use mathlib.Core.List.{List, [], _∷_, map};
+ghost use mathlib.Core.List.{[], _∷_};
 ghost use Prim.Native.Nat.{ℕ, _+_, _-_, _*_, _<_, _≤_};
-ghost use lib.ListN.{length, take, drop};
-ghost use Rattle.graph.specs.Analysis.{finish};
+ghost use lib.ListN.{length};
 ghost use Rattle.rules.specs.Buffers.{recOf};
 ghost use Rattle.rules.specs.View.{view, target};
 ghost use Rattle.graph.specs.Numbers.{upd};
 ghost use Rattle.analyse.specs.Memory.{area, memOf, visitWords, sizeIn, inFront, withState, withLink, counting, walkOf};
-ghost use Rattle.analyse.specs.Contracts.{Sized, outKids, outsBelow, Chained, handled, goesTo, placed, Visiting, Walking, Visited, Walked, visiting};
+ghost use Rattle.table.specs.Room.{Sized};
+ghost use Rattle.analyse.specs.Contracts.{outKids, outsBelow, Chained, handled, goesTo, placed, Visiting, Walking, Visited, Walked};
+ghost use Rattle.analyse.specs.Starts.{GoesOn};
 use crate::memory::put_word;
+use crate::memory::record_at;
 use crate::memory::word_of;
 use links::next_member;
 use links::top_member;
-use records::cluster_of;
 use records::is_out;
 use records::width_of;
 
@@ -27,7 +27,7 @@ pub(crate) fn target_of(n: u32, w: u32) -> u32
 
 // Puts a visit to object o, with the cluster c, in front of those from `top` on.
 fn push(n: u32, work: &mut [u32], top: usize, o: u32, c: u32) -> usize
-    requires { ⌜ (n ≤ 4095) × (length (now work) ≡ 10 * n + 64) × (0 < top) × (top ≤ 8 * n) × (o ≤ n) × (c ≤ n) ⌝ }
+    requires { ⌜ (n ≤ 4095) × (10 * n + 64 ≤ length (now work)) × (0 < top) × (top ≤ 8 * n) × (o ≤ n) × (c ≤ n) ⌝ }
     ensures { λ r. ⌜ (memOf n (now (work .exit)) r ≡ inFront ((o + 4096 * c) ∷ []) (memOf n (now (work .entry)) top)) × (r ≡ top - 1) ⌝ }
 {
     let at = top - 1;
@@ -35,20 +35,22 @@ fn push(n: u32, work: &mut [u32], top: usize, o: u32, c: u32) -> usize
     at
 }
 
-// Puts visits to what the k words of `slots` from `from` point at, each with the cluster c, in front of the others.
-fn push_words(
+// Puts visits to what object x points at, each with the cluster c, in front of the others.
+fn push_kids(
     n: u32,
+    records: &[u32],
     slots: &[u32],
     work: &mut [u32],
-    from: usize,
-    k: u32,
+    x: u32,
     c: u32,
     top: usize,
 ) -> usize
-    requires { ⌜ (n ≤ 4095) × (length (now work) ≡ 10 * n + 64) × (c ≤ n) × (k ≤ top) × (top ≤ 8 * n) × (from + k ≤ length (now slots)) ⌝ }
-    ensures { λ r. ⌜ (memOf n (now (work .exit)) r ≡ inFront (visitWords c (map (target n) (take k (drop from (now (slots .entry)))))) (memOf n (now (work .entry)) top)) × (r + k ≡ top) ⌝ }
+    requires { ⌜ Sized n (now records) (now slots) (now work) ⌝ }
+    requires { ⌜ (1 ≤ x) × (x ≤ n) × (c ≤ n) × (top ≤ 8 * n) × (length (view n (now records) (now slots) .kids x) ≤ top) ⌝ }
+    ensures { λ r. ⌜ (memOf n (now (work .exit)) r ≡ inFront (visitWords c (view n (now (records .entry)) (now (slots .entry)) .kids x)) (memOf n (now (work .entry)) top)) × (r + length (view n (now (records .entry)) (now (slots .entry)) .kids x) ≡ top) ⌝ }
 {
-    let w = k as usize;
+    let from = 8 * (x as usize - 1);
+    let w = width_of(record_at(n, records, x)) as usize;
     let mut j: usize = 0;
     let mut at = top;
     // What is put in front last is visited first: the words are taken from the last down.
@@ -73,11 +75,9 @@ fn member(
     requires { ⌜ (1 ≤ x) × (x ≤ n) × (d ≤ n) × (top ≤ 8 * n) × (length (outKids (view n (now records) (now slots)) x) ≤ top) ⌝ }
     ensures { λ r. ⌜ (memOf n (now (work .exit)) r ≡ inFront (visitWords 0 (outKids (view n (now (records .entry)) (now (slots .entry))) x)) (withState (upd (area n (9 * n) (now (work .entry))) x (d + 4096)) (memOf n (now (work .entry)) top))) × (r + length (outKids (view n (now (records .entry)) (now (slots .entry))) x) ≡ top) ⌝ }
 {
-    let i = x as usize - 1;
-    let r = records[i];
     put_word(n, work, 9 * n as usize, x, d + 4096);
-    if is_out(r) {
-        return push_words(n, slots, work, 8 * i, width_of(r), 0, top);
+    if is_out(record_at(n, records, x)) {
+        return push_kids(n, records, slots, work, x, 0, top);
     }
     top
 }
@@ -119,7 +119,7 @@ fn choose(n: u32, limit: u32, work: &[u32], r: u32, o: u32, c: u32) -> u32
 
 // Counts one more member of cluster e.
 fn count(n: u32, work: &mut [u32], e: u32)
-    requires { ⌜ (n ≤ 4095) × (length (now work) ≡ 10 * n + 64) × (e ≤ n) × (sizeIn (area n (8 * n) (now work)) e ≤ 4095) ⌝ }
+    requires { ⌜ (n ≤ 4095) × (10 * n + 64 ≤ length (now work)) × (e ≤ n) × (sizeIn (area n (8 * n) (now work)) e ≤ 4095) ⌝ }
     ensures { λ _. ⌜ ((top : ℕ) → memOf n (now (work .exit)) top ≡ withLink (counting e (area n (8 * n) (now (work .entry)))) (memOf n (now (work .entry)) top)) ⌝ }
 {
     if e != 0 {
@@ -144,12 +144,10 @@ fn place(
     requires { ⌜ ((x : ℕ) → sizeIn (area n (8 * n) (now work)) x ≤ 4095) ⌝ }
     ensures { λ r. ⌜ (memOf n (now (work .exit)) r ≡ placed (view n (now (records .entry)) (now (slots .entry))) (goesTo limit (recOf n (now (records .entry)) o) (area n (8 * n) (now (work .entry))) o c) o (memOf n (now (work .entry)) top)) × (r ≤ 8 * n) ⌝ }
 {
-    let i = o as usize - 1;
-    let r = records[i];
-    let e = choose(n, limit, work, r, o, c);
+    let e = choose(n, limit, work, record_at(n, records, o), o, c);
     count(n, work, e);
     put_word(n, work, 9 * n as usize, o, e + 4096);
-    push_words(n, slots, work, 8 * i, width_of(r), e, top)
+    push_kids(n, records, slots, work, o, e, top)
 }
 
 // Visits object o, to which the cluster c is passed.
@@ -194,7 +192,7 @@ fn walk(n: u32, limit: u32, records: &[u32], slots: &[u32], work: &mut [u32], st
 // The walk from one start, object o, to its end.
 pub(crate) fn start(n: u32, limit: u32, records: &[u32], slots: &[u32], work: &mut [u32], o: u32)
     requires { ⌜ Walking n (now records) (now slots) limit (now work) (8 * n) × (o ≤ n) ⌝ }
-    ensures { λ _. ⌜ Walked n (now (records .entry)) (now (slots .entry)) limit (visiting o 0 (memOf n (now (work .entry)) (8 * n))) (now (work .exit)) ⌝ }
+    ensures { λ _. ⌜ GoesOn n (now (records .entry)) (now (slots .entry)) limit (o ∷ []) (now (work .entry)) (now (work .exit)) ⌝ }
 {
     let top = visit(n, limit, records, slots, work, o, 0, 8 * n as usize);
     walk(n, limit, records, slots, work, top);

@@ -19,8 +19,12 @@ use Rattle.layout.specs.Field.{field, flag}
 use Rattle.bitmap.specs.Bits.{holds, consIf, setBits, numbersIn, bitsOf, wordOf}
 use Rattle.layout.proofs.FieldLaws.{zero-flag}
 
-half-lt : {w : ℕ} (k : ℕ) → w < 2 ^ suc k → w / 2 < 2 ^ k
+pub half-lt : {w : ℕ} (k : ℕ) → w < 2 ^ suc k → w / 2 < 2 ^ k
 half-lt {w} k h = shr-lt k 1 (subst (λ (x : ℕ). w < 2 ^ x) (sym (add-one k)) h)
+
+-- the bits above the lowest, shifted down
+pub half-power : (w j : ℕ) → w / 2 ^ suc j ≡ w / 2 / 2 ^ j
+half-power w j = ap (λ (k : ℕ). w / 2 ^ k) (omega arith) ∙ sym (shr-shr w 1 j)
 
 -- ---- the walk over a word's set bits: the lowest, and then those of the rest
 
@@ -93,21 +97,6 @@ setBits-count (suc k) w b h = digits (w % 2) refl (setBits-count k (w / 2) (suc 
     digits (suc zero) e ih = rw e (omega arith)
     digits (suc (suc d)) e ih = absurd (omega (arith, mod-lt w (pow-pos 1)))
 
-pub setBits-le : (k w b : ℕ) → length (setBits k w b) ≤ k
-unfolding setBits
-setBits-le zero w b = omega arith
-setBits-le (suc k) w b = digits (w % 2) (setBits-le k (w / 2) (suc b))
-  where
-    digits : (d : ℕ) → length (setBits k (w / 2) (suc b)) ≤ k → length (consIf d b (setBits k (w / 2) (suc b))) ≤ suc k
-    digits zero h = omega arith
-    digits (suc d) h = omega arith
-
-pub numbersIn-le : (b : ℕ) (ws : List ℕ) → length (numbersIn b ws) ≤ 64 * length ws
-unfolding numbersIn
-numbersIn-le b [] = omega arith
-numbersIn-le b (w ∷ ws) =
-    omega (arith, length-append (setBits 64 w b) (numbersIn (b + 64) ws), setBits-le 64 w b, numbersIn-le (b + 64) ws)
-
 snoc : (b : ℕ) (ws : List ℕ) (w : ℕ) → w < 2 ^ 64 → length (numbersIn b (ws ++ (w ∷ []))) ≡ length (numbersIn b ws) + ones w
 unfolding numbersIn
 snoc b [] w h = length-append (setBits 64 w b) [] ∙ omega (arith, setBits-count 64 w b h)
@@ -144,10 +133,6 @@ module _ (t : ℕ → Bool) where
       go true h = omega (arith, pow-succ' 2 k)
       go false h = omega (arith, pow-succ' 2 k)
 
-  pub wordOf-lt : (j : ℕ) → wordOf t j < 2 ^ 64
-  unfolding wordOf
-  wordOf-lt j = bitsOf-lt 64 (64 * j)
-
   bits-low : (b k : ℕ) → bitsOf t b (suc k) % 2 ≡ cond (t b) 1 0
   unfolding bitsOf
   bits-low b k = go (t b)
@@ -173,10 +158,8 @@ module _ (t : ℕ → Bool) where
       let at : b + 0 ≡ b = omega arith in
       rw (one, bits-low b k, at) (digit-test (t b))
   bitsOf-flag (suc j) (suc k) b h =
-      let shift : bitsOf t b (suc k) / 2 ^ suc j ≡ bitsOf t b (suc k) / 2 / 2 ^ j =
-      ap (λ (i : ℕ). bitsOf t b (suc k) / 2 ^ i) (omega arith) ∙ sym (shr-shr (bitsOf t b (suc k)) 1 j) in
       let at : b + suc j ≡ suc b + j = omega arith in
-      rw (shift, bits-rest b k, at) (bitsOf-flag j k (suc b) (omega arith))
+      rw (half-power (bitsOf t b (suc k)) j, bits-rest b k, at) (bitsOf-flag j k (suc b) (omega arith))
 
   -- a set whose word i / 64 was made from the test
   pub wordOf-holds : (i : ℕ) (ws : List ℕ) → getD ws (i / 64) 0 ≡ wordOf t (i / 64) → holds i ws ≡ t i
@@ -213,12 +196,6 @@ module _ (t : ℕ → Bool) where
       go : (d : Bool) → consIf (cond d 1 0) b (passers (suc b) k) ≡ cond d (b ∷ passers (suc b) k) (passers (suc b) k)
       go true = refl
       go false = refl
-
-  -- and its ones are as many
-  pub wordOf-ones : (j : ℕ) → ones (wordOf t j) ≡ length (passers (64 * j) 64)
-  unfolding wordOf
-  wordOf-ones j =
-      sym (setBits-count 64 (bitsOf t (64 * j) 64) (64 * j) (bitsOf-lt 64 (64 * j))) ∙ ap length (setBits-bitsOf 64 (64 * j))
 
   -- a map whose words, from word j on, were made from the test
   pub numbersIn-words : (ws : List ℕ) (j : ℕ) → ((i : ℕ) → i < length ws → getD ws i 0 ≡ wordOf t (j + i))

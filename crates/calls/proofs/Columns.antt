@@ -18,8 +18,9 @@ use Rattle.rules.specs.Calls as call
 use Rattle.rules.specs.Calls.{Call, Answer, gave, gotWord, gotWords, did, swept}
 use Rattle.rules.specs.Plain.{Plain, isFree, isSink, cellAt, wordsIn, plainSlots, plainCreated, plainStep, answer}
 use Rattle.rules.specs.Steps.{State, created, step}
+use Rattle.rules.specs.PlainOf.{plainOf}
 use Rattle.rules.proofs.Invariant.{Inv}
-use Rattle.rules.proofs.Abstraction.{plainOf, at-free, at-sink, at-words}
+use Rattle.rules.proofs.Abstraction.{at-free, at-sink, at-words}
 use Rattle.rules.proofs.Simulation.{all-by, used-length, widths}
 use Rattle.rules.proofs.BufferLaws.{used-part}
 use Rattle.rules.proofs.CreateLaws.{accepted, zeroed-inv, zeroed-plain}

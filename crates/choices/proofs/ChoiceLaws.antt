@@ -1,6 +1,6 @@
 -- Each choice, each way that the code takes.
 -- Assumes nothing.
-use Prim.Native.Nat.{ℕ, _+_, _*_, _/_, _%_, _≤_, _<_, min, max}
+use Prim.Native.Nat.{ℕ, _+_, _*_, _%_, _≤_, _<_}
 use mathlib.Core.Path.{_≡_, refl, sym, ap, _∙_}
 use mathlib.Core.Bool.{Bool, true, false, not, cond}
 use mathlib.Core.Logic.{_≢_}
@@ -11,51 +11,52 @@ use borrow.Author.Tests.{ne-eqb, le-ltb, lt-ltb, le-leb, lt-leb}
 use Rattle.layout.specs.declared.answers.Control.{Control}
 use Rattle.layout.proofs.FieldLaws.{flag-stays, flag-put-other}
 use Rattle.records.specs.Record.{isWritten, isSink, withCluster, withOut, withWritten}
-use Rattle.rules.specs.View.{laidRecord}
-use Rattle.rules.specs.Analyse.{nextLimit}
-use Rattle.choices.specs.Choices.{heldTo, given, goesBy, overBy, lasts, lossBy, settled}
+use Rattle.rules.specs.View.{encodedRecord}
+use Rattle.rules.specs.Analyse.{sixteenth, half, clamped, nextLimit}
+use Rattle.rules.proofs.BoolLaws.{cond-not}
+use Rattle.choices.specs.Choices.{joined, goesBy, overBy, lasts, lossBy, settled}
 
 -- ---- the next limit
 
 module _ (c : Control) (used m : ℕ) where
-  pub limit-first : c .limit ≡ 0 → m ≡ heldTo (used / 16) → m ≡ nextLimit c used
-  unfolding nextLimit heldTo
+  pub limit-first : c .limit ≡ 0 → m ≡ clamped (sixteenth used) → m ≡ nextLimit c used
+  unfolding nextLimit
   limit-first z e = e ∙ rw z refl
 
-  pub limit-halved : c .limit ≢ 0 → c .«out_loss» < c .«write_loss» → m ≡ heldTo (c .limit / 2) → m ≡ nextLimit c used
-  unfolding nextLimit heldTo
+  pub limit-halved : c .limit ≢ 0 → c .«out_loss» < c .«write_loss» → m ≡ clamped (half (c .limit)) → m ≡ nextLimit c used
+  unfolding nextLimit
   limit-halved p h e = e ∙ rw (ne-eqb (c .limit) 0 p, lt-ltb (c .«out_loss») (c .«write_loss») h) refl
 
-  pub limit-doubled : c .limit ≢ 0 → c .«write_loss» ≤ c .«out_loss» → m ≡ heldTo (2 * c .limit) → m ≡ nextLimit c used
-  unfolding nextLimit heldTo
+  pub limit-doubled : c .limit ≢ 0 → c .«write_loss» ≤ c .«out_loss» → m ≡ clamped (2 * c .limit) → m ≡ nextLimit c used
+  unfolding nextLimit
   limit-doubled p h e = e ∙ rw (ne-eqb (c .limit) 0 p, le-ltb (c .«out_loss») (c .«write_loss») h) refl
 
-pub held-most : (x : ℕ) → 2047 < x → 4095 ≡ heldTo (2 * x)
-unfolding heldTo
-held-most x h = omega arith
+pub clamp-most : (x : ℕ) → 2047 < x → 4095 ≡ clamped (2 * x)
+unfolding clamped
+clamp-most x h = omega arith
 
 -- ---- the cluster that an object gets
 
 module _ (limit r size o c : ℕ) where
   pub goes-written : (b : Bool) → b ≡ isWritten r → b ≡ true → 0 ≡ goesBy limit r size o c
-  unfolding given goesBy
+  unfolding joined goesBy
   goes-written b e f = rw (← e, f) refl
 
   pub goes-sink : (a b : Bool) → a ≡ isWritten r → a ≡ false → b ≡ isSink r → b ≡ true → 0 ≡ goesBy limit r size o c
-  unfolding given goesBy
+  unfolding joined goesBy
   goes-sink a b e f g h = rw (← e, f, ← g, h) refl
 
   module _ (a b : Bool) (e : a ≡ isWritten r) (f : a ≡ false) (g : b ≡ isSink r) (h : b ≡ false) where
     pub goes-own : c ≡ 0 → o ≡ goesBy limit r size o c
-    unfolding given goesBy
+    unfolding joined goesBy
     goes-own z = rw (← e, f, ← g, h, z) refl
 
     pub goes-passed : c ≢ 0 → size < limit → c ≡ goesBy limit r size o c
-    unfolding given goesBy
+    unfolding joined goesBy
     goes-passed p l = rw (← e, f, ← g, h, ne-eqb c 0 p, le-leb (size + 1) limit (omega arith)) refl
 
     pub goes-new : c ≢ 0 → limit ≤ size → o ≡ goesBy limit r size o c
-    unfolding given goesBy
+    unfolding joined goesBy
     goes-new p l = rw (← e, f, ← g, h, ne-eqb c 0 p, lt-leb (size + 1) limit (omega arith)) refl
 
 -- ---- a new cluster of s members with p out pointers
@@ -75,11 +76,7 @@ module _ (s p : ℕ) (b : Bool) (o : b ≡ overBy s p) where
 
   loss-is : lossBy s p ≡ cond (not b) 0 s
   unfolding lossBy
-  loss-is = rw (← o) (go b)
-    where
-      go : (x : Bool) → cond x s 0 ≡ cond (not x) 0 s
-      go true = refl
-      go false = refl
+  loss-is = rw (← o) (sym (cond-not b 0 s))
 
   pub loss-none : not b ≡ true → 0 ≡ lossBy s p
   loss-none t = sym (loss-is ∙ rw t refl)
@@ -90,7 +87,7 @@ module _ (s p : ℕ) (b : Bool) (o : b ≡ overBy s p) where
 -- ---- the record of an object when the analysis is over
 
 pub settled-is : (w r : ℕ) → withCluster (w % 4096) (withOut (leb 4096 w) (withWritten false r)) ≡ settled w r
-unfolding settled laidRecord
+unfolding settled encodedRecord
 settled-is w r =
     ap (λ (v : ℕ). withCluster (w % 4096) (withOut (leb 4096 w) v))
     (sym (flag-stays 2 (isSink r) (withWritten false r) (flag-put-other 1 false r 2 (λ e. absurd (ne-two e)))))

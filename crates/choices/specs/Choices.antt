@@ -1,25 +1,20 @@
 -- The choices of an analysis, as functions of numbers: the cluster an object gets, whether a new cluster stays, and the record that is left.
-use Prim.Native.Nat.{ℕ, _+_, _*_, _%_, min, max}
+use Prim.Native.Nat.{ℕ, _+_, _*_, _%_}
 use mathlib.Core.Bool.{Bool, true, false, not, cond, _&&_, _||_}
 use lib.Dec.{eqb, ltb, leb}
-use Rattle.layout.specs.Limits.{limitMin, limitMax}
 use Rattle.records.specs.Record.{isWritten, isSink}
-use Rattle.rules.specs.View.{laidRecord}
+use Rattle.rules.specs.View.{encodedRecord}
 use Rattle.rules.specs.Analyse.{least, outPerTen}
 
--- x, held to the range of size limits
-unfoldable pub heldTo : ℕ → ℕ
-heldTo x = max limitMin (min limitMax x)
-
 -- the cluster that an object in none gets: none where it is barred, the one passed on where that has room, else its own
-unfoldable pub given : Bool → Bool → ℕ → ℕ → ℕ
-given true room o c = 0
-given false true o c = c
-given false false o c = o
+unfoldable pub joined : Bool → Bool → ℕ → ℕ → ℕ
+joined true room o c = 0
+joined false true o c = c
+joined false false o c = o
 
 -- the cluster that object o, in none and with the record r, gets when c, of this size, is passed to it
 unfoldable pub goesBy : ℕ → ℕ → ℕ → ℕ → ℕ → ℕ
-goesBy limit r size o c = given (isWritten r || isSink r) (not (eqb c 0) && leb (size + 1) limit) o c
+goesBy limit r size o c = joined (isWritten r || isSink r) (not (eqb c 0) && leb (size + 1) limit) o c
 
 -- s members have p out pointers: too many
 unfoldable pub overBy : ℕ → ℕ → Bool
@@ -35,4 +30,4 @@ lossBy s p = cond (overBy s p) s 0
 
 -- record r of an object that is left with w: the cluster, and 4096 where it is an out member
 unfoldable pub settled : ℕ → ℕ → ℕ
-settled w r = laidRecord (w % 4096) (leb 4096 w) (isSink r) false r
+settled w r = encodedRecord (w % 4096) (leb 4096 w) (isSink r) false r

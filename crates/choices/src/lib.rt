@@ -1,8 +1,8 @@
 // The choices of an analysis ("Analysis"), each from a record or a few numbers: the next size limit, the cluster that an object gets, whether a
 // new cluster stays, and the record that is left. Small total functions.
 ghost use mathlib.Core.Path.{_≡_};
-ghost use Rattle.rules.specs.Analyse.{nextLimit};
-ghost use Rattle.choices.specs.Choices.{heldTo, goesBy, overBy, lasts, lossBy, settled};
+ghost use Rattle.rules.specs.Analyse.{sixteenth, half, clamped, nextLimit};
+ghost use Rattle.choices.specs.Choices.{goesBy, overBy, lasts, lossBy, settled};
 use layout::answers::Control;
 use layout::limits::LIMIT_MAX;
 use layout::limits::LIMIT_MIN;
@@ -20,9 +20,23 @@ const OUT_PER_TEN: u64 = 25;
 
 // ---- the size limit
 
-// x, held to the range of limits.
-pub fn held(x: u32) -> u32
-    ensures { λ m. ⌜ m ≡ heldTo x ⌝ }
+// A sixteenth of x, rounded down.
+fn sixteenth(x: u32) -> u32
+    ensures { λ m. ⌜ m ≡ sixteenth x ⌝ }
+{
+    x / 16
+}
+
+// Half of x, rounded down.
+fn half(x: u32) -> u32
+    ensures { λ m. ⌜ m ≡ half x ⌝ }
+{
+    x / 2
+}
+
+// x, clamped to the range of limits.
+pub fn clamp(x: u32) -> u32
+    ensures { λ m. ⌜ m ≡ clamped x ⌝ }
 {
     if x < LIMIT_MIN {
         return LIMIT_MIN;
@@ -38,16 +52,16 @@ pub fn next_limit(c: Control, used: u32) -> u32
     ensures { λ m. ⌜ m ≡ nextLimit c used ⌝ }
 {
     if c.limit == 0 {
-        return held(used / 16);
+        return clamp(sixteenth(used));
     }
     if c.out_loss < c.write_loss {
-        return held(c.limit / 2);
+        return clamp(half(c.limit));
     }
     // Cut off before it is doubled, so that the double of any word fits.
     if LIMIT_MAX / 2 < c.limit {
         return LIMIT_MAX;
     }
-    held(2 * c.limit)
+    clamp(2 * c.limit)
 }
 
 // ---- the cluster of an object

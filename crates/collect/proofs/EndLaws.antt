@@ -6,7 +6,6 @@ use mathlib.Core.Logic.{_≢_, _⊎_, inl, inr}
 use mathlib.Core.Bool.{Bool, true, false, cond, true≢false}
 use mathlib.Core.List.{List, [], _∷_, _++_, append-assoc, append-nil, List·Memᴰ, List·Memᴰ·head, List·Memᴰ·tail, List·Memᴰ·append-cases, List·Memᴰ·not-nil}
 use native.Mathlib.Omega.{arith}
-use lib.Dec.{eqb}
 use lib.ListN.{length, getD, take, drop}
 use lib.Seq.{drop-cons, take-suc}
 use Rattle.graph.specs.Numbers.{Obj, gather}
@@ -14,17 +13,17 @@ use Rattle.graph.specs.Heap.{Heap, pointers}
 use Rattle.graph.specs.Trace.{postponed, Walk, visit, step, stepBy, needed, finish}
 use Rattle.graph.specs.Trace as T
 use Rattle.graph.proofs.LowestLaws.{lowest-passes, lowest-none}
-use Rattle.graph.proofs.TraceSafe.{Ranged, words-ranged, Safe}
+use Rattle.graph.proofs.TraceSafe.{Safe}
 use Rattle.graph.proofs.TraceEnds.{Ended, Falls, visit-falls, step-falls, finish-step, finish-ended}
-use Rattle.rules.specs.Buffers.{usedWords}
 use Rattle.rules.specs.View.{view}
-use Rattle.sweep.specs.Sweep.{bare}
+use Rattle.rules.proofs.ViewLaws.{view-ranged}
+use Rattle.sweep.specs.Sweep.{unflagged}
 use Rattle.postponed.specs.Postponed as P
 use Rattle.postponed.proofs.PostponedLaws.{lowest-is}
 use Rattle.collect.specs.Marks.{flagsOf}
-use Rattle.collect.specs.State.{seen, heapFor, walkAt, ends, steps, pending, Objects, State, Ready, Moved, Followed, Drained, Retaken, Finished, lowestLater}
+use Rattle.collect.specs.State.{walkedHeap, heapFor, walkAt, endFrom, stepsFrom, pending, Objects, State, Ready, Moved, Followed, Drained, Retaken, Finished, lowestPostponed}
 use Rattle.collect.proofs.MarkLaws.{view-same, flag-object}
-use Rattle.collect.proofs.PendingLaws.{targets-le}
+use Rattle.collect.proofs.PendingLaws.{pointers-append}
 use Rattle.collect.proofs.VisitLaws.{ready-moved}
 
 -- ---- objects of a list
@@ -45,20 +44,16 @@ objects-cons n o b f g x (List·Memᴰ·tail m) = g x m
 
 -- ---- the heap
 
-pub ranged : (by : Bool) (n : ℕ) (recs slots : List ℕ) → Ranged (seen by n recs slots)
-unfolding view
-ranged by n recs slots = words-ranged (seen by n recs slots) (λ x y m. targets-le n (usedWords n recs slots x) y m)
-
-module _ (by : Bool) (n : ℕ) (slots recs recs′ : List ℕ) (long : n ≤ length recs) (kept : bare n recs′ ≡ bare n recs) where
-  seen-same : seen by n recs′ slots ≡ seen by n recs slots
-  seen-same = ap (heapFor by) (view-same n recs recs′ long kept slots)
+module _ (by : Bool) (n : ℕ) (slots recs recs′ : List ℕ) (long : n ≤ length recs) (kept : unflagged n recs′ ≡ unflagged n recs) where
+  heap-same : walkedHeap by n recs′ slots ≡ walkedHeap by n recs slots
+  heap-same = ap (heapFor by) (view-same n recs recs′ long kept slots)
 
   -- the same list, over records of the same heap
-  ends-same : (todo : List ℕ) → ends by n slots recs′ todo ≡ finish (seen by n recs slots) (walkAt n recs′ todo)
-  ends-same todo = ap (λ (H : Heap). finish H (walkAt n recs′ todo)) seen-same
+  end-same : (todo : List ℕ) → endFrom by n slots recs′ todo ≡ finish (walkedHeap by n recs slots) (walkAt n recs′ todo)
+  end-same todo = ap (λ (H : Heap). finish H (walkAt n recs′ todo)) heap-same
 
-  steps-same : (todo : List ℕ) → steps by n slots recs′ todo ≡ needed (seen by n recs slots) (walkAt n recs′ todo)
-  steps-same todo = ap (λ (H : Heap). needed H (walkAt n recs′ todo)) seen-same
+  steps-same : (todo : List ℕ) → stepsFrom by n slots recs′ todo ≡ needed (walkedHeap by n recs slots) (walkAt n recs′ todo)
+  steps-same todo = ap (λ (H : Heap). needed H (walkAt n recs′ todo)) heap-same
 
 -- ---- a visit
 
@@ -71,33 +66,33 @@ module _
     (io : Obj n o)
     (recs′ work′ : List ℕ)
     (top′ : ℕ)
-    (v : Moved n slots recs work top (visit (seen by n recs slots) o) recs′ work′ top′)
+    (v : Moved n slots recs work top (visit (walkedHeap by n recs slots) o) recs′ work′ top′)
     (more : List ℕ)
     (objects : Objects n more)
   where
     abbrev behind : List ℕ
     behind = pending n work top ++ more
 
-    safe : Safe (seen by n recs slots) (walkAt n recs (o ∷ behind))
+    safe : Safe (walkedHeap by n recs slots) (walkAt n recs (o ∷ behind))
     unfolding view
     safe = record { todo-in = objects-cons n o behind io (objects-append n (pending n work top) more (s .inside) objects) }
 
-    ends-visit : ends by n slots recs′ (pending n work′ top′ ++ more) ≡ ends by n slots recs (o ∷ (pending n work top ++ more))
+    end-visit : endFrom by n slots recs′ (pending n work′ top′ ++ more) ≡ endFrom by n slots recs (o ∷ (pending n work top ++ more))
     unfolding step stepBy
-    ends-visit =
-        ends-same by n slots recs recs′ (s .sized .recs-long) (v .kept) (pending n work′ top′ ++ more)
-        ∙ ap (finish (seen by n recs slots)) (sym (v .same more))
-        ∙ finish-step (seen by n recs slots) (ranged by n recs slots) (walkAt n recs (o ∷ (pending n work top ++ more))) safe
+    end-visit =
+        end-same by n slots recs recs′ (s .sized .room .recs-long) (v .kept) (pending n work′ top′ ++ more)
+        ∙ ap (finish (walkedHeap by n recs slots)) (sym (v .same more))
+        ∙ finish-step (walkedHeap by n recs slots) (view-ranged n recs slots) (walkAt n recs (o ∷ (pending n work top ++ more))) safe
 
-    steps-visit : steps by n slots recs′ (pending n work′ top′ ++ more) < steps by n slots recs (o ∷ (pending n work top ++ more))
+    steps-visit : stepsFrom by n slots recs′ (pending n work′ top′ ++ more) < stepsFrom by n slots recs (o ∷ (pending n work top ++ more))
     unfolding view
     steps-visit =
-        let f = visit-falls (seen by n recs slots) (walkAt n recs (o ∷ behind)) o behind refl io in
+        let f = visit-falls (walkedHeap by n recs slots) (walkAt n recs (o ∷ behind)) o behind refl io in
         omega (
           arith,
           f .0,
-          steps-same by n slots recs recs′ (s .sized .recs-long) (v .kept) (pending n work′ top′ ++ more),
-          ap (needed (seen by n recs slots)) (v .same more),
+          steps-same by n slots recs recs′ (s .sized .room .recs-long) (v .kept) (pending n work′ top′ ++ more),
+          ap (needed (walkedHeap by n recs slots)) (v .same more),
         )
 
 -- ---- the loop that visits what is pending
@@ -132,10 +127,10 @@ module _ (by : Bool) (n : ℕ) (recs slots work : List ℕ) (top : ℕ) (r : Rea
       }
 
 pub record Draining (by : Bool) (n : ℕ) (slots recs₀ work₀ : List ℕ) (top₀ : ℕ) (recs work : List ℕ) (top : ℕ) : Type 0 where
-  pub same : (more : List ℕ) → Objects n more → ends by n slots recs (pending n work top ++ more) ≡ ends by n slots recs₀ (pending n work₀ top₀ ++ more)
+  pub same : (more : List ℕ) → Objects n more → endFrom by n slots recs (pending n work top ++ more) ≡ endFrom by n slots recs₀ (pending n work₀ top₀ ++ more)
   pub ready : Ready by n recs slots work top
-  pub kept : bare n recs ≡ bare n recs₀
-  pub fewer : steps by n slots recs (pending n work top) ≤ steps by n slots recs₀ (pending n work₀ top₀)
+  pub kept : unflagged n recs ≡ unflagged n recs₀
+  pub fewer : stepsFrom by n slots recs (pending n work top) ≤ stepsFrom by n slots recs₀ (pending n work₀ top₀)
   pub recs-length : length recs ≡ length recs₀
   pub work-length : length work ≡ length work₀
 
@@ -151,7 +146,7 @@ module _ (by : Bool) (n : ℕ) (slots recs₀ work₀ : List ℕ) (top₀ : ℕ)
       (some : top < 8 * n)
       (recs′ work′ : List ℕ)
       (top′ : ℕ)
-      (v : Moved n slots recs work (top + 1) (visit (seen by n recs slots) (getD work top 0)) recs′ work′ top′)
+      (v : Moved n slots recs work (top + 1) (visit (walkedHeap by n recs slots) (getD work top 0)) recs′ work′ top′)
     where
       abbrev o : ℕ
       o = getD work top 0
@@ -165,24 +160,24 @@ module _ (by : Bool) (n : ℕ) (slots recs₀ work₀ : List ℕ) (top₀ : ℕ)
       object : Obj n o
       object = next-object by n recs slots work top (g .ready) some
 
-      pub draining-less : steps by n slots recs′ (pending n work′ top′) < steps by n slots recs (pending n work top)
+      pub draining-less : stepsFrom by n slots recs′ (pending n work′ top′) < stepsFrom by n slots recs (pending n work top)
       draining-less =
           let f = steps-visit by n slots recs work (top + 1) o (popped .state) object recs′ work′ top′ v [] (objects-none n) in
           omega (
             arith,
             f,
-            ap (steps by n slots recs′) (append-nil (pending n work′ top′)),
-            ap (steps by n slots recs) (ap (λ (l : List ℕ). o ∷ l) (append-nil (pending n work (top + 1))) ∙ list),
+            ap (stepsFrom by n slots recs′) (append-nil (pending n work′ top′)),
+            ap (stepsFrom by n slots recs) (ap (λ (l : List ℕ). o ∷ l) (append-nil (pending n work (top + 1))) ∙ list),
           )
 
       pub draining-on : length recs′ ≡ length recs → length work′ ≡ length work → Draining by n slots recs₀ work₀ top₀ recs′ work′ top′
       draining-on a b =
           record {
             same = λ more h.
-                ends-visit by n slots recs work (top + 1) o (popped .state) object recs′ work′ top′ v more h
-                ∙ ap (λ (l : List ℕ). ends by n slots recs (l ++ more)) list
+                end-visit by n slots recs work (top + 1) o (popped .state) object recs′ work′ top′ v more h
+                ∙ ap (λ (l : List ℕ). endFrom by n slots recs (l ++ more)) list
                 ∙ g .same more h;
-            ready = ready-moved by n slots recs work (top + 1) _ recs′ work′ top′ (g .ready .state .sized .recs-long) (g .ready .linked) v;
+            ready = ready-moved by n slots recs work (top + 1) _ recs′ work′ top′ (g .ready .state .sized .room .recs-long) (g .ready .linked) v;
             kept = v .kept ∙ g .kept;
             fewer = omega (arith, draining-less, g .fewer);
             recs-length = a ∙ g .recs-length;
@@ -198,11 +193,11 @@ module _ (by : Bool) (n : ℕ) (slots recs₀ work₀ : List ℕ) (top₀ : ℕ)
       record {
         followed =
             record {
-              same = λ more d. ap (λ (l : List ℕ). ends by n slots recs (l ++ more)) (sym none) ∙ g .same more d;
+              same = λ more d. ap (λ (l : List ℕ). endFrom by n slots recs (l ++ more)) (sym none) ∙ g .same more d;
               ready = subst (λ (t : ℕ). Ready by n recs slots work t) e (g .ready);
               kept = g .kept;
             };
-        fewer = subst (λ (l : List ℕ). steps by n slots recs l ≤ steps by n slots recs₀ (pending n work₀ top₀)) none (g .fewer);
+        fewer = subst (λ (l : List ℕ). stepsFrom by n slots recs l ≤ stepsFrom by n slots recs₀ (pending n work₀ top₀)) none (g .fewer);
       }
 
 -- ---- starts, one after the other
@@ -213,14 +208,14 @@ none-pending n work = let z : 8 * n - 8 * n ≡ 0 = omega arith in ap (λ (k : �
 module _ (by : Bool) (n : ℕ) (slots recs work : List ℕ) (r : Ready by n recs slots work (8 * n)) where
   -- one object visited, and what is then pending
   pub followed-visit : (o : ℕ) → Obj n o → (recs₁ work₁ : List ℕ) (top₁ : ℕ)
-      → Moved n slots recs work (8 * n) (visit (seen by n recs slots) o) recs₁ work₁ top₁ → (recs₂ work₂ : List ℕ)
+      → Moved n slots recs work (8 * n) (visit (walkedHeap by n recs slots) o) recs₁ work₁ top₁ → (recs₂ work₂ : List ℕ)
       → Drained by n slots recs₁ (pending n work₁ top₁) recs₂ work₂ → Followed by n slots recs (o ∷ []) recs₂ work₂
   followed-visit o io recs₁ work₁ top₁ v recs₂ work₂ d =
       record {
         same = λ more h.
             d .followed .same more h
-            ∙ ends-visit by n slots recs work (8 * n) o (r .state) io recs₁ work₁ top₁ v more h
-            ∙ ap (λ (l : List ℕ). ends by n slots recs (o ∷ (l ++ more))) (none-pending n work);
+            ∙ end-visit by n slots recs work (8 * n) o (r .state) io recs₁ work₁ top₁ v more h
+            ∙ ap (λ (l : List ℕ). endFrom by n slots recs (o ∷ (l ++ more))) (none-pending n work);
         ready = d .followed .ready;
         kept = d .followed .kept ∙ v .kept;
       }
@@ -241,21 +236,12 @@ followed-then by n slots recs a b recs₁ work₁ recs₂ work₂ ob f g =
       same = λ more h.
           g .same more h
           ∙ f .same (b ++ more) (objects-append n b more ob h)
-          ∙ ap (ends by n slots recs) (sym (append-assoc a b more));
+          ∙ ap (endFrom by n slots recs) (sym (append-assoc a b more));
       ready = g .ready;
       kept = g .kept ∙ f .kept;
     }
 
 -- ---- the roots by index, and the sinks by number
-
-pub pointers-append : (a b : List ℕ) → pointers (a ++ b) ≡ pointers a ++ pointers b
-unfolding pointers
-pointers-append [] b = refl
-pointers-append (w ∷ a) b = go (eqb w 0) (pointers-append a b)
-  where
-    go : (t : Bool) → pointers (a ++ b) ≡ pointers a ++ pointers b → cond t (pointers (a ++ b)) (w ∷ pointers (a ++ b)) ≡ cond t (pointers a) (w ∷ pointers a) ++ pointers b
-    go true e = e
-    go false e = ap (λ (l : List ℕ). w ∷ l) e
 
 pub roots-next : (roots : List ℕ) (i : ℕ) → i < length roots → pointers (take (i + 1) roots) ≡ pointers (take i roots) ++ pointers (getD roots i 0 ∷ [])
 roots-next roots i l =
@@ -277,16 +263,16 @@ module _ (by : Bool) (n : ℕ) (slots recs work : List ℕ) (r : Ready by n recs
   abbrev here : Walk
   here = walkAt n recs []
 
-  calm : Safe (seen by n recs slots) here
+  calm : Safe (walkedHeap by n recs slots) here
   calm = record { todo-in = λ x m. absurd (List·Memᴰ·not-nil m) }
 
-  pub lowest-there : (x : ℕ) → ((i : ℕ) → getD work i 0 < 2 ^ 32) → x ≡ P.lowest n work → x ≡ lowestLater n recs
-  lowest-there x fit e = e ∙ lowest-is n work (r .state .sized .most) fit (flagsOf n recs postponed) (r .state .mapped) (flag-object n recs postponed)
+  pub lowest-there : (x : ℕ) → ((i : ℕ) → getD work i 0 < 2 ^ 32) → x ≡ P.lowest n work → x ≡ lowestPostponed n recs
+  lowest-there x fit e = e ∙ lowest-is n work (r .state .sized .room .most) fit (flagsOf n recs postponed) (r .state .mapped) (flag-object n recs postponed)
 
-  module _ (o : ℕ) (is : o ≡ lowestLater n recs) (some : 1 ≤ o) where
+  module _ (o : ℕ) (is : o ≡ lowestPostponed n recs) (some : 1 ≤ o) where
     found : Obj n o × (flagsOf n recs postponed o ≡ true)
     found =
-        let e : lowestLater n recs ≡ suc (o - 1) = omega arith in
+        let e : lowestPostponed n recs ≡ suc (o - 1) = omega arith in
         subst (λ (x : ℕ). Obj n x × (flagsOf n recs postponed x ≡ true)) (sym is) (lowest-passes (flagsOf n recs postponed) n (o - 1) e)
 
     pub lowest-object : Obj n o
@@ -295,38 +281,38 @@ module _ (by : Bool) (n : ℕ) (slots recs work : List ℕ) (r : Ready by n recs
     module _
         (recs₁ work₁ : List ℕ)
         (top₁ : ℕ)
-        (v : Moved n slots recs work (8 * n) (T.take (seen by n recs slots) o) recs₁ work₁ top₁)
+        (v : Moved n slots recs work (8 * n) (T.take (walkedHeap by n recs slots) o) recs₁ work₁ top₁)
       where
         pub ready-taken : Ready by n recs₁ slots work₁ top₁
-        ready-taken = ready-moved by n slots recs work (8 * n) _ recs₁ work₁ top₁ (r .state .sized .recs-long) (r .linked) v
+        ready-taken = ready-moved by n slots recs work (8 * n) _ recs₁ work₁ top₁ (r .state .sized .room .recs-long) (r .linked) v
 
-        stepped : step (seen by n recs slots) here ≡ walkAt n recs₁ (pending n work₁ top₁)
+        stepped : step (walkedHeap by n recs slots) here ≡ walkAt n recs₁ (pending n work₁ top₁)
         unfolding step stepBy view
         stepped =
-            ap (λ (x : ℕ). T.take (seen by n recs slots) x here) (sym is)
-            ∙ ap (λ (l : List ℕ). T.take (seen by n recs slots) o (walkAt n recs l)) (sym (ap (λ (l : List ℕ). l ++ []) (none-pending n work)))
+            ap (λ (x : ℕ). T.take (walkedHeap by n recs slots) x here) (sym is)
+            ∙ ap (λ (l : List ℕ). T.take (walkedHeap by n recs slots) o (walkAt n recs l)) (sym (ap (λ (l : List ℕ). l ++ []) (none-pending n work)))
             ∙ v .same []
             ∙ ap (walkAt n recs₁) (append-nil (pending n work₁ top₁))
 
-        falls : needed (seen by n recs slots) (step (seen by n recs slots) here) < needed (seen by n recs slots) here
+        falls : needed (walkedHeap by n recs slots) (step (walkedHeap by n recs slots) here) < needed (walkedHeap by n recs slots) here
         unfolding view
-        falls = at (step-falls (seen by n recs slots) here calm)
+        falls = at (step-falls (walkedHeap by n recs slots) here calm)
           where
-            at : Ended (seen by n recs slots) here ⊎ Falls (seen by n recs slots) here (step (seen by n recs slots) here)
-                → needed (seen by n recs slots) (step (seen by n recs slots) here) < needed (seen by n recs slots) here
+            at : Ended (walkedHeap by n recs slots) here ⊎ Falls (walkedHeap by n recs slots) here (step (walkedHeap by n recs slots) here)
+                → needed (walkedHeap by n recs slots) (step (walkedHeap by n recs slots) here) < needed (walkedHeap by n recs slots) here
             at (inl e) = absurd (true≢false (sym (found .1) ∙ e .1 o (found .0)))
             at (inr f) = f .0
 
         pub retaken : (recs₂ work₂ : List ℕ) → Drained by n slots recs₁ (pending n work₁ top₁) recs₂ work₂ → Retaken by n slots recs recs₂ work₂
         retaken recs₂ work₂ d =
-            let long = r .state .sized .recs-long in
+            let long = r .state .sized .room .recs-long in
             record {
               same =
                   d .followed .same [] (objects-none n)
-                  ∙ ap (ends by n slots recs₁) (append-nil (pending n work₁ top₁))
-                  ∙ ends-same by n slots recs recs₁ long (v .kept) (pending n work₁ top₁)
-                  ∙ ap (finish (seen by n recs slots)) (sym stepped)
-                  ∙ finish-step (seen by n recs slots) (ranged by n recs slots) here calm;
+                  ∙ ap (endFrom by n slots recs₁) (append-nil (pending n work₁ top₁))
+                  ∙ end-same by n slots recs recs₁ long (v .kept) (pending n work₁ top₁)
+                  ∙ ap (finish (walkedHeap by n recs slots)) (sym stepped)
+                  ∙ finish-step (walkedHeap by n recs slots) (view-ranged n recs slots) here calm;
               ready = d .followed .ready;
               kept = d .followed .kept ∙ v .kept;
               less =
@@ -335,16 +321,16 @@ module _ (by : Bool) (n : ℕ) (slots recs work : List ℕ) (r : Ready by n recs
                     d .fewer,
                     falls,
                     steps-same by n slots recs recs₁ long (v .kept) (pending n work₁ top₁),
-                    ap (needed (seen by n recs slots)) stepped,
+                    ap (needed (walkedHeap by n recs slots)) stepped,
                   );
             }
 
 -- the loop that takes them up
 pub record Retaking (by : Bool) (n : ℕ) (slots recs₀ work₀ recs work : List ℕ) (o : ℕ) : Type 0 where
-  pub same : ends by n slots recs [] ≡ ends by n slots recs₀ []
+  pub same : endFrom by n slots recs [] ≡ endFrom by n slots recs₀ []
   pub ready : Ready by n recs slots work (8 * n)
-  pub kept : bare n recs ≡ bare n recs₀
-  pub lowest-now : o ≡ lowestLater n recs
+  pub kept : unflagged n recs ≡ unflagged n recs₀
+  pub lowest-now : o ≡ lowestPostponed n recs
   pub recs-length : length recs ≡ length recs₀
   pub work-length : length work ≡ length work₀
 
@@ -371,7 +357,7 @@ module _ (by : Bool) (n : ℕ) (slots recs₀ work₀ : List ℕ) where
   retaking-done recs work o g e =
       record {
         same =
-            sym (finish-ended (seen by n recs slots) (walkAt n recs []) (refl, lowest-none (flagsOf n recs postponed) n (sym (g .lowest-now) ∙ e)))
+            sym (finish-ended (walkedHeap by n recs slots) (walkAt n recs []) (refl, lowest-none (flagsOf n recs postponed) n (sym (g .lowest-now) ∙ e)))
             ∙ g .same;
         kept = g .kept;
       }

@@ -17,13 +17,15 @@ use Rattle.graph.proofs.FlagLaws.{rest, rest-set, rest-other, count-set, count-
 use Rattle.rules.specs.Buffers.{recOf}
 use Rattle.rules.specs.View.{view}
 use Rattle.rules.proofs.BufferLaws.{used-part}
+use Rattle.rules.proofs.ViewLaws.{view-ranged}
+use Rattle.table.specs.Room.{Sized}
 use Rattle.postponed.proofs.PostponedLaws.{put-mapped, put-kept, mapped-kept}
 use Rattle.postponed.specs.Postponed as P
 use Rattle.postponed.specs.Postponed.{Mapped}
 use Rattle.collect.specs.Marks.{flagsOf, putMark}
-use Rattle.collect.specs.State.{walkAt, pending, named, Objects, linkAt, Sized, Pushable, Pushed, State, Moved}
-use Rattle.collect.proofs.MarkLaws.{length-mark, flags-put, bare-put, width-same, view-same}
-use Rattle.collect.proofs.PendingLaws.{named-in, pending-kept, word-under, pending-pushed, beyond-pushed}
+use Rattle.collect.specs.State.{walkAt, pending, pointersIn, Objects, linkAt, Pushable, Pushed, State, Moved}
+use Rattle.collect.proofs.MarkLaws.{length-mark, flags-put, unflagged-put, width-same, view-same}
+use Rattle.collect.proofs.PendingLaws.{pending-kept, word-under, pending-pushed, beyond-pushed}
 
 -- the links lie beyond the pending objects
 link-beyond : (n : ℕ) (work work′ : List ℕ) (x : ℕ) → drop (8 * n) work′ ≡ drop (8 * n) work → linkAt n work′ x ≡ linkAt n work x
@@ -31,11 +33,11 @@ link-beyond n work work′ x e =
     sym (getD-drop (8 * n) work′ (x - 1) 0) ∙ ap (λ (l : List ℕ). getD l (x - 1) 0) e ∙ getD-drop (8 * n) work (x - 1) 0
 
 -- the pointers of an object stand in its first slots
-pub targets-are : (n : ℕ) (recs slots : List ℕ) (x k : ℕ) → 1 ≤ x → width (recOf n recs x) ≤ 8 → k ≡ width (recOf n recs x)
-    → targets (view n recs slots) x ≡ named n (take k (drop (8 * (x - 1)) slots))
+targets-are : (n : ℕ) (recs slots : List ℕ) (x k : ℕ) → 1 ≤ x → width (recOf n recs x) ≤ 8 → k ≡ width (recOf n recs x)
+    → targets (view n recs slots) x ≡ pointersIn n (take k (drop (8 * (x - 1)) slots))
 unfolding view
 targets-are n recs slots x k low narrow is =
-    ap (named n) (used-part n recs slots x low narrow ∙ ap (λ (m : ℕ). take m (drop (8 * (x - 1)) slots)) (sym is))
+    ap (pointersIn n) (used-part n recs slots x low narrow ∙ ap (λ (m : ℕ). take m (drop (8 * (x - 1)) slots)) (sym is))
 
 module _ (n : ℕ) (recs slots work : List ℕ) (top : ℕ) (s : State n recs slots work top) (o : ℕ) (io : Obj n o) where
   abbrev H : Heap
@@ -45,7 +47,7 @@ module _ (n : ℕ) (recs slots work : List ℕ) (top : ℕ) (s : State n recs sl
   flags = flagsOf n recs
 
   long : n ≤ length recs
-  long = s .sized .recs-long
+  long = s .sized .room .recs-long
 
   -- the room that is left after a flag was stored
   abbrev unspent : Flags → ℕ
@@ -56,17 +58,15 @@ module _ (n : ℕ) (recs slots work : List ℕ) (top : ℕ) (s : State n recs sl
     recs′ = putMark f o b recs
 
     same-heap : view n recs′ slots ≡ H
-    same-heap = view-same n recs recs′ long (bare-put n recs f o b io) slots
+    same-heap = view-same n recs recs′ long (unflagged-put n recs f o b io) slots
 
     sized-put : (work′ : List ℕ) → length work′ ≡ length work → Sized n recs′ slots work′
     sized-put work′ e =
         let z = s .sized in
         record {
-          most = z .most;
-          recs-long = omega (arith, length-mark n recs f o b long io);
-          slots-long = z .slots-long;
+          room = record { most = z .room .most; recs-long = omega (arith, length-mark n recs f o b long io); slots-long = z .room .slots-long };
           work-long = omega (arith, z .work-long);
-          widths = λ x c. omega (arith, width-same n recs recs′ long (bare-put n recs f o b io) x, z .widths x c);
+          widths = λ x. omega (arith, width-same n recs recs′ long (unflagged-put n recs f o b io) x, z .widths x);
         }
 
     room-put : (top′ : ℕ) → unspent (setFlag flags f o b) ≤ top′ → sum n (λ x. cond (flagsOf n recs′ marked x) 0 (length (targets (view n recs′ slots) x))) ≤ top′
@@ -91,34 +91,31 @@ module _ (n : ℕ) (recs slots work : List ℕ) (top : ℕ) (s : State n recs sl
       (b : Bool)
       (work′ ks : List ℕ)
       (top′ : ℕ)
-      (front : drop top′ work′ ≡ ks ++ drop top work)
-      (counted : top′ + length ks ≡ top)
+      (front : pending n work′ top′ ≡ ks ++ pending n work top)
+      (low : top′ ≤ top)
       (work-same : length work′ ≡ length work)
       (objects : Objects n ks)
-      (ne : f ≢ postponed)
-      (roomy : unspent (setFlag flags f o b) ≤ top′)
     where
-      beyond : drop (8 * n) work′ ≡ drop (8 * n) work
-      beyond = beyond-pushed n work work′ ks top top′ front counted (s .high)
-
-      state-put : State n (putMark f o b recs) slots work′ top′
-      state-put =
+      state-put : unspent (setFlag flags f o b) ≤ top′ → Mapped n (flagsOf n (putMark f o b recs) postponed) work′ → State n (putMark f o b recs) slots work′ top′
+      state-put roomy mapped =
           record {
             sized = sized-put f b work′ work-same;
             high = omega (arith, s .high);
             room = room-put f b top′ roomy;
-            inside = λ p m.
-                at p
-                (List·Memᴰ·append-cases ks
-                (subst (λ (l : List ℕ). List·Memᴰ p l) (pending-pushed n work work′ ks top top′ front counted (s .high)) m));
-            mapped =
-                mapped-kept n (flags postponed) (flagsOf n (putMark f o b recs) postponed) work work′ beyond
-                (λ i. ap (λ (t : Flags). t postponed i) (flags-put n recs f o b long io) ∙ setFlag-apart flags f o b postponed i ne) (s .mapped);
+            inside = λ p m. at p (List·Memᴰ·append-cases ks (subst (λ (l : List ℕ). List·Memᴰ p l) front m));
+            mapped = mapped;
           }
         where
           at : (p : ℕ) → List·Memᴰ p ks ⊎ List·Memᴰ p (pending n work top) → Obj n p
           at p (inl m) = objects p m
           at p (inr m) = s .inside p m
+
+  -- the set stays where neither its flag nor its words change
+  mapped-put : (f : Flag) (b : Bool) (work′ : List ℕ) → f ≢ postponed → drop (8 * n) work′ ≡ drop (8 * n) work
+      → Mapped n (flagsOf n (putMark f o b recs) postponed) work′
+  mapped-put f b work′ ne beyond =
+      mapped-kept n (flags postponed) (flagsOf n (putMark f o b recs) postponed) work work′ beyond
+      (λ i. ap (λ (t : Flags). t postponed i) (flags-put n recs f o b long io) ∙ setFlag-apart flags f o b postponed i ne) (s .mapped)
 
   -- ---- reached, and postponed
 
@@ -128,15 +125,15 @@ module _ (n : ℕ) (recs slots work : List ℕ) (top : ℕ) (s : State n recs sl
       record {
         same = λ more. walk-put reached true reached≢marked (pending n work top ++ more);
         state =
-            state-put reached true work [] top refl (omega arith) refl (λ p m. absurd (List·Memᴰ·not-nil m)) reached≢postponed
-            (room-other reached true reached≢marked);
-        kept = bare-put n recs reached o true io;
+            state-put reached true work [] top refl (omega arith) refl (λ p m. absurd (List·Memᴰ·not-nil m)) (room-other reached true reached≢marked)
+            (mapped-put reached true work reached≢postponed refl);
+        kept = unflagged-put n recs reached o true io;
         links = λ x b. refl;
       }
 
   module _ (b : Bool) (work′ : List ℕ) (p : work′ ≡ P.put n o b work) (same-long : length work′ ≡ length work) where
     under : take (9 * n) work′ ≡ take (9 * n) work
-    under = ap (take (9 * n)) p ∙ put-kept n work o (s .sized .most) (s .sized .work-long) io b
+    under = ap (take (9 * n)) p ∙ put-kept n work o (s .sized .room .most) (s .sized .work-long) io b
 
     pending-same : pending n work′ top ≡ pending n work top
     pending-same = pending-kept n work work′ top under (s .high) (omega (arith, s .sized .work-long)) same-long
@@ -144,50 +141,34 @@ module _ (n : ℕ) (recs slots work : List ℕ) (top : ℕ) (s : State n recs sl
     postponed-at : (i : ℕ) → flagsOf n (putMark postponed o b recs) postponed i ≡ setFlag flags postponed o b postponed i
     postponed-at i = ap (λ (t : Flags). t postponed i) (flags-put n recs postponed o b long io)
 
-    state-later : State n (putMark postponed o b recs) slots work′ top
-    state-later =
+    mapped-later : Mapped n (flagsOf n (putMark postponed o b recs) postponed) work′
+    mapped-later =
+        subst (λ (w : List ℕ). Mapped n (flagsOf n (putMark postponed o b recs) postponed) w) (sym p)
+        (put-mapped n work o (s .sized .room .most) (s .sized .work-long) io b (flags postponed) (flagsOf n (putMark postponed o b recs) postponed) (s .mapped)
+        (postponed-at o ∙ setFlag-same flags postponed o b) (λ i d. postponed-at i ∙ setFlag-other flags postponed o b postponed i d))
+
+    later : Moved n slots recs work top (λ w. record { flags = setFlag (w .flags) postponed o b; todo = w .todo; scanned = w .scanned }) (putMark postponed o b recs) work′ top
+    later =
         record {
-          sized = sized-put postponed b work′ same-long;
-          high = s .high;
-          room = room-put postponed b top (room-other postponed b postponed≢marked);
-          inside = λ q m. s .inside q (subst (λ (l : List ℕ). List·Memᴰ q l) pending-same m);
-          mapped =
-              subst (λ (w : List ℕ). Mapped n (flagsOf n (putMark postponed o b recs) postponed) w) (sym p)
-              (put-mapped n work o (s .sized .most) (s .sized .work-long) io b (flags postponed) (flagsOf n (putMark postponed o b recs) postponed) (s .mapped)
-              (postponed-at o ∙ setFlag-same flags postponed o b) (λ i d. postponed-at i ∙ setFlag-other flags postponed o b postponed i d));
+          same = λ more.
+              walk-put postponed b postponed≢marked (pending n work top ++ more)
+              ∙ ap (λ (l : List ℕ). walkAt n (putMark postponed o b recs) (l ++ more)) (sym pending-same);
+          state =
+              state-put postponed b work′ [] top pending-same (omega arith) same-long (λ q m. absurd (List·Memᴰ·not-nil m))
+              (room-other postponed b postponed≢marked) mapped-later;
+          kept = unflagged-put n recs postponed o b io;
+          links = λ x c. word-under n work work′ (8 * n + (x - 1)) under (omega arith);
         }
-
-    later-walk : (more : List ℕ)
-        → record { flags = setFlag flags postponed o b; todo = pending n work top ++ more; scanned = count n (λ x. flags marked x) }
-        ≡ walkAt n (putMark postponed o b recs) (pending n work′ top ++ more)
-    later-walk more =
-        walk-put postponed b postponed≢marked (pending n work top ++ more)
-        ∙ ap (λ (l : List ℕ). walkAt n (putMark postponed o b recs) (l ++ more)) (sym pending-same)
-
-    link-under : (x : ℕ) → Obj n x → linkAt n work′ x ≡ linkAt n work x
-    link-under x c = word-under n work work′ (8 * n + (x - 1)) under (omega arith)
 
   pub moved-postpone : (work′ : List ℕ) → work′ ≡ P.put n o true work → length work′ ≡ length work
       → Moved n slots recs work top (postpone (view n recs slots) o) (putMark postponed o true recs) work′ top
   unfolding postpone
-  moved-postpone work′ p e =
-      record {
-        same = later-walk true work′ p e;
-        state = state-later true work′ p e;
-        kept = bare-put n recs postponed o true io;
-        links = link-under true work′ p e;
-      }
+  moved-postpone = later true
 
   pub moved-unpostpone : (work′ : List ℕ) → work′ ≡ P.put n o false work → length work′ ≡ length work
       → Moved n slots recs work top (unpostpone (view n recs slots) o) (putMark postponed o false recs) work′ top
   unfolding unpostpone
-  moved-unpostpone work′ p e =
-      record {
-        same = later-walk false work′ p e;
-        state = state-later false work′ p e;
-        kept = bare-put n recs postponed o false io;
-        links = link-under false work′ p e;
-      }
+  moved-unpostpone = later false
 
   -- ---- scan
 
@@ -199,15 +180,19 @@ module _ (n : ℕ) (recs slots work : List ℕ) (top : ℕ) (s : State n recs sl
     -- with the width in k
     module _ (k : ℕ) (is : k ≡ width (recOf n recs o)) where
       abbrev ks : List ℕ
-      ks = named n (take k (drop (8 * (o - 1)) slots))
+      ks = pointersIn n (take k (drop (8 * (o - 1)) slots))
 
       own : targets H o ≡ ks
-      own = targets-are n recs slots o k (io .0) (s .sized .widths o io) is
+      own = targets-are n recs slots o k (io .0) (s .sized .widths o) is
+
+      own-in : Objects n ks
+      unfolding view
+      own-in y m = view-ranged n recs slots o y io (subst (λ (l : List ℕ). List·Memᴰ y l) (sym own) m)
 
       pub scan-pushable : Pushable n slots (8 * (o - 1)) k work top
       scan-pushable =
           record {
-            source = omega (arith, s .sized .slots-long, s .sized .widths o io);
+            source = omega (arith, s .sized .room .slots-long, s .sized .widths o);
             space = omega (arith, ap length own, spent);
             end = omega (arith, s .high, s .sized .work-long);
           }
@@ -226,13 +211,19 @@ module _ (n : ℕ) (recs slots work : List ℕ) (top : ℕ) (s : State n recs sl
                 (sym (flags-put n recs marked o true long io))
                 ∙ ap (λ (l : List ℕ). walkAt n (putMark marked o true recs) l)
                 (sym (append-assoc ks (pending n work top) more)
-                ∙ ap (λ (l : List ℕ). l ++ more) (sym (pending-pushed n work work′ ks top top′ (p .front) (p .counted) (s .high))));
+                ∙ ap (λ (l : List ℕ). l ++ more) (sym listed));
             state =
-                state-put marked true work′ ks top′ (p .front) (p .counted) same-long (named-in n (take k (drop (8 * (o - 1)) slots))) marked≢postponed
-                (omega (arith, ap length own, p .counted, spent));
-            kept = bare-put n recs marked o true io;
-            links = λ x b. link-beyond n work work′ x (beyond-pushed n work work′ ks top top′ (p .front) (p .counted) (s .high));
+                state-put marked true work′ ks top′ listed (omega (arith, p .counted)) same-long own-in (omega (arith, ap length own, p .counted, spent))
+                (mapped-put marked true work′ marked≢postponed beyond);
+            kept = unflagged-put n recs marked o true io;
+            links = λ x b. link-beyond n work work′ x beyond;
           })
+        where
+          listed : pending n work′ top′ ≡ ks ++ pending n work top
+          listed = pending-pushed n work work′ ks top top′ (p .front) (p .counted) (s .high)
+
+          beyond : drop (8 * n) work′ ≡ drop (8 * n) work
+          beyond = beyond-pushed n work work′ ks top top′ (p .front) (p .counted) (s .high)
 
 -- ---- two moves, one after the other, and one in place of another
 

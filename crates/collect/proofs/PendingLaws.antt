@@ -3,8 +3,7 @@
 use Prim.Native.Nat.{ℕ, zero, suc, _+_, _-_, _*_, _<_, _≤_}
 use mathlib.Core.Path.{_≡_, refl, sym, ap, _∙_}
 use mathlib.Core.Bool.{Bool, true, false, cond, true≢false}
-use mathlib.Core.Logic.{_≢_}
-use mathlib.Core.List.{List, [], _∷_, _++_, map, append-nil, List·Memᴰ, List·Memᴰ·head, List·Memᴰ·tail}
+use mathlib.Core.List.{List, [], _∷_, _++_, map, append-nil, map-append}
 use native.Mathlib.Omega.{arith}
 use native.Mathlib.Decide.{decLe}
 use borrow.Author.Tests.{le-leb, lt-leb, ne-eqb}
@@ -15,55 +14,27 @@ use lib.Seq.{append-snoc, slice, take-add, drop-at, length-take-le}
 use Rattle.layout.specs.Limits.{within}
 use Rattle.layout.proofs.LimitLaws.{within-true, in-within}
 use Rattle.graph.specs.Heap.{pointers}
-use Rattle.graph.proofs.MemberLaws.{pointer-word, pointer-nonzero}
 use Rattle.rules.specs.View.{target}
-use Rattle.collect.specs.State.{named, pending, Objects, Pushable, Pushed}
+use Rattle.collect.specs.State.{pointersIn, pending, Pushable, Pushed}
 
 -- ---- the pointers among some words
 
-pub named-append : (n : ℕ) (a b : List ℕ) → named n (a ++ b) ≡ named n a ++ named n b
+pub pointers-append : (a b : List ℕ) → pointers (a ++ b) ≡ pointers a ++ pointers b
 unfolding pointers
-named-append n [] b = refl
-named-append n (w ∷ a) b = go (eqb (target n w) 0) (named-append n a b)
+pointers-append [] b = refl
+pointers-append (w ∷ a) b = go (eqb w 0) (pointers-append a b)
   where
-    go : (t : Bool) → named n (a ++ b) ≡ named n a ++ named n b
-        → cond t (named n (a ++ b)) (target n w ∷ named n (a ++ b)) ≡ cond t (named n a) (target n w ∷ named n a) ++ named n b
+    go : (t : Bool) → pointers (a ++ b) ≡ pointers a ++ pointers b → cond t (pointers (a ++ b)) (w ∷ pointers (a ++ b)) ≡ cond t (pointers a) (w ∷ pointers a) ++ pointers b
     go true e = e
-    go false e = ap (λ (l : List ℕ). target n w ∷ l) e
+    go false e = ap (λ (l : List ℕ). w ∷ l) e
 
-pub target-le : (n w : ℕ) → target n w ≤ n
-unfolding target
-target-le n w = go (decLe w n)
-  where
-    go : Dec (w ≤ n) → cond (leb w n) w 0 ≤ n
-    go (yes l) = rw (le-leb w n l) l
-    go (no g) = rw (lt-leb w n (omega (arith, g))) (omega arith)
-
-pub targets-le : (n : ℕ) (l : List ℕ) (y : ℕ) → List·Memᴰ y (map (target n) l) → y ≤ n
-targets-le n (w ∷ l) y (List·Memᴰ·head e) = omega (arith, e, target-le n w)
-targets-le n (w ∷ l) y (List·Memᴰ·tail m) = targets-le n l y m
-
-pub named-in : (n : ℕ) (l : List ℕ) → Objects n (named n l)
-named-in n l y m =
-    let p = pointer-nonzero (map (target n) l) y m in
-    (omega (arith, p), targets-le n l y (pointer-word (map (target n) l) y m))
-
-pub named-short : (n : ℕ) (l : List ℕ) → length (named n l) ≤ length l
-unfolding pointers
-named-short n [] = omega arith
-named-short n (w ∷ l) = go (eqb (target n w) 0) (named-short n l)
-  where
-    go : (t : Bool) → length (named n l) ≤ length l → length (cond t (named n l) (target n w ∷ named n l)) ≤ suc (length l)
-    go true h = omega arith
-    go false h = omega arith
-
-pub named-kept : (n w : ℕ) → within 1 n w ≡ true → named n (w ∷ []) ≡ w ∷ []
+in-kept : (n w : ℕ) → within 1 n w ≡ true → pointersIn n (w ∷ []) ≡ w ∷ []
 unfolding pointers target
-named-kept n w e = let b = within-true 1 n w e in rw (le-leb w n (b .1), ne-eqb w 0 (omega arith)) refl
+in-kept n w e = let b = within-true 1 n w e in rw (le-leb w n (b .1), ne-eqb w 0 (omega arith)) refl
 
-pub named-passed : (n w : ℕ) → within 1 n w ≡ false → named n (w ∷ []) ≡ []
+in-passed : (n w : ℕ) → within 1 n w ≡ false → pointersIn n (w ∷ []) ≡ []
 unfolding pointers target
-named-passed n w e = go w e (decLe w n)
+in-passed n w e = go w e (decLe w n)
   where
     go : (w : ℕ) → within 1 n w ≡ false → Dec (w ≤ n) → cond (eqb (cond (leb w n) w 0) 0) [] (cond (leb w n) w 0 ∷ []) ≡ []
     go zero e d = rw (le-leb 0 n (omega arith)) refl
@@ -110,21 +81,24 @@ push-one work at w a b =
 -- ---- the pointers of the words before the one at j, then that one
 
 module _ (n : ℕ) (l : List ℕ) (j : ℕ) (in-list : j < length l) where
-  last-word : named n (take (suc j) l) ≡ named n (take j l) ++ named n (getD l j 0 ∷ [])
-  last-word = ap (named n) (take-suc l j 0 in-list) ∙ named-append n (take j l) (getD l j 0 ∷ [])
+  last-word : pointersIn n (take (suc j) l) ≡ pointersIn n (take j l) ++ pointersIn n (getD l j 0 ∷ [])
+  last-word =
+      ap (pointersIn n) (take-suc l j 0 in-list)
+      ∙ ap pointers (map-append (target n) (take j l) (getD l j 0 ∷ []))
+      ∙ pointers-append (map (target n) (take j l)) (map (target n) (getD l j 0 ∷ []))
 
-  last-kept : within 1 n (getD l j 0) ≡ true → (rest : List ℕ) → named n (take (suc j) l) ++ rest ≡ named n (take j l) ++ (getD l j 0 ∷ rest)
-  last-kept e rest = rw (last-word, named-kept n (getD l j 0) e, append-snoc) refl
+  last-kept : within 1 n (getD l j 0) ≡ true → (rest : List ℕ) → pointersIn n (take (suc j) l) ++ rest ≡ pointersIn n (take j l) ++ (getD l j 0 ∷ rest)
+  last-kept e rest = rw (last-word, in-kept n (getD l j 0) e, append-snoc) refl
 
-  last-passed : within 1 n (getD l j 0) ≡ false → named n (take (suc j) l) ≡ named n (take j l)
-  last-passed e = rw (last-word, named-passed n (getD l j 0) e) (append-nil (named n (take j l)))
+  last-passed : within 1 n (getD l j 0) ≡ false → pointersIn n (take (suc j) l) ≡ pointersIn n (take j l)
+  last-passed e = rw (last-word, in-passed n (getD l j 0) e) (append-nil (pointersIn n (take j l)))
 
 -- ---- the loop that pushes the pointers among the first k words of l
 
 -- from j down, it ends with the same words as from the start of the loop
 pub record Pushing (n : ℕ) (l : List ℕ) (k : ℕ) (work₀ : List ℕ) (top : ℕ) (work : List ℕ) (at j : ℕ) : Type 0 where
-  pub rest : named n (take j l) ++ drop at work ≡ named n (take k l) ++ drop top work₀
-  pub counted : at + length (named n (take k l)) ≡ top + length (named n (take j l))
+  pub rest : pointersIn n (take j l) ++ drop at work ≡ pointersIn n (take k l) ++ drop top work₀
+  pub counted : at + length (pointersIn n (take k l)) ≡ top + length (pointersIn n (take j l))
   pub here : j ≤ k
   pub low : at ≤ top
   pub work-length : length work ≡ length work₀
@@ -149,7 +123,7 @@ module _ (n : ℕ) (slots : List ℕ) (from k : ℕ) (work₀ : List ℕ) (top :
     module _ (w : ℕ) (is : w ≡ getD slots (from + (j - 1)) 0) where
       pub pushing-passed : within 1 n w ≡ false → Pushing n l k work₀ top work at (j - 1)
       pushing-passed e =
-          let q : named n (take j l) ≡ named n (take (j - 1) l) =
+          let q : pointersIn n (take j l) ≡ pointersIn n (take (j - 1) l) =
           rw one-more at (last-passed n l (j - 1) before (ap (within 1 n) (word-at ∙ sym is) ∙ e)) in
           record {
             rest = rw q at (i .rest);
@@ -160,13 +134,13 @@ module _ (n : ℕ) (slots : List ℕ) (from k : ℕ) (work₀ : List ℕ) (top :
           }
 
       module _ (e : within 1 n w ≡ true) where
-        kept : (r : List ℕ) → named n (take j l) ++ r ≡ named n (take (j - 1) l) ++ (w ∷ r)
+        kept : (r : List ℕ) → pointersIn n (take j l) ++ r ≡ pointersIn n (take (j - 1) l) ++ (w ∷ r)
         kept r = rw (one-more, word-at ∙ sym is) at (last-kept n l (j - 1) before (ap (within 1 n) (word-at ∙ sym is) ∙ e) r)
 
-        longer : length (named n (take j l)) ≡ length (named n (take (j - 1) l)) + 1
+        longer : length (pointersIn n (take j l)) ≡ length (pointersIn n (take (j - 1) l)) + 1
         longer =
-            let a : length (named n (take j l) ++ []) ≡ length (named n (take (j - 1) l) ++ (w ∷ [])) = ap length (kept []) in
-            omega (arith, a, length-append (named n (take j l)) [], length-append (named n (take (j - 1) l)) (w ∷ []))
+            let a : length (pointersIn n (take j l) ++ []) ≡ length (pointersIn n (take (j - 1) l) ++ (w ∷ [])) = ap length (kept []) in
+            omega (arith, a, length-append (pointersIn n (take j l)) [], length-append (pointersIn n (take (j - 1) l)) (w ∷ []))
 
         pub pushing-room : 1 ≤ at
         pushing-room = omega (arith, longer, i .counted, p .space)
@@ -178,7 +152,7 @@ module _ (n : ℕ) (slots : List ℕ) (from k : ℕ) (work₀ : List ℕ) (top :
         pushing-kept =
             record {
               rest =
-                  ap (λ (x : List ℕ). named n (take (j - 1) l) ++ x) (push-one work at w pushing-room pushing-inside)
+                  ap (λ (x : List ℕ). pointersIn n (take (j - 1) l) ++ x) (push-one work at w pushing-room pushing-inside)
                   ∙ sym (kept (drop at work))
                   ∙ i .rest;
               counted = omega (arith, longer, i .counted, pushing-room);
@@ -187,7 +161,7 @@ module _ (n : ℕ) (slots : List ℕ) (from k : ℕ) (work₀ : List ℕ) (top :
               work-length = length-set work (at - 1) w ∙ i .work-length;
             }
 
-  pub pushing-done : Pushing n l k work₀ top work at j → j ≤ 0 → Pushed (named n (take k l)) work₀ top work at
+  pub pushing-done : Pushing n l k work₀ top work at j → j ≤ 0 → Pushed (pointersIn n (take k l)) work₀ top work at
   unfolding pointers
   pushing-done i h =
       let z : j ≡ 0 = omega arith in

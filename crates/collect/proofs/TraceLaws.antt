@@ -4,32 +4,32 @@ use Prim.Native.Nat.{ℕ, _+_, _-_, _*_, _<_, _≤_}
 use mathlib.Core.Path.{_≡_, refl, sym, ap, _∙_, subst}
 use mathlib.Core.Logic.{_≢_}
 use mathlib.Core.Bool.{Bool, true, false, not, cond, true≢false}
-use mathlib.Core.List.{List, [], _∷_, _++_, append-nil, List·Memᴰ, List·Memᴰ·head, List·Memᴰ·tail, List·Memᴰ·not-nil}
+use mathlib.Core.List.{List, [], _∷_, _++_, append-nil, List·Memᴰ, List·Memᴰ·head, List·Memᴰ·tail, List·Memᴰ·not-nil, List·Memᴰ·eq-of-singleton}
 use native.Mathlib.Omega.{arith}
 use borrow.Author.Tests.{ne-eqb}
 use borrow.Rule.Slice.PartMut.{midOf, postOf, putMid, mid-len}
-use lib.ListN.{length, getD, take, drop, length-take, length-drop}
+use lib.ListN.{length, getD, take, drop, length-drop}
 use lib.Seq.{getD-append-add, getD-drop, getD-take, take-at, drop-at, take-add, length-take-le}
 use Rattle.layout.specs.Limits.{workLen}
-use Rattle.records.specs.Record.{isSink, width}
+use Rattle.records.specs.Record.{isSink}
 use Rattle.graph.specs.Numbers.{Obj, count, gather}
 use Rattle.graph.specs.Heap.{Heap, pointers, targets, starts}
 use Rattle.graph.specs.Trace.{Flags, marked, postponed, Walk, noFlags, begin, finish, traced}
 use Rattle.graph.proofs.NumberLaws.{sum-most, count-none, gather-from, in-left, in-right}
-use Rattle.graph.proofs.TraceSafe.{StartsIn}
+use Rattle.graph.proofs.ReachLaws.{length-pointers}
 use Rattle.rules.specs.Buffers.{recOf, zeros}
-use Rattle.rules.specs.View.{view}
+use Rattle.rules.specs.View.{view, startsIn}
+use Rattle.rules.proofs.ViewLaws.{view-kids}
 use Rattle.rules.proofs.ListLaws.{length-each, get-each}
-use Rattle.links.specs.Links.{linkWord, links, linkable}
+use Rattle.links.specs.Links.{linkedAt, linkWord, links, linkable}
 use Rattle.links.proofs.LinkLaws.{linked}
 use Rattle.table.specs.Cleared.{cleared}
 use Rattle.postponed.proofs.PostponedLaws.{mapped-none}
 use Rattle.collect.specs.Marks.{flagsOf}
-use Rattle.collect.specs.State.{outsOf, seen, walkAt, ends, Objects, linkAt, Linkable, Linked, Ready, Followed, Finished, Traceable, TracedIn}
-use Rattle.collect.proofs.MarkLaws.{bare-flags, sink-same, view-same}
-use Rattle.collect.proofs.PendingLaws.{named-short}
-use Rattle.collect.proofs.MoveLaws.{targets-are}
-use Rattle.collect.proofs.EndLaws.{objects-none, objects-append, pointers-append, roots-next, sinks-next, sink-object, followed-none, followed-as, followed-then, none-pending}
+use Rattle.collect.specs.State.{walkedHeap, walkAt, endFrom, Objects, linkAt, Linked, Ready, Followed, Finished, Traceable, Walked}
+use Rattle.collect.proofs.MarkLaws.{unflagged-flags, sink-same, view-same}
+use Rattle.collect.proofs.PendingLaws.{pointers-append}
+use Rattle.collect.proofs.EndLaws.{objects-none, roots-next, sinks-next, sink-object, followed-none, followed-as, followed-then, none-pending}
 
 -- ---- one root
 
@@ -131,20 +131,12 @@ unless-le : (b : Bool) (x : ℕ) → cond b 0 x ≤ x
 unless-le true x = omega arith
 unless-le false x = omega arith
 
-module _ (by : Bool) (n r : ℕ) (recs slots roots work : List ℕ) (t : Traceable n r recs slots roots work) where
+module _ (by : Bool) (n : ℕ) (from recs slots work : List ℕ) (t : Traceable n from recs slots work) where
   clear-flags : flagsOf n recs ≡ noFlags
-  clear-flags = bare-flags n recs (t .sized .recs-long) (t .clear)
+  clear-flags = unflagged-flags n recs (t .sized .room .recs-long) (t .clear)
 
-  targets-short : (x : ℕ) → Obj n x → length (targets (view n recs slots) x) ≤ 8
-  targets-short x b =
-      let k = width (recOf n recs x) in
-      omega (
-        arith,
-        ap length (targets-are n recs slots x k (b .0) (t .sized .widths x b) refl),
-        named-short n (take k (drop (8 * (x - 1)) slots)),
-        length-take k (drop (8 * (x - 1)) slots),
-        t .sized .widths x b,
-      )
+  targets-short : (x : ℕ) → length (targets (view n recs slots) x) ≤ 8
+  targets-short x = omega (arith, length-pointers (view n recs slots .kids x), view-kids n recs slots x)
 
   pub trace-ready : (work₁ work₂ : List ℕ) → Linked by n recs work₁ → length work₁ ≡ length work → work₂ ≡ cleared (9 * n) (workLen n) work₁
       → length work₂ ≡ length work₁ → Ready by n recs slots work₂ (8 * n)
@@ -156,20 +148,14 @@ module _ (by : Bool) (n r : ℕ) (recs slots roots work : List ℕ) (t : Traceab
         state =
             record {
               sized =
-                  record {
-                    most = z .most;
-                    recs-long = z .recs-long;
-                    slots-long = z .slots-long;
-                    work-long = omega (arith, z .work-long);
-                    widths = z .widths;
-                  };
+                  record { room = z .room; work-long = omega (arith, z .work-long); widths = z .widths };
               high = omega arith;
               room =
                   sum-most n 8 (λ x. cond (flagsOf n recs marked x) 0 (length (targets (view n recs slots) x)))
-                  (λ x b. omega (arith, unless-le (flagsOf n recs marked x) (length (targets (view n recs slots) x)), targets-short x b));
+                  (λ x b. omega (arith, unless-le (flagsOf n recs marked x) (length (targets (view n recs slots) x)), targets-short x));
               inside = λ x m. absurd (List·Memᴰ·not-nil (subst (λ (y : List ℕ). List·Memᴰ x y) (none-pending n work₂) m));
               mapped =
-                  mapped-none n (flagsOf n recs postponed) work₂ (z .most)
+                  mapped-none n (flagsOf n recs postponed) work₂ (z .room .most)
                   (λ i p q. ap (λ (y : List ℕ). getD y i 0) c ∙ cleared-zero (9 * n) (10 * n + 64) work₁ (omega arith) i p q long)
                   (λ i. ap (λ (f : Flags). f postponed i) clear-flags);
             };
@@ -184,6 +170,29 @@ module _ (by : Bool) (n r : ℕ) (recs slots roots work : List ℕ) (t : Traceab
 
   -- ---- the end
 
+  walk-begin : walkAt n recs (pointers from) ≡ begin (walkedHeap by n recs slots) from
+  unfolding begin noFlags
+  walk-begin =
+      let c : count n (λ x. flagsOf n recs marked x) ≡ 0 = count-none n (λ x. flagsOf n recs marked x) (λ x b. ap (λ (f : Flags). f marked x) clear-flags) in
+      ap (λ (k : ℕ). record { flags = flagsOf n recs; todo = pointers from; scanned = k }) c
+      ∙ ap (λ (f : Flags). record { flags = f; todo = pointers from; scanned = 0 }) clear-flags
+
+  pub walk-done : (recs₁ work₁ recs₂ : List ℕ) → Followed by n slots recs (pointers from) recs₁ work₁ → Finished by n slots recs₁ recs₂
+      → Walked by n from recs slots recs₂
+  unfolding traced
+  walk-done recs₁ work₁ recs₂ a e =
+      record { flags-now = ap (λ (w : Walk). w .flags) whole; counted = ap (λ (w : Walk). w .scanned) whole; kept = e .kept ∙ a .kept ∙ t .clear }
+    where
+      whole : walkAt n recs₂ [] ≡ traced (walkedHeap by n recs slots) from
+      whole =
+          e .same
+          ∙ a .same [] (objects-none n)
+          ∙ ap (endFrom by n slots recs) (append-nil (pointers from))
+          ∙ ap (finish (walkedHeap by n recs slots)) walk-begin
+
+-- ---- the starts: what the roots name, then the sinks
+
+module _ (n r : ℕ) (recs slots roots : List ℕ) where
   abbrev H : Heap
   H = view n recs slots
 
@@ -193,51 +202,22 @@ module _ (by : Bool) (n r : ℕ) (recs slots roots work : List ℕ) (t : Traceab
   sinks-in : Objects n sinks
   sinks-in x m =
       let f = gather-from n (H .sink) (λ y. y ∷ []) x m in
-      subst (λ (y : ℕ). Obj n y) (sym (mem-one x (f .0) (f .3))) (f .1)
-    where
-      mem-one : (x y : ℕ) → List·Memᴰ x (y ∷ []) → x ≡ y
-      mem-one x y (List·Memᴰ·head e) = e
-      mem-one x y (List·Memᴰ·tail q) = absurd (List·Memᴰ·not-nil q)
+      subst (λ (y : ℕ). Obj n y) (sym (List·Memᴰ·eq-of-singleton (f .3))) (f .1)
 
-  sinks-kept : pointers sinks ≡ sinks
-  sinks-kept = all-pointers n sinks sinks-in
-
-  walk-begin : walkAt n recs (pointers (take r roots) ++ sinks) ≡ begin (seen by n recs slots) (starts H (take r roots))
-  unfolding begin starts noFlags view
-  walk-begin =
-      let c : count n (λ x. flagsOf n recs marked x) ≡ 0 = count-none n (λ x. flagsOf n recs marked x) (λ x b. ap (λ (f : Flags). f marked x) clear-flags) in
-      ap (λ (k : ℕ). record { flags = flagsOf n recs; todo = pointers (take r roots) ++ sinks; scanned = k }) c
-      ∙ ap (λ (f : Flags). record { flags = f; todo = pointers (take r roots) ++ sinks; scanned = 0 }) clear-flags
-      ∙ ap (λ (l : List ℕ). record { flags = noFlags; todo = l; scanned = 0 })
-      (ap (λ (l : List ℕ). pointers (take r roots) ++ l) (sym sinks-kept) ∙ sym (pointers-append (take r roots) sinks))
-
-  pub starts-in : StartsIn (seen by n recs slots) (starts H (take r roots))
+  starts-are : pointers (startsIn n r recs slots roots) ≡ pointers (take r roots) ++ sinks
   unfolding starts view
-  starts-in x m =
-      objects-append n (pointers (take r roots)) sinks (t .roots-in) sinks-in x
-      (subst (λ (l : List ℕ). List·Memᴰ x l) (pointers-append (take r roots) sinks ∙ ap (λ (l : List ℕ). pointers (take r roots) ++ l) sinks-kept) m)
+  starts-are = pointers-append (take r roots) sinks ∙ ap (λ (l : List ℕ). pointers (take r roots) ++ l) (all-pointers n sinks sinks-in)
 
-  pub trace-done : (recs₁ work₁ recs₂ work₂ recs₃ : List ℕ) → Followed by n slots recs (pointers (take r roots)) recs₁ work₁
-      → Followed by n slots recs₁ (gather n (view n recs₁ slots .sink) (λ y. y ∷ [])) recs₂ work₂ → Finished by n slots recs₂ recs₃
-      → TracedIn by n r recs slots roots recs₃
-  unfolding traced
-  trace-done recs₁ work₁ recs₂ work₂ recs₃ a b e =
-      record {
-        flags-now = ap (λ (w : Walk). w .flags) whole;
-        counted = ap (λ (w : Walk). w .scanned) whole;
-        kept = e .kept ∙ b .kept ∙ a .kept ∙ t .clear;
-      }
-    where
-      same-sinks : gather n (view n recs₁ slots .sink) (λ y. y ∷ []) ≡ sinks
-      same-sinks = ap (λ (G : Heap). gather n (G .sink) (λ y. y ∷ [])) (view-same n recs recs₁ (t .sized .recs-long) (a .kept) slots)
+  pub starts-roots : Objects n (pointers (startsIn n r recs slots roots)) → Objects n (pointers (take r roots))
+  starts-roots h x m = h x (subst (λ (l : List ℕ). List·Memᴰ x l) (sym starts-are) (in-left x (pointers (take r roots)) sinks m))
 
-      whole : walkAt n recs₃ [] ≡ traced (seen by n recs slots) (starts H (take r roots))
-      whole =
-          e .same
-          ∙ b .same [] (objects-none n)
-          ∙ ap (ends by n slots recs₁) (append-nil (gather n (view n recs₁ slots .sink) (λ y. y ∷ [])) ∙ same-sinks)
-          ∙ a .same sinks sinks-in
-          ∙ ap (finish (seen by n recs slots)) walk-begin
+  pub starts-followed : (by : Bool) → n ≤ length recs → (recs₁ work₁ recs₂ work₂ : List ℕ) → Followed by n slots recs (pointers (take r roots)) recs₁ work₁
+      → Followed by n slots recs₁ (gather n (view n recs₁ slots .sink) (λ y. y ∷ [])) recs₂ work₂
+      → Followed by n slots recs (pointers (startsIn n r recs slots roots)) recs₂ work₂
+  starts-followed by long recs₁ work₁ recs₂ work₂ a b =
+      followed-as by n slots recs _ _ recs₂ work₂ starts-are
+      (followed-then by n slots recs (pointers (take r roots)) sinks recs₁ work₁ recs₂ work₂ sinks-in a
+      (subst (λ (G : Heap). Followed by n slots recs₁ (gather n (G .sink) (λ y. y ∷ [])) recs₂ work₂) (view-same n recs recs₁ long (a .kept) slots) b))
 
 -- ---- the links
 
@@ -247,8 +227,8 @@ unlinked true n recs work e = absurd (true≢false (sym e))
 unlinked false n recs work e = record { links = λ q x b. absurd (true≢false (sym q)) }
 
 -- the link words in their part of the work words
-pub linked-part : (by : Bool) (n : ℕ) (recs work : List ℕ) → Linkable n recs work → (ys : List ℕ)
-    → ys ≡ cond (linkable n recs (midOf (8 * n) (9 * n - 8 * n) work)) (links n (outsOf n recs) (midOf (8 * n) (9 * n - 8 * n) work)) (midOf (8 * n) (9 * n - 8 * n) work)
+pub linked-part : (by : Bool) (n : ℕ) (recs work : List ℕ) → (n ≤ 4095) × (n ≤ length recs) × (9 * n ≤ length work) → (ys : List ℕ)
+    → ys ≡ cond (linkable n recs (midOf (8 * n) (9 * n - 8 * n) work)) (links n (linkedAt true n recs) (midOf (8 * n) (9 * n - 8 * n) work)) (midOf (8 * n) (9 * n - 8 * n) work)
     → Linked by n recs (putMid (8 * n) (9 * n - 8 * n) work ys)
 unfolding links
 linked-part by n recs work l ys e = record { links = λ q x b. at x b }
@@ -257,26 +237,26 @@ linked-part by n recs work l ys e = record { links = λ q x b. at x b }
     mid = midOf (8 * n) (9 * n - 8 * n) work
 
     mid-long : length mid ≡ n
-    mid-long = mid-len (8 * n) (9 * n) work (omega (arith, l .work-long)) ∙ omega arith
+    mid-long = mid-len (8 * n) (9 * n) work (omega (arith, l .2)) ∙ omega arith
 
-    ys-are : ys ≡ links n (outsOf n recs) mid
-    ys-are = e ∙ sym (linked n (outsOf n recs) recs mid (l .most) (l .recs-long) (omega (arith, mid-long)))
+    ys-are : ys ≡ links n (linkedAt true n recs) mid
+    ys-are = e ∙ sym (linked n (linkedAt true n recs) recs mid (l .0) (l .1) (omega (arith, mid-long)))
 
     ys-long : length ys ≡ n
-    ys-long = ap length ys-are ∙ length-each 1 n (λ x w. linkWord n (outsOf n recs) x) mid ∙ mid-long
+    ys-long = ap length ys-are ∙ length-each 1 n (λ x w. linkWord n (linkedAt true n recs) x) mid ∙ mid-long
 
     front-long : length (take (8 * n) work) ≡ 8 * n
-    front-long = length-take-le (8 * n) work (omega (arith, l .work-long))
+    front-long = length-take-le (8 * n) work (omega (arith, l .2))
 
     post : List ℕ
     post = postOf (8 * n) (9 * n - 8 * n) work
 
-    at : (x : ℕ) → Obj n x → linkAt n (putMid (8 * n) (9 * n - 8 * n) work ys) x ≡ linkWord n (outsOf n recs) x
+    at : (x : ℕ) → Obj n x → linkAt n (putMid (8 * n) (9 * n - 8 * n) work ys) x ≡ linkWord n (linkedAt true n recs) x
     at x b =
         let s : 1 + (x - 1) ≡ x = omega arith in
         ap (λ (k : ℕ). getD (take (8 * n) work ++ (ys ++ post)) (k + (x - 1)) 0) (sym front-long)
         ∙ getD-append-add (take (8 * n) work) (ys ++ post) (x - 1) 0
         ∙ sym (getD-take n (ys ++ post) (x - 1) 0 (omega arith))
         ∙ ap (λ (m : List ℕ). getD m (x - 1) 0) (take-at ys post n ys-long ∙ ys-are)
-        ∙ get-each 1 n (λ y w. linkWord n (outsOf n recs) y) mid (x - 1) 0 (omega arith) (omega (arith, mid-long))
-        ∙ ap (linkWord n (outsOf n recs)) s
+        ∙ get-each 1 n (λ y w. linkWord n (linkedAt true n recs) y) mid (x - 1) 0 (omega arith) (omega (arith, mid-long))
+        ∙ ap (linkWord n (linkedAt true n recs)) s

@@ -1,7 +1,7 @@
 -- The out members of a cluster through its links, and the visits by their cases.
 -- Assumes nothing.
 use Prim.Native.Nat.{ℕ, zero, suc, _+_, _-_, _/_, _%_, _<_, _≤_}
-use mathlib.Core.Path.{_≡_, refl, sym, ap, ap₂, _∙_, subst, fun-ext}
+use mathlib.Core.Path.{_≡_, refl, sym, ap, _∙_, subst}
 use mathlib.Core.Logic.{_≢_}
 use mathlib.Core.Bool.{Bool, true, false, not, cond, _||_, _&&_, true≢false, false≢true}
 use mathlib.Core.List.{List, _++_}
@@ -13,27 +13,27 @@ use Rattle.layout.specs.Limits.{within}
 use Rattle.records.specs.Record.{isOut, cluster}
 use Rattle.graph.specs.Numbers.{Obj}
 use Rattle.graph.specs.Heap.{Heap}
-use Rattle.graph.specs.Trace.{marked, postponed, reached, Flags, Walk, scan, unpostpone, arrive, scanIf, scanOuts, visitBy, visit, takeBy, take}
+use Rattle.graph.specs.Trace.{marked, postponed, reached, Flags, Walk, scan, postpone, unpostpone, arrive, scanIf, scanOuts, visitBy, visit, takeBy, take}
 use Rattle.graph.proofs.AnalysisInv.{and-split}
 use Rattle.graph.proofs.FlagLaws.{postponed≢marked, setFlag-apart}
 use Rattle.rules.specs.Buffers.{recOf}
 use Rattle.rules.specs.View.{view}
-use Rattle.links.specs.Links.{topMember, nextMember, linkWord}
+use Rattle.rules.proofs.BoolLaws.{or-split}
+use Rattle.links.specs.Links.{linkedAt, topMember, nextMember, linkWord}
 use Rattle.links.proofs.MemberOrder.{top-le, top-in, next-is}
-use Rattle.sweep.specs.Sweep.{bare}
+use Rattle.sweep.specs.Sweep.{unflagged}
 use Rattle.postponed.specs.Postponed as P
 use Rattle.collect.specs.Marks.{flagsOf, putMark}
-use Rattle.collect.specs.State.{heapFor, seen, walkAt, pending, linkAt, outsOf, Linked, State, Ready, Moved}
+use Rattle.collect.specs.State.{heapFor, walkedHeap, walkAt, pending, linkAt, Linked, State, Ready, Moved}
 use Rattle.collect.proofs.MarkLaws.{flags-put, cluster-same, out-same, view-same}
 use Rattle.collect.proofs.MoveLaws.{moved-arrive, moved-postpone, moved-unpostpone, moved-none, moved-then, moved-as}
 
 -- ---- the links
 
 -- the link words tell the same while nothing but flags changes
-link-words : (n : ℕ) (recs recs′ : List ℕ) → n ≤ length recs → bare n recs′ ≡ bare n recs → (x : ℕ) → linkWord n (outsOf n recs′) x ≡ linkWord n (outsOf n recs) x
+link-words : (n : ℕ) (recs recs′ : List ℕ) → n ≤ length recs → unflagged n recs′ ≡ unflagged n recs → (x : ℕ) → linkWord n (linkedAt true n recs′) x ≡ linkWord n (linkedAt true n recs) x
 link-words n recs recs′ long e x =
-    ap (λ (cl : ℕ → ℕ). linkWord n cl x)
-    (fun-ext (λ y. ap₂ (λ (o : Bool) (c : ℕ). cond (not o) 0 c) (out-same n recs recs′ long e y) (cluster-same n recs recs′ long e y)))
+    λ i. linkWord n (λ y. cond (not (out-same n recs recs′ long e y i)) 0 (cluster-same n recs recs′ long e y i)) x
 
 pub ready-moved : (by : Bool) (n : ℕ) (slots recs work : List ℕ) (top : ℕ) (f : Walk → Walk) (recs′ work′ : List ℕ) (top′ : ℕ) → n ≤ length recs
     → Linked by n recs work → Moved n slots recs work top f recs′ work′ top′ → Ready by n recs′ slots work′ top′
@@ -53,13 +53,13 @@ next-less n cl x p = go (within 1 n (cl x))
 
 -- what the two parts of a link word tell
 module _ (n : ℕ) (recs work : List ℕ) (most : n ≤ 4095) (l : Linked true n recs work) (x : ℕ) (b : Obj n x) where
-  pub link-top : linkAt n work x / 4096 % 4096 ≡ topMember (outsOf n recs) x n
+  pub link-top : linkAt n work x / 4096 % 4096 ≡ topMember (linkedAt true n recs) x n
   unfolding linkWord
-  link-top = omega (arith, l .links refl x b, next-less n (outsOf n recs) x (b .0), top-le (outsOf n recs) x n)
+  link-top = omega (arith, l .links refl x b, next-less n (linkedAt true n recs) x (b .0), top-le (linkedAt true n recs) x n)
 
-  pub link-next : (h : ℕ) → Obj n h → outsOf n recs x ≡ h → linkAt n work x % 4096 ≡ topMember (outsOf n recs) h (x - 1)
+  pub link-next : (h : ℕ) → Obj n h → linkedAt true n recs x ≡ h → linkAt n work x % 4096 ≡ topMember (linkedAt true n recs) h (x - 1)
   unfolding linkWord
-  link-next h ih e = omega (arith, l .links refl x b, next-is n (outsOf n recs) x h e (ih .0) (ih .1), top-le (outsOf n recs) h (x - 1))
+  link-next h ih e = omega (arith, l .links refl x b, next-is n (linkedAt true n recs) x h e (ih .0) (ih .1), top-le (linkedAt true n recs) h (x - 1))
 
 -- ---- the out members of a cluster
 
@@ -102,10 +102,10 @@ pub record Sweeping (n : ℕ) (slots recs₀ work₀ : List ℕ) (top₀ h : ℕ
   pub same : (more : List ℕ) → scanOuts (view n recs₀ slots) h x (walkAt n recs (pending n work top ++ more))
       ≡ scanOuts (view n recs₀ slots) h n (walkAt n recs₀ (pending n work₀ top₀ ++ more))
   pub ready : Ready true n recs slots work top
-  pub kept : bare n recs ≡ bare n recs₀
+  pub kept : unflagged n recs ≡ unflagged n recs₀
   pub links : (y : ℕ) → Obj n y → linkAt n work y ≡ linkAt n work₀ y
   pub within : x ≤ n
-  pub member : 1 ≤ x → outsOf n recs₀ x ≡ h
+  pub member : 1 ≤ x → linkedAt true n recs₀ x ≡ h
   pub recs-length : length recs ≡ length recs₀
   pub work-length : length work ≡ length work₀
 
@@ -118,7 +118,7 @@ module _ (n : ℕ) (slots recs₀ work₀ : List ℕ) (top₀ h : ℕ) (r₀ : R
   H = view n recs₀ slots
 
   long : n ≤ length recs₀
-  long = r₀ .state .sized .recs-long
+  long = r₀ .state .sized .room .recs-long
 
   some-head : h ≢ 0
   some-head e = absurd (omega (arith, ih .0, e))
@@ -126,8 +126,8 @@ module _ (n : ℕ) (slots recs₀ work₀ : List ℕ) (top₀ h : ℕ) (r₀ : R
   pub sweeping-here : (x : ℕ) → x ≡ linkAt n work₀ h / 4096 % 4096 → Sweeping n slots recs₀ work₀ top₀ h recs₀ work₀ top₀ x
   unfolding view
   sweeping-here x e =
-      let q : x ≡ topMember (outsOf n recs₀) h n = e ∙ link-top n recs₀ work₀ (r₀ .state .sized .most) (r₀ .linked) h ih in
-      let t = top-member (outsOf n recs₀) h n x q in
+      let q : x ≡ topMember (linkedAt true n recs₀) h n = e ∙ link-top n recs₀ work₀ (r₀ .state .sized .room .most) (r₀ .linked) h ih in
+      let t = top-member (linkedAt true n recs₀) h n x q in
       record {
         same = λ more. rw q (sym (outs-top H h some-head n (walkAt n recs₀ (pending n work₀ top₀ ++ more))));
         ready = r₀;
@@ -143,20 +143,20 @@ module _ (n : ℕ) (slots recs₀ work₀ : List ℕ) (top₀ h : ℕ) (r₀ : R
     abbrev Step : List ℕ → List ℕ → ℕ → Type 0
     Step recs′ work′ top′ = Moved n slots recs work top (scanIf (view n recs slots) true true (flagsOf n recs marked x) x) recs′ work′ top′
 
-    next-here : (recs′ work′ : List ℕ) (top′ x′ : ℕ) → Step recs′ work′ top′ → x′ ≡ linkAt n work′ x % 4096 → x′ ≡ topMember (outsOf n recs₀) h (x - 1)
+    next-here : (recs′ work′ : List ℕ) (top′ x′ : ℕ) → Step recs′ work′ top′ → x′ ≡ linkAt n work′ x % 4096 → x′ ≡ topMember (linkedAt true n recs₀) h (x - 1)
     next-here recs′ work′ top′ x′ v e =
         e ∙ ap (λ (y : ℕ). y % 4096) (v .links x (some, g .within) ∙ g .links x (some, g .within))
-        ∙ link-next n recs₀ work₀ (r₀ .state .sized .most) (r₀ .linked) x (some, g .within) h ih (g .member some)
+        ∙ link-next n recs₀ work₀ (r₀ .state .sized .room .most) (r₀ .linked) x (some, g .within) h ih (g .member some)
 
     pub sweeping-less : (recs′ work′ : List ℕ) (top′ x′ : ℕ) → Step recs′ work′ top′ → x′ ≡ linkAt n work′ x % 4096 → x′ < x
-    sweeping-less recs′ work′ top′ x′ v e = omega (arith, next-here recs′ work′ top′ x′ v e, top-le (outsOf n recs₀) h (x - 1))
+    sweeping-less recs′ work′ top′ x′ v e = omega (arith, next-here recs′ work′ top′ x′ v e, top-le (linkedAt true n recs₀) h (x - 1))
 
     pub sweeping-on : (recs′ work′ : List ℕ) (top′ x′ : ℕ) → Step recs′ work′ top′ → x′ ≡ linkAt n work′ x % 4096 → length recs′ ≡ length recs → length work′ ≡ length work
         → Sweeping n slots recs₀ work₀ top₀ h recs′ work′ top′ x′
     unfolding view
     sweeping-on recs′ work′ top′ x′ v e lr lw =
         let q = next-here recs′ work′ top′ x′ v e in
-        let t = top-member (outsOf n recs₀) h (x - 1) x′ q in
+        let t = top-member (linkedAt true n recs₀) h (x - 1) x′ q in
         record {
           same = λ more.
               ap (scanOuts H h x′) (sym (v .same more))
@@ -175,7 +175,7 @@ module _ (n : ℕ) (slots recs₀ work₀ : List ℕ) (top₀ h : ℕ) (r₀ : R
         same-heap = view-same n recs₀ recs long (g .kept) slots
 
         -- one turn of the definition
-        turned : (more : List ℕ) (k : ℕ) → x ≡ suc k → x′ ≡ topMember (outsOf n recs₀) h k → (isOut (recOf n recs₀ x) ≡ true) × (cluster (recOf n recs₀ x) ≡ h)
+        turned : (more : List ℕ) (k : ℕ) → x ≡ suc k → x′ ≡ topMember (linkedAt true n recs₀) h k → (isOut (recOf n recs₀ x) ≡ true) × (cluster (recOf n recs₀ x) ≡ h)
             → scanOuts H h x′ (scanIf (view n recs slots) true true (flagsOf n recs marked x) x (walkAt n recs (pending n work top ++ more)))
             ≡ scanOuts H h x (walkAt n recs (pending n work top ++ more))
         turned more k ex q c =
@@ -218,7 +218,7 @@ module _ (n : ℕ) (recs slots work : List ℕ) (top : ℕ) (s : State n recs sl
   head-passed e = moved-none n slots recs work top _ (λ todo. rw e refl) s
 
   pub ready-reach : Linked true n recs work → Ready true n (putMark reached o true recs) slots work top
-  ready-reach l = ready-moved true n slots recs work top _ _ work top (s .sized .recs-long) l (moved-arrive n recs slots work top s o io)
+  ready-reach l = ready-moved true n slots recs work top _ _ work top (s .sized .room .recs-long) l (moved-arrive n recs slots work top s o io)
 
   pub head-reached : flagsOf n recs reached o ≡ false → (recs′ work′ : List ℕ) (top′ : ℕ)
       → Moved n slots (putMark reached o true recs) work top (scanOuts (view n (putMark reached o true recs) slots) o n) recs′ work′ top′
@@ -228,29 +228,39 @@ module _ (n : ℕ) (recs slots work : List ℕ) (top : ℕ) (s : State n recs sl
       let a = moved-arrive n recs slots work top s o io in
       let v′ : Moved n slots (putMark reached o true recs) work top (scanOuts (view n recs slots) o n) recs′ work′ top′
       = subst (λ (H : Heap). Moved n slots (putMark reached o true recs) work top (scanOuts H o n) recs′ work′ top′)
-      (view-same n recs (putMark reached o true recs) (s .sized .recs-long) (a .kept) slots) v in
+      (view-same n recs (putMark reached o true recs) (s .sized .room .recs-long) (a .kept) slots) v in
       moved-as n slots recs work top _ _ recs′ work′ top′ (λ todo. rw e refl)
       (moved-then n slots recs work top (arrive (view n recs slots) o) (scanOuts (view n recs slots) o n) _ _ _ recs′ work′ top′ a v′)
 
   -- ---- another member
 
-  pub member-marked : flagsOf n recs marked o ≡ true → Moved n slots recs work top
-      (visitBy (view n recs slots) false false (flagsOf n recs marked o) (flagsOf n recs reached (cluster (recOf n recs o))) o) recs work top
-  unfolding visitBy
-  member-marked e = moved-none n slots recs work top _ (λ todo. rw e refl) s
+  abbrev member-visit : Walk → Walk
+  member-visit = visitBy (view n recs slots) false false (flagsOf n recs marked o) (flagsOf n recs reached (cluster (recOf n recs o))) o
 
-  pub member-reached : flagsOf n recs marked o ≡ false → flagsOf n recs reached (cluster (recOf n recs o)) ≡ true → Moved n slots recs work top
-      (visitBy (view n recs slots) false false (flagsOf n recs marked o) (flagsOf n recs reached (cluster (recOf n recs o))) o) recs work top
-  unfolding visitBy
-  member-reached e r = moved-none n slots recs work top _ (λ todo. rw (e, r) refl) s
+  abbrev waits-not : Bool
+  waits-not = flagsOf n recs marked o || flagsOf n recs reached (cluster (recOf n recs o))
 
-  pub member-later : flagsOf n recs marked o ≡ false → flagsOf n recs reached (cluster (recOf n recs o)) ≡ false → (work′ : List ℕ)
-      → work′ ≡ P.put n o true work → length work′ ≡ length work → Moved n slots recs work top
-      (visitBy (view n recs slots) false false (flagsOf n recs marked o) (flagsOf n recs reached (cluster (recOf n recs o))) o)
-      (putMark postponed o true recs) work′ top
+  pub member-settled : (t : Bool) → t ≡ waits-not → t ≡ true → Moved n slots recs work top member-visit recs work top
   unfolding visitBy
-  member-later e r work′ p q =
-      moved-as n slots recs work top _ _ _ work′ top (λ todo. rw (e, r) refl) (moved-postpone n recs slots work top s o io work′ p q)
+  member-settled t is e = moved-none n slots recs work top _ (λ todo. at (flagsOf n recs marked o) (flagsOf n recs reached (cluster (recOf n recs o))) (sym is ∙ e) (walkAt n recs todo)) s
+    where
+      at : (a b : Bool) → (a || b) ≡ true → (w : Walk) → visitBy (view n recs slots) false false a b o w ≡ w
+      at true b q w = refl
+      at false true q w = refl
+      at false false q w = absurd (true≢false (sym q))
+
+  pub member-later : (t : Bool) → t ≡ waits-not → t ≡ false → (work′ : List ℕ) → work′ ≡ P.put n o true work → length work′ ≡ length work
+      → Moved n slots recs work top member-visit (putMark postponed o true recs) work′ top
+  unfolding visitBy
+  member-later t is e work′ p q =
+      moved-as n slots recs work top _ _ _ work′ top
+      (λ todo. at (flagsOf n recs marked o) (flagsOf n recs reached (cluster (recOf n recs o))) (sym is ∙ e) (walkAt n recs todo))
+      (moved-postpone n recs slots work top s o io work′ p q)
+    where
+      at : (a b : Bool) → (a || b) ≡ false → (w : Walk) → visitBy (view n recs slots) false false a b o w ≡ postpone (view n recs slots) o w
+      at true b q w = absurd (true≢false q)
+      at false true q w = absurd (true≢false q)
+      at false false q w = refl
 
 -- ---- a visit where clusters are walked or not
 
@@ -266,14 +276,14 @@ by-true false c h = absurd (h refl)
 
 module _ (by : Bool) (n : ℕ) (recs slots work : List ℕ) (top : ℕ) (o : ℕ) (c : ℕ) (is : c ≡ cond by (cluster (recOf n recs o)) 0) where
   -- an object of no cluster
-  free-is : (b m r : Bool) (w : Walk) → visitBy (seen by n recs slots) true b m r o w ≡ scanIf (view n recs slots) true true m o w
+  free-is : (b m r : Bool) (w : Walk) → visitBy (walkedHeap by n recs slots) true b m r o w ≡ scanIf (view n recs slots) true true m o w
   unfolding visitBy scanIf scan
   free-is b true r w = refl
   free-is b false r w = refl
 
   pub visit-free : c ≡ 0 → (recs′ work′ : List ℕ) (top′ : ℕ)
       → Moved n slots recs work top (scanIf (view n recs slots) true true (flagsOf n recs marked o) o) recs′ work′ top′
-      → Moved n slots recs work top (visit (seen by n recs slots) o) recs′ work′ top′
+      → Moved n slots recs work top (visit (walkedHeap by n recs slots) o) recs′ work′ top′
   unfolding visit view
   visit-free e recs′ work′ top′ v =
       moved-as n slots recs work top _ _ recs′ work′ top′
@@ -286,7 +296,7 @@ module _ (by : Bool) (n : ℕ) (recs slots work : List ℕ) (top : ℕ) (o : ℕ
 
     pub visit-head : c ≡ o → (recs′ work′ : List ℕ) (top′ : ℕ)
         → Moved n slots recs work top (visitBy (view n recs slots) false true (flagsOf n recs marked o) (flagsOf n recs reached o) o) recs′ work′ top′
-        → Moved n slots recs work top (visit (seen by n recs slots) o) recs′ work′ top′
+        → Moved n slots recs work top (visit (walkedHeap by n recs slots) o) recs′ work′ top′
     unfolding visit view
     visit-head e recs′ work′ top′ v =
         let k : cluster (recOf n recs o) ≡ o = sym (ap (λ (b : Bool). cond b (cluster (recOf n recs o)) 0) walks-clusters) ∙ sym is ∙ e in
@@ -296,7 +306,7 @@ module _ (by : Bool) (n : ℕ) (recs slots work : List ℕ) (top : ℕ) (o : ℕ
     pub visit-member : c ≢ o → (recs′ work′ : List ℕ) (top′ : ℕ)
         → Moved n slots recs work top
         (visitBy (view n recs slots) false false (flagsOf n recs marked o) (flagsOf n recs reached (cluster (recOf n recs o))) o) recs′ work′ top′
-        → Moved n slots recs work top (visit (seen by n recs slots) o) recs′ work′ top′
+        → Moved n slots recs work top (visit (walkedHeap by n recs slots) o) recs′ work′ top′
     unfolding visit view
     visit-member d recs′ work′ top′ v =
         let k : c ≡ cluster (recOf n recs o) = is ∙ ap (λ (b : Bool). cond b (cluster (recOf n recs o)) 0) walks-clusters in
@@ -341,17 +351,17 @@ module _
     abbrev settled : Bool
     settled = flagsOf n recs marked o || flagsOf n recs reached (cond by (cluster (recOf n recs o)) 0)
 
-    pub take-dropped : settled ≡ true → Moved n slots recs work top (take (seen by n recs slots) o) (putMark postponed o false recs) work₁ top
+    pub take-dropped : (t : Bool) → t ≡ settled → t ≡ true → Moved n slots recs work top (take (walkedHeap by n recs slots) o) (putMark postponed o false recs) work₁ top
     unfolding takeBy unpostpone view
-    take-dropped e =
+    take-dropped t is e =
         moved-as n slots recs work top (unpostpone (view n recs slots) o) _ _ _ _
         (λ todo.
-        take-is (seen by n recs slots) o (walkAt n recs todo) (io .0)
-        ∙ at (flagsOf n recs marked o) (flagsOf n recs reached (cond by (cluster (recOf n recs o)) 0)) e todo)
+        take-is (walkedHeap by n recs slots) o (walkAt n recs todo) (io .0)
+        ∙ at (flagsOf n recs marked o) (flagsOf n recs reached (cond by (cluster (recOf n recs o)) 0)) (sym is ∙ e) todo)
         (moved-unpostpone n recs slots work top s o io work₁ p e₁)
       where
         at : (a b : Bool) → (a || b) ≡ true → (todo : List ℕ)
-            → takeBy (seen by n recs slots) a b o (unpostpone (seen by n recs slots) o (walkAt n recs todo)) ≡ unpostpone (view n recs slots) o (walkAt n recs todo)
+            → takeBy (walkedHeap by n recs slots) a b o (unpostpone (walkedHeap by n recs slots) o (walkAt n recs todo)) ≡ unpostpone (view n recs slots) o (walkAt n recs todo)
         at true b q todo = refl
         at false true q todo = refl
         at false false q todo = absurd (true≢false (sym q))
@@ -359,40 +369,33 @@ module _
     pub state-taken : State n (putMark postponed o false recs) slots work₁ top
     state-taken = moved-unpostpone n recs slots work top s o io work₁ p e₁ .state
 
-    left-false : (a b : Bool) → (a || b) ≡ false → a ≡ false
-    left-false true b q = q
-    left-false false b q = refl
-
-    pub still-unmarked : settled ≡ false → flagsOf n (putMark postponed o false recs) marked o ≡ false
-    still-unmarked e =
-        ap (λ (t : Flags). t marked o) (flags-put n recs postponed o false (s .sized .recs-long) io)
+    pub still-unmarked : (t : Bool) → t ≡ settled → t ≡ false → flagsOf n (putMark postponed o false recs) marked o ≡ false
+    still-unmarked t is e =
+        ap (λ (t : Flags). t marked o) (flags-put n recs postponed o false (s .sized .room .recs-long) io)
         ∙ setFlag-apart (flagsOf n recs) postponed o false marked o postponed≢marked
-        ∙ left-false (flagsOf n recs marked o) (flagsOf n recs reached (cond by (cluster (recOf n recs o)) 0)) e
+        ∙ or-split (flagsOf n recs marked o) (flagsOf n recs reached (cond by (cluster (recOf n recs o)) 0)) (sym is ∙ e) .0
 
-    pub take-scanned : settled ≡ false → (recs′ work′ : List ℕ) (top′ : ℕ)
+    pub take-scanned : (t : Bool) → t ≡ settled → t ≡ false → (recs′ work′ : List ℕ) (top′ : ℕ)
         → Moved n slots (putMark postponed o false recs) work₁ top (scan (view n (putMark postponed o false recs) slots) o) recs′ work′ top′
-        → Moved n slots recs work top (take (seen by n recs slots) o) recs′ work′ top′
+        → Moved n slots recs work top (take (walkedHeap by n recs slots) o) recs′ work′ top′
     unfolding takeBy unpostpone view
-    take-scanned e recs′ work′ top′ v =
+    take-scanned t is e recs′ work′ top′ v =
         let a = moved-unpostpone n recs slots work top s o io work₁ p e₁ in
         let v′ : Moved n slots (putMark postponed o false recs) work₁ top (scan (view n recs slots) o) recs′ work′ top′
         = subst (λ (H : Heap). Moved n slots (putMark postponed o false recs) work₁ top (scan H o) recs′ work′ top′)
-        (view-same n recs (putMark postponed o false recs) (s .sized .recs-long) (a .kept) slots) v in
+        (view-same n recs (putMark postponed o false recs) (s .sized .room .recs-long) (a .kept) slots) v in
         moved-as n slots recs work top (λ w. scan (view n recs slots) o (unpostpone (view n recs slots) o w)) _ _ _ _
         (λ todo.
-        take-is (seen by n recs slots) o (walkAt n recs todo) (io .0)
-        ∙ at (flagsOf n recs marked o) (flagsOf n recs reached (cond by (cluster (recOf n recs o)) 0)) e todo)
+        take-is (walkedHeap by n recs slots) o (walkAt n recs todo) (io .0)
+        ∙ at (flagsOf n recs marked o) (flagsOf n recs reached (cond by (cluster (recOf n recs o)) 0)) (sym is ∙ e) todo)
         (moved-then n slots recs work top (unpostpone (view n recs slots) o) (scan (view n recs slots) o) _ _ _ recs′ work′ top′ a v′)
       where
-        same-scan : (w : Walk) → scan (seen by n recs slots) o w ≡ scan (view n recs slots) o w
-        same-scan w = scan-seen by (view n recs slots) o w
-
         at : (a b : Bool) → (a || b) ≡ false → (todo : List ℕ)
-            → takeBy (seen by n recs slots) a b o (unpostpone (seen by n recs slots) o (walkAt n recs todo))
+            → takeBy (walkedHeap by n recs slots) a b o (unpostpone (walkedHeap by n recs slots) o (walkAt n recs todo))
             ≡ scan (view n recs slots) o (unpostpone (view n recs slots) o (walkAt n recs todo))
         at true b q todo = absurd (true≢false q)
         at false true q todo = absurd (true≢false q)
-        at false false q todo = same-scan (unpostpone (view n recs slots) o (walkAt n recs todo))
+        at false false q todo = scan-seen by (view n recs slots) o (unpostpone (view n recs slots) o (walkAt n recs todo))
 
 -- ---- a test of two parts
 

@@ -7,6 +7,7 @@ use Rattle.layout.specs.Field.{flag, putFlag}
 use Rattle.graph.specs.Trace.{Flag, marked, postponed, reached, Flags}
 use Rattle.rules.specs.Buffers.{recOf}
 
+-- the bit of each flag
 abbrev pub bitOf : Flag → ℕ
 bitOf marked = 4
 bitOf postponed = 5
@@ -17,5 +18,5 @@ unfoldable pub flagsOf : ℕ → List ℕ → Flags
 flagsOf n recs f x = flag (bitOf f) (recOf n recs x)
 
 -- flag f of object x becomes b
-unfoldable pub putMark : Flag → ℕ → Bool → List ℕ → List ℕ
+abbrev pub putMark : Flag → ℕ → Bool → List ℕ → List ℕ
 putMark f x b recs = set recs (x - 1) (putFlag (bitOf f) b (getD recs (x - 1) 0))

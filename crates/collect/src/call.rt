@@ -1,55 +1,27 @@
 // A collection of either kind: the tests, the walk, the sweep. `by` tells whether clusters are walked.
 ghost use mathlib.Core.Path.{_≡_};
-ghost use mathlib.Core.Bool.{true, cond};
+ghost use mathlib.Core.Bool.{cond};
+ghost use Prim.Native.Nat.{_≤_};
+ghost use lib.ListN.{length};
+ghost use Rattle.layout.specs.Limits.{mapLen};
 ghost use Rattle.layout.specs.Refusal.{first};
-ghost use Rattle.rules.specs.WellFormed.{wellFormed};
+ghost use Rattle.rules.specs.View.{startsIn};
 ghost use Rattle.rules.specs.Collect as Collect;
+ghost use Rattle.table.specs.Room.{Accepted};
 ghost use Rattle.sweep.specs.Sweep.{markedCount, membersMarked};
-ghost use Rattle.collect.specs.State.{Traceable};
-ghost use Rattle.collect.specs.Call.{kindOf, tooShort, Accepted, walked, Kept};
+ghost use Rattle.collect.specs.Call.{kindOf, walked, Kept};
 use crate::walk::trace;
 use layout::answers::Collected;
 use layout::answers::Control;
 use layout::limits::map_len;
-use layout::limits::slots_len;
 use layout::limits::work_len;
-use layout::refusals::BAD_CONTROL;
-use layout::refusals::DAMAGED;
-use layout::refusals::TOO_SHORT;
-use layout::refusals::bad_control;
 use sweep::count_marked;
 use sweep::mark_members;
 use sweep::sweep;
 use table::buffers::zero;
-use table::check::well_formed;
+use table::check::heap_refusal;
 
 // ---- the tests
-
-// Whether a slice is too short.
-fn too_short(
-    c: Control,
-    records: &[u32],
-    slots: &[u32],
-    roots: &[u32],
-    work: &[u32],
-    map: &[u64],
-) -> bool
-    ensures { λ b. ⌜ b ≡ tooShort c (now (records .entry)) (now (slots .entry)) (now (roots .entry)) (now (work .entry)) (now (map .entry)) ⌝ }
-{
-    if records.len() < c.n as usize {
-        return true;
-    }
-    if slots.len() < slots_len(c.n) {
-        return true;
-    }
-    if roots.len() < c.r as usize {
-        return true;
-    }
-    if work.len() < work_len(c.n) {
-        return true;
-    }
-    map.len() < map_len(c.n)
-}
 
 // The number of the first test that holds, 0 where none does.
 fn refusal_of(
@@ -60,19 +32,11 @@ fn refusal_of(
     work: &[u32],
     map: &[u64],
 ) -> u32
-    ensures { λ k. ⌜ k ≡ first (Collect.collectTests Collect.plainly c
+    ensures { λ k. ⌜ k ≡ first (Collect.collectTests c
         (now (records .entry)) (now (slots .entry)) (now (roots .entry)) (now (work .entry)) (now (map .entry))) ⌝ }
 {
-    if bad_control(c) {
-        return BAD_CONTROL;
-    }
-    if too_short(c, records, slots, roots, work, map) {
-        return TOO_SHORT;
-    }
-    if well_formed(c.n, c.r, records, slots, roots) {
-        return 0;
-    }
-    DAMAGED
+    let rest = (work.len() < work_len(c.n)) | (map.len() < map_len(c.n));
+    heap_refusal(c, records, slots, roots, rest)
 }
 
 // ---- an accepted heap
@@ -90,20 +54,19 @@ fn mark_reached(by: bool, n: u32, records: &mut [u32])
 // Walks the heap and marks what is kept; answers how many objects were scanned.
 fn mark_kept(
     by: bool,
-    n: u32,
-    r: u32,
+    c: Control,
     records: &mut [u32],
     slots: &[u32],
     roots: &[u32],
     work: &mut [u32],
 ) -> u32
-    requires { ⌜ Traceable n r (now records) (now slots) (now roots) (now work) ⌝ }
-    requires { ⌜ wellFormed n r (now records) (now slots) (now roots) ≡ true ⌝ }
-    ensures { λ k. ⌜ Kept by n r (now (records .entry)) (now (slots .entry)) (now (roots .entry)) (now (records .exit)) k ⌝ }
+    requires { ⌜ Accepted c (now records) (now slots) (now roots) (now work) ⌝ }
+    ensures { λ k. ⌜ Kept by (c .n) (startsIn (c .n) (c .r) (now (records .entry)) (now (slots .entry)) (now (roots .entry)))
+        (now (records .entry)) (now (slots .entry)) (now (records .exit)) k ⌝ }
 {
-    trace(by, n, r, records, slots, roots, work);
-    let scanned = count_marked(n, records);
-    mark_reached(by, n, records);
+    trace(by, c.n, c.r, records, slots, roots, work);
+    let scanned = count_marked(c.n, records);
+    mark_reached(by, c.n, records);
     scanned
 }
 
@@ -126,13 +89,14 @@ fn collect_accepted(
     work: &mut [u32],
     map: &mut [u64],
 ) -> Collected
-    requires { ⌜ Accepted c (now records) (now slots) (now roots) (now work) (now map) ⌝ }
+    requires { ⌜ Accepted c (now records) (now slots) (now roots) (now work) ⌝ }
+    requires { ⌜ mapLen (c .n) ≤ length (now map) ⌝ }
     ensures { λ a. ⌜ Collect.gives a (now (records .exit)) (now (slots .exit)) (now (work .exit)) (now (map .exit))
-        ≡ Collect.sweep (kindOf by) c (now (records .entry)) (now (slots .entry)) (now (roots .entry)) (now (work .entry)) (now (map .entry))
-        (walked by (c .n) (c .r) (now (records .entry)) (now (slots .entry)) (now (roots .entry))) ⌝ }
+        ≡ Collect.afterWalk c (now (records .entry)) (now (slots .entry)) (now (work .entry)) (now (map .entry))
+        (walked by (c .n) (startsIn (c .n) (c .r) (now (records .entry)) (now (slots .entry)) (now (roots .entry))) (now (records .entry)) (now (slots .entry))) ⌝ }
 {
     let k = work_len(c.n);
-    let scanned = mark_kept(by, c.n, c.r, records, slots, roots, &mut work[0..k]);
+    let scanned = mark_kept(by, c, records, slots, roots, &mut work[0..k]);
     let kept = count_kept(by, c.n, scanned, records);
     let freed = sweep(c.n, records, slots, map);
     zero(work, k);

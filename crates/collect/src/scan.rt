@@ -1,12 +1,13 @@
 // The pending objects, and the scan of an object. Pending are the work words from `top` up to 8 n, the next one first.
 ghost use mathlib.Core.Path.{_≡_};
 ghost use mathlib.Core.Bool.{true, false};
-ghost use lib.ListN.{take, drop};
+ghost use Prim.Native.Nat.{_*_, _≤_};
+ghost use lib.ListN.{length, take, drop};
 ghost use Rattle.graph.specs.Numbers.{Obj};
 ghost use Rattle.graph.specs.Trace as T;
 ghost use Rattle.rules.specs.View.{view};
 ghost use Rattle.collect.specs.Marks.{flagsOf};
-ghost use Rattle.collect.specs.State.{named, linkAt, Pushable, Pushed, HasLink, State, Ready, Moved};
+ghost use Rattle.collect.specs.State.{pointersIn, linkAt, Pushable, Pushed, State, Ready, Moved};
 use crate::marks::mark;
 use layout::limits::within;
 use links::next_member;
@@ -25,7 +26,7 @@ fn push_pointers(
     top: usize,
 ) -> usize
     requires { ⌜ Pushable n (now slots) from k (now work) top ⌝ }
-    ensures { λ r. ⌜ Pushed (named n (take k (drop from (now (slots .entry))))) (now (work .entry)) top (now (work .exit)) r ⌝ }
+    ensures { λ r. ⌜ Pushed (pointersIn n (take k (drop from (now (slots .entry))))) (now (work .entry)) top (now (work .exit)) r ⌝ }
 {
     let mut at = top;
     let mut j = k;
@@ -84,7 +85,7 @@ pub(crate) fn scan_unmarked(
 
 // The link word of object x.
 fn link_of(n: u32, work: &[u32], x: u32) -> u32
-    requires { ⌜ HasLink n x (now work) ⌝ }
+    requires { ⌜ Obj n x × (9 * n ≤ length (now work)) ⌝ }
     ensures { λ r. ⌜ r ≡ linkAt n (now (work .entry)) x ⌝ }
 {
     work[8 * (n as usize) + (x as usize - 1)]

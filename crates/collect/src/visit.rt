@@ -10,7 +10,7 @@ ghost use Rattle.graph.specs.Trace as T;
 ghost use Rattle.rules.specs.Buffers.{recOf};
 ghost use Rattle.rules.specs.View.{view};
 ghost use Rattle.collect.specs.Marks.{flagsOf};
-ghost use Rattle.collect.specs.State.{seen, State, Ready, Moved, MemberVisited};
+ghost use Rattle.collect.specs.State.{walkedHeap, State, Ready, Moved, MemberVisited};
 use crate::marks::postpone;
 use crate::marks::reach;
 use crate::scan::scan;
@@ -31,6 +31,17 @@ fn cluster_seen(by: bool, n: u32, x: u32, records: &[u32]) -> u32
     } else {
         0
     }
+}
+
+// Whether object x is marked, or its cluster reached: it need not wait.
+fn is_settled(by: bool, n: u32, x: u32, records: &[u32]) -> bool
+    ensures { λ t. ⌜ t ≡ (flagsOf n (now (records .entry)) T.marked x
+        || flagsOf n (now (records .entry)) T.reached (cond by (cluster (recOf n (now (records .entry)) x)) 0)) ⌝ }
+{
+    if is_marked(record_of(n, x, records)) {
+        return true;
+    }
+    is_reached(record_of(n, cluster_seen(by, n, x, records), records))
 }
 
 // Visits h, the head of its cluster.
@@ -61,11 +72,7 @@ fn visit_member(n: u32, records: &mut [u32], work: &mut [u32], x: u32)
     requires { ⌜ (n ≤ length (now records)) × Obj n x ⌝ }
     ensures { λ _. ⌜ MemberVisited n x (now (records .entry)) (now (work .entry)) (now (records .exit)) (now (work .exit)) ⌝ }
 {
-    let r = record_of(n, x, records);
-    if is_marked(r) {
-        return;
-    }
-    if is_reached(record_of(n, cluster_of(r), records)) {
+    if is_settled(true, n, x, records) {
         return;
     }
     postpone(records, x, true);
@@ -85,7 +92,7 @@ pub(crate) fn visit(
     requires { ⌜ Ready by n (now records) (now slots) (now work) top ⌝ }
     requires { ⌜ Obj n x ⌝ }
     ensures { λ r. ⌜ Moved n (now (slots .entry)) (now (records .entry)) (now (work .entry)) top
-        (T.visit (seen by n (now (records .entry)) (now (slots .entry))) x)
+        (T.visit (walkedHeap by n (now (records .entry)) (now (slots .entry))) x)
         (now (records .exit)) (now (work .exit)) r ⌝ }
 {
     let c = cluster_seen(by, n, x, records);
@@ -123,7 +130,7 @@ pub(crate) fn visit_pending(
     requires { ⌜ Ready by n (now records) (now slots) (now work) top ⌝ }
     requires { ⌜ Obj n x ⌝ }
     ensures { λ r. ⌜ Moved n (now (slots .entry)) (now (records .entry)) (now (work .entry)) top
-        (T.visit (seen by n (now (records .entry)) (now (slots .entry))) x)
+        (T.visit (walkedHeap by n (now (records .entry)) (now (slots .entry))) x)
         (now (records .exit)) (now (work .exit)) r ⌝ }
 {
     if is_scanned(by, n, x, records) {
@@ -133,17 +140,6 @@ pub(crate) fn visit_pending(
         return scan_unmarked(n, records, slots, work, top, x);
     }
     visit(by, n, records, slots, work, top, x)
-}
-
-// Whether the postponed object x is marked by now, or its cluster reached.
-fn is_settled(by: bool, n: u32, x: u32, records: &[u32]) -> bool
-    ensures { λ t. ⌜ t ≡ (flagsOf n (now (records .entry)) T.marked x
-        || flagsOf n (now (records .entry)) T.reached (cond by (cluster (recOf n (now (records .entry)) x)) 0)) ⌝ }
-{
-    if is_marked(record_of(n, x, records)) {
-        return true;
-    }
-    is_reached(record_of(n, cluster_seen(by, n, x, records), records))
 }
 
 // Takes up the postponed object x, where nothing is pending: it is dropped or scanned.
@@ -158,7 +154,7 @@ pub(crate) fn take_up(
     requires { ⌜ State n (now records) (now slots) (now work) (8 * n) ⌝ }
     requires { ⌜ Obj n x ⌝ }
     ensures { λ r. ⌜ Moved n (now (slots .entry)) (now (records .entry)) (now (work .entry)) (8 * n)
-        (T.take (seen by n (now (records .entry)) (now (slots .entry))) x)
+        (T.take (walkedHeap by n (now (records .entry)) (now (slots .entry))) x)
         (now (records .exit)) (now (work .exit)) r ⌝ }
 {
     let settled = is_settled(by, n, x, records);

@@ -4,12 +4,13 @@ ghost use mathlib.Core.Bool.{cond};
 ghost use mathlib.Core.List.{[], _∷_};
 ghost use Prim.Native.Nat.{_*_, _≤_};
 ghost use lib.ListN.{length, take};
+ghost use Rattle.layout.specs.Limits.{objectMax};
 ghost use Rattle.records.specs.Record.{isSink};
 ghost use Rattle.graph.specs.Numbers.{Obj, gather};
 ghost use Rattle.graph.specs.Heap.{pointers};
 ghost use Rattle.rules.specs.Buffers.{recOf};
-ghost use Rattle.rules.specs.View.{view};
-ghost use Rattle.collect.specs.State.{pending, Objects, Linkable, Linked, Ready, Followed, Drained, Retaken, Finished, lowestLater, Traceable, TracedIn};
+ghost use Rattle.rules.specs.View.{view, startsIn};
+ghost use Rattle.collect.specs.State.{pending, Objects, Linked, Ready, Followed, Drained, Retaken, Finished, lowestPostponed, Traceable, Walked};
 use crate::visit::take_up;
 use crate::visit::visit;
 use crate::visit::visit_pending;
@@ -108,7 +109,7 @@ fn follow_sinks(by: bool, n: u32, records: &mut [u32], slots: &[u32], work: &mut
 // Takes up the lowest postponed object x and visits what it leads to.
 fn follow_lowest(by: bool, n: u32, records: &mut [u32], slots: &[u32], work: &mut [u32], x: u32)
     requires { ⌜ Ready by n (now records) (now slots) (now work) (8 * n) ⌝ }
-    requires { ⌜ (x ≡ lowestLater n (now records)) × (1 ≤ x) ⌝ }
+    requires { ⌜ (x ≡ lowestPostponed n (now records)) × (1 ≤ x) ⌝ }
     ensures { λ _. ⌜ Retaken by n (now (slots .entry)) (now (records .entry)) (now (records .exit)) (now (work .exit)) ⌝ }
 {
     let top = take_up(by, n, records, slots, work, x);
@@ -129,7 +130,7 @@ fn follow_postponed(by: bool, n: u32, records: &mut [u32], slots: &[u32], work: 
 
 // Writes the links of the clusters, where they are walked.
 fn link_clusters(by: bool, n: u32, records: &[u32], work: &mut [u32])
-    requires { ⌜ Linkable n (now records) (now work) ⌝ }
+    requires { ⌜ (n ≤ objectMax) × (n ≤ length (now records)) × (9 * n ≤ length (now work)) ⌝ }
     ensures { λ _. ⌜ Linked by n (now (records .entry)) (now (work .exit)) ⌝ }
 {
     if !by {
@@ -149,8 +150,10 @@ pub(crate) fn trace(
     roots: &[u32],
     work: &mut [u32],
 )
-    requires { ⌜ Traceable n r (now records) (now slots) (now roots) (now work) ⌝ }
-    ensures { λ _. ⌜ TracedIn by n r (now (records .entry)) (now (slots .entry)) (now (roots .entry)) (now (records .exit)) ⌝ }
+    requires { ⌜ Traceable n (startsIn n r (now records) (now slots) (now roots)) (now records) (now slots) (now work) ⌝ }
+    requires { ⌜ r ≤ length (now roots) ⌝ }
+    ensures { λ _. ⌜ Walked by n (startsIn n r (now (records .entry)) (now (slots .entry)) (now (roots .entry)))
+        (now (records .entry)) (now (slots .entry)) (now (records .exit)) ⌝ }
 {
     link_clusters(by, n, records, work);
     clear(work, 9 * (n as usize), work_len(n));

@@ -4,21 +4,23 @@
 use Prim.Native.Nat.{ℕ, zero, suc, _+_, _*_, _≤_, _<_}
 use mathlib.Core.Path.{_≡_, refl, sym, ap, _∙_, subst}
 use mathlib.Core.Bool.{Bool, true, false, cond, _&&_, _||_, true≢false}
-use mathlib.Core.List.{List, [], _∷_, _++_, append-assoc, List·Memᴰ, List·Memᴰ·append-cases, List·Memᴰ·eq-of-singleton}
+use mathlib.Core.List.{List, [], _∷_, _++_, append-assoc, List·Memᴰ, cons≢nil}
 use mathlib.Core.Logic.{_≢_, _⊎_, inl, inr}
-use native.Mathlib.Nat.{zero-add, le-refl, le-of-lt, le-trans}
+use native.Mathlib.Nat.{zero-add, le-refl, le-of-lt}
 use native.Mathlib.Omega.{arith}
 use lib.Dec.{eqb}
 use lib.ListN.{length, length-append}
 use borrow.Author.Tests.{eqb-true}
-use Rattle.graph.specs.Numbers.{Obj, upd, sum, gather}
+use Rattle.graph.specs.Numbers.{Obj, upd, sum}
 use Rattle.graph.specs.Heap.{Heap, starts}
 use Rattle.graph.specs.Run as Run
 use Rattle.graph.specs.Run.{run}
 use Rattle.graph.specs.Analysis.{Item, Work, items, Visit, skip, older, alone, join, head, kind, visitsOfCluster, pushed, seenBy, clBy, act, visit, step, begin, needed, finish}
-use Rattle.graph.proofs.NumberLaws.{upd-same, upd-other, sum-bound, sum-most, sum-mono, sum-bump, sum-add, length-gather, gather-from}
+use Rattle.graph.specs.Invariant.{Ready, Inv}
+use Rattle.graph.proofs.NumberLaws.{upd-same, upd-other, sum-most, sum-mono, sum-bump, sum-add, length-gather}
 use Rattle.graph.proofs.RunLaws as Runs
-use Rattle.graph.proofs.AnalysisInv.{Facts, facts, not-nil, all-items, all-front, Ready, Inv, acts, size-none, in-range}
+pub use Rattle.graph.proofs.ReachLaws.{starts-range}
+use Rattle.graph.proofs.AnalysisInv.{Facts, facts, all-items, all-front, acts, size-none, in-range}
 
 -- ---- the invariant holds throughout
 
@@ -48,21 +50,6 @@ begin-inv H limit from R h = record {
   range = R .range;
   small = λ c p e. let a = size-none H (H .cluster) c (R .heads) e p in omega arith;
 }
-
--- what holds of the roots and of the sinks holds of the starts
-pub starts-all : (Q : ℕ → Type 0) (H : Heap) (roots : List ℕ) → ((k : ℕ) → List·Memᴰ k roots → Q k)
-    → ((x : ℕ) → Obj (H .n) x → H .sink x ≡ true → Q x) → (k : ℕ) → List·Memᴰ k (starts H roots) → Q k
-unfolding starts
-starts-all Q H roots r s k m = go (List·Memᴰ·append-cases roots m)
-  where
-    go : List·Memᴰ k roots ⊎ List·Memᴰ k (gather (H .n) (H .sink) (λ x. x ∷ [])) → Q k
-    go (inl a) = r k a
-    go (inr a) =
-        let t = gather-from (H .n) (H .sink) (λ x. x ∷ []) k a in
-        subst Q (sym (List·Memᴰ·eq-of-singleton (t .3))) (s (t .0) (t .1) (t .2))
-
-pub starts-range : (H : Heap) (roots : List ℕ) → ((k : ℕ) → List·Memᴰ k roots → k ≤ H .n) → (k : ℕ) → List·Memᴰ k (starts H roots) → k ≤ H .n
-starts-range H roots h = starts-all (λ k. k ≤ H .n) H roots h (λ x b e. b .1)
 
 -- ---- the measure
 
@@ -164,7 +151,7 @@ step-still H limit w e = go (w .todo) e
   where
     go : (l : List Item) → l ≡ [] → visit H limit (w .seen) (w .cl) l ≡ record { todo = l; seen = w .seen; cl = w .cl }
     go [] e = refl
-    go (i ∷ l) e = absurd (not-nil e)
+    go (i ∷ l) e = absurd (cons≢nil e)
 
 module _ (H : Heap) (limit : ℕ) (R : Ready H) (p : 1 ≤ limit) where
   -- a step with a visit to make lowers the steps needed
@@ -199,21 +186,10 @@ module _ (H : Heap) (limit : ℕ) (R : Ready H) (p : 1 ≤ limit) where
       go v [] J q = q
       go v (i ∷ rest) J q = h (v .seen) (v .cl) i rest J q _ (facts H limit (v .seen) (v .cl) (i .obj) (i .passed))
 
-  -- with so many steps no visit is left to make
-  pub run-ends : (k : ℕ) (w : Work) → Inv H limit w → needed H w ≤ k → run (step H limit) k w .todo ≡ []
-  run-ends k w I le =
-      Runs.run-ends (step H limit) (needed H) (Inv H limit) (λ v. v .todo ≡ []) (step-inv H limit R p) (step-still H limit) step-falls k w I le
-
   pub finish-ends : (w : Work) → Inv H limit w → finish H limit w .todo ≡ []
   unfolding finish
   finish-ends w I =
       Runs.finish-ends (step H limit) (needed H) (Inv H limit) (λ v. v .todo ≡ []) (step-inv H limit R p) (step-still H limit) step-falls w I
-
-  -- more steps change nothing
-  pub enough : (k : ℕ) (w : Work) → Inv H limit w → needed H w ≤ k → run (step H limit) k w ≡ finish H limit w
-  unfolding finish
-  enough k w I le =
-      Runs.enough (step H limit) (needed H) (Inv H limit) (λ v. v .todo ≡ []) (step-inv H limit R p) (step-still H limit) step-falls k w I le
 
   -- what a loop that makes the steps keeps
   pub finish-step : (w : Work) → Inv H limit w → finish H limit (step H limit w) ≡ finish H limit w
@@ -236,20 +212,6 @@ module _ (H : Heap) (limit : ℕ) (R : Ready H) (p : 1 ≤ limit) where
       go (inl e) = rw (step-still H limit w e) (le-refl (needed H w))
       go (inr l) = le-of-lt l
 
-  pub run-needed : (k : ℕ) (w : Work) → Inv H limit w → needed H (run (step H limit) k w) ≤ needed H w
-  unfolding run
-  run-needed zero w I = le-refl (needed H w)
-  run-needed (suc k) w I = le-trans (run-needed k (step H limit w) (step-inv H limit R p w I)) (step-needed w I)
-
-  -- so there are at no step more visits to make
-  pub walk-room : (w : Work) → Inv H limit w → (k : ℕ) → length (run (step H limit) k w .todo) ≤ needed H w
-  unfolding needed
-  walk-room w I k = let a = run-needed k w I in omega arith
-
-pub needed-begin : (H : Heap) (from : List ℕ) → needed H (begin H from) ≡ length from + sum (H .n) (λ x. length (H .kids x))
-unfolding needed begin
-needed-begin H from = ap (λ k. k + sum (H .n) (λ x. length (H .kids x))) (length-items 0 from)
-
 -- where no object has more than 8 slots
 pub needed-le : (H : Heap) (w : Work) → ((x : ℕ) → Obj (H .n) x → length (H .kids x) ≤ 8) → needed H w ≤ length (w .todo) + 8 * H .n
 unfolding needed
@@ -260,26 +222,6 @@ needed-le H w h =
     part : (b : Bool) (k : ℕ) → k ≤ 8 → cond b 0 k ≤ 8
     part true k l = omega arith
     part false k l = l
-
-pub needed-begin-le : (H : Heap) (from : List ℕ) → ((x : ℕ) → Obj (H .n) x → length (H .kids x) ≤ 8)
-    → needed H (begin H from) ≤ length from + 8 * H .n
-unfolding begin
-needed-begin-le H from h =
-    let a = needed-le H (begin H from) h in
-    let b = length-items 0 from in
-    omega arith
-
-pub starts-length : (H : Heap) (roots : List ℕ) → length (starts H roots) ≤ length roots + H .n
-unfolding starts
-starts-length H roots =
-    let a = length-append roots (gather (H .n) (H .sink) (λ x. x ∷ [])) in
-    let b = length-gather (H .n) (H .sink) (λ x. x ∷ []) in
-    let c = sum-bound (H .n) 1 (λ x. cond (H .sink x) 1 0) (λ x. one (H .sink x)) in
-    omega arith
-  where
-    one : (b : Bool) → cond b 1 0 ≤ 1
-    one true = omega arith
-    one false = omega arith
 
 -- the walk from the roots and sinks ends
 pub walk-ends : (H : Heap) (limit : ℕ) (roots : List ℕ) → Ready H → 1 ≤ limit → ((k : ℕ) → List·Memᴰ k roots → k ≤ H .n)
@@ -371,7 +313,7 @@ module _ (H : Heap) (limit : ℕ) (R : Ready H) (p : 1 ≤ limit) (b : List Item
       (fewer (step-falls H limit R p (record { todo = i ∷ rest; seen = seen; cl = cl }) (inv-front H limit (i ∷ rest) b seen cl I)) le))
     where
       fewer : {k m : ℕ} → ((i ∷ rest) ≡ []) ⊎ (k < m) → m ≤ suc f → k ≤ f
-      fewer (inl e) l = absurd (not-nil e)
+      fewer (inl e) l = absurd (cons≢nil e)
       fewer (inr s) l = omega arith
 
   -- the visits of w are made first, then those of b
@@ -380,12 +322,6 @@ module _ (H : Heap) (limit : ℕ) (R : Ready H) (p : 1 ≤ limit) (b : List Item
 
   pub after-inv : (w : Work) → Inv H limit (extended w b) → Inv H limit (after H limit w b)
   after-inv w I = append-by (needed H w) (w .seen) (w .cl) (w .todo) I (le-refl (needed H w)) .1
-
--- one visit, then the others: what a loop over the starts keeps
-pub finish-first : (H : Heap) (limit : ℕ) → Ready H → 1 ≤ limit → (i : Item) (b : List Item) (seen : ℕ → Bool) (cl : ℕ → ℕ)
-    → Inv H limit (record { todo = i ∷ b; seen = seen; cl = cl })
-    → finish H limit (record { todo = i ∷ b; seen = seen; cl = cl }) ≡ finish H limit (after H limit (record { todo = i ∷ []; seen = seen; cl = cl }) b)
-finish-first H limit R p i b seen cl I = finish-append H limit R p b (record { todo = i ∷ []; seen = seen; cl = cl }) I
 
 -- the starts a before the starts b
 pub begin-append : (H : Heap) (limit : ℕ) → Ready H → 1 ≤ limit → (a b : List ℕ) → ((k : ℕ) → List·Memᴰ k (a ++ b) → k ≤ H .n)

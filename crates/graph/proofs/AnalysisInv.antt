@@ -1,7 +1,7 @@
 -- What holds at each step of the walk: its clusters are connected, older ones stay as they are, written objects and sinks join nothing, and a
 -- new cluster has at most the limit.
 -- Assumes nothing.
-use Prim.Native.Nat.{ℕ, suc, _+_, _≤_}
+use Prim.Native.Nat.{ℕ, _+_, _≤_}
 use mathlib.Core.Path.{_≡_, refl, sym, ap, ap₂, _∙_}
 use mathlib.Core.Bool.{Bool, true, false, not, _&&_, _||_, true≢false, false≢true}
 use mathlib.Core.List.{List, [], _∷_, _++_, List·Memᴰ, List·Memᴰ·head, List·Memᴰ·tail, List·Memᴰ·not-nil}
@@ -9,14 +9,14 @@ use mathlib.Core.Logic.{_≢_, _⊎_, inl, inr}
 use native.Mathlib.Decide.{ℕ-discrete}
 use native.Mathlib.Omega.{arith}
 use lib.Dec.{leb, eqb}
-use lib.ListN.{length}
 use borrow.Author.Tests.{eqb-true, eqb-false, eq-eqb, ne-eqb, not-true, not-false, leb-true}
 use Rattle.graph.specs.Numbers.{upd, count, bit}
 use Rattle.graph.specs.Heap.{Heap}
 use Rattle.graph.specs.Clusters.{size}
 use Rattle.graph.specs.Analysis.{Item, Work, items, bars, Visit, skip, older, alone, join, head, pick, kind, visitsOfCluster, pushed, seenBy, clBy, act}
+use Rattle.graph.specs.Invariant.{Connected, Heads, All, none, both, Ok, Ready, Inv}
 use Rattle.graph.proofs.NumberLaws.{upd-same, upd-other, sum-ext, sum-bump, sum-zero, gather-all}
-use Rattle.graph.proofs.Paths.{Connected, Heads, heads-upd, upd-keeps, connected-join, connected-new}
+use Rattle.graph.proofs.Paths.{heads-upd, upd-keeps, connected-join, connected-new}
 
 -- ---- what the tests tell
 
@@ -70,14 +70,7 @@ facts H limit seen cl o c = go _ _ _ _ refl refl refl refl
         (free e f g, eqb-false c 0 (not-true (eqb c 0) (t .0)), leb-true (size (H .n) cl c + 1) limit (t .1))
     go false false false false e f g h = free e f g
 
--- ---- the invariant
-
-pub not-nil : {i : Item} {l : List Item} → (i ∷ l) ≡ [] → ⊥
-not-nil {i} {l} e = let z : _≡_ {A = ℕ} (suc (length l)) 0 = ap length e in omega arith
-
-pub data All (P : Item → Type 0) : List Item → Type 0 where
-  none : All P []
-  both : {i : Item} {l : List Item} → P i → All P l → All P (i ∷ l)
+-- ---- the visits to make
 
 pub all-append : {P : Item → Type 0} {l m : List Item} → All P l → All P m → All P (l ++ m)
 all-append none b = b
@@ -101,31 +94,6 @@ all-first (both p a) = p
 
 pub all-rest : {P : Item → Type 0} {i : Item} {l : List Item} → All P (i ∷ l) → All P l
 all-rest (both p a) = a
-
--- a visit to make: an object in range, and where a cluster is passed, that is a new one, with a member that points at the object
-pub record Ok (H : Heap) (cl : ℕ → ℕ) (i : Item) : Type 0 where
-  pub fits : i .obj ≤ H .n
-  pub from : i .passed ≢ 0 → (x : ℕ) × (cl x ≡ i .passed) × List·Memᴰ (i .obj) (H .kids x) × (H .cluster (i .passed) ≡ 0)
-
--- What the check for damage makes sure of, as far as the walk needs it. That clusters are connected is not among it: no call checks that.
-pub record Ready (H : Heap) : Type 0 where
-  pub heads : Heads (H .cluster)
-  pub zero-none : H .cluster 0 ≡ 0
-  pub closed : (x y : ℕ) → List·Memᴰ y (H .kids x) → y ≤ H .n
-  pub range : (x : ℕ) → H .cluster x ≢ 0 → x ≤ H .n
-
-pub record Inv (H : Heap) (limit : ℕ) (w : Work) : Type 0 where
-  pub conn : Connected (H .kids) (H .cluster) → Connected (H .kids) (w .cl)
-  pub heads : Heads (w .cl)
-  pub visits : All (Ok H (w .cl)) (w .todo)
-  pub unseen : (x : ℕ) → w .seen x ≡ false → w .cl x ≡ H .cluster x
-  pub whole : (x y : ℕ) → H .cluster x ≢ 0 → H .cluster x ≡ H .cluster y → w .seen x ≡ w .seen y
-  pub kept : (x : ℕ) → H .cluster x ≢ 0 → w .cl x ≡ H .cluster x
-  pub fresh : (x : ℕ) → H .cluster x ≡ 0 → w .cl x ≢ 0 → H .cluster (w .cl x) ≡ 0
-  pub barred : (x : ℕ) → bars H x ≡ true → w .cl x ≡ H .cluster x
-  pub zero-none : w .cl 0 ≡ 0
-  pub range : (x : ℕ) → w .cl x ≢ 0 → x ≤ H .n
-  pub small : (c : ℕ) → c ≢ 0 → H .cluster c ≡ 0 → size (H .n) (w .cl) c ≤ limit
 
 -- heads are objects
 pub head-range : {H : Heap} {limit : ℕ} {w : Work} → Inv H limit w → (x : ℕ) → w .cl x ≢ 0 → w .cl x ≤ H .n

@@ -2,24 +2,25 @@
 -- Assumes nothing.
 use Prim.Native.Nat.{ℕ, _*_, _≤_}
 use mathlib.Core.Path.{_≡_, refl, sym, ap, _∙_, subst}
-use mathlib.Core.Bool.{Bool, true, false, not, cond, _&&_, _||_, true≢false, false≢true, and-true, and-false}
-use mathlib.Core.List.{List, [], _∷_, _++_, List·Memᴰ, List·Memᴰ·head, List·Memᴰ·tail}
+use mathlib.Core.Bool.{Bool, true, false, not, cond, _&&_, _||_, or-true, true≢false, false≢true}
+use mathlib.Core.List.{List, [], _∷_, _++_, List·Memᴰ, List·Memᴰ·head, List·Memᴰ·tail, cons≢nil}
 use mathlib.Core.Logic.{_≢_, _⊎_, inl, inr}
 use native.Mathlib.Decide.{ℕ-discrete}
-use native.Mathlib.Nat.{lt-irrefl}
 use native.Mathlib.Omega.{arith}
 use lib.Dec.{ltb, eqb}
-use borrow.Author.Tests.{eq-eqb, ne-eqb, eqb-true, not-true, ltb-true, ltb-false, lt-ltb, le-ltb}
+use borrow.Author.Tests.{eq-eqb, ne-eqb, eqb-true, ltb-true, ltb-false, lt-ltb, le-ltb}
 use Rattle.graph.specs.Numbers.{Obj, upd, bit, sum, count}
 use Rattle.graph.specs.Heap.{Heap, pointers, targets, starts, Reach, start, along}
-use Rattle.graph.specs.Clusters.{size, keep, outBit, outsOf}
-use Rattle.graph.specs.Analysis.{Item, Work, items, bars, Visit, skip, older, alone, join, head, visitsOfCluster, pushed, seenBy, clBy, act, begin, finish, walked, Rule, isNew, newHead, over, few, stays, outLossOf, leftClusters, analyse}
-use Rattle.graph.proofs.NumberLaws.{upd-same, upd-other, bit-le, count-le, sum-swap, sum-single, sum-mono, sum-ext, sum-le, sum-zero, sum-at, gather-from, gather-in, in-right}
-use Rattle.graph.proofs.Paths.{Connected, Heads, heads-keep, connected-keep, keep-in, keep-out, keep-was}
-use Rattle.graph.proofs.OutLaws.{outBit-same, outsOf-same, size-same, keep-eqb}
+use Rattle.graph.specs.Clusters.{size, outBit}
+use Rattle.graph.specs.Analysis.{Item, Work, items, bars, Visit, skip, older, alone, join, head, visitsOfCluster, pushed, seenBy, clBy, act, begin, finish, walked, Rule, isNew, newHead, over, stays, outLossOf, leftClusters, analyse}
+use Rattle.graph.specs.Invariant.{Connected, Ready, Inv, All}
+use Rattle.graph.proofs.NumberLaws.{upd-same, upd-other, bit-le, count-le, sum-swap, sum-single, sum-mono, sum-le, gather-from, gather-in}
+use Rattle.graph.proofs.Paths.{connected-keep, keep-in, keep-was}
+use Rattle.graph.proofs.OutLaws.{outBit-same}
 use Rattle.graph.proofs.MemberLaws.{no-out, pointer-word, pointer-nonzero}
-use Rattle.graph.proofs.AnalysisInv.{Ready, Inv, Facts, All, not-nil, all-append, all-items, all-first, all-rest, or-split, and-split}
-use Rattle.graph.proofs.AnalysisEnds.{begin-inv, starts-all, starts-range, finish-inv, finish-ends, finish-keeps, older-same}
+use Rattle.graph.proofs.ReachLaws.{starts-all, sink-start}
+use Rattle.graph.proofs.AnalysisInv.{Facts, all-append, all-items, all-first, all-rest, and-split}
+use Rattle.graph.proofs.AnalysisEnds.{begin-inv, starts-range, finish-inv, finish-ends, finish-keeps, older-same}
 use Rattle.graph.proofs.State.{clustered, Good, good-ready}
 
 -- the walk from the roots and sinks when it is over; its clusters are `walked`
@@ -41,10 +42,6 @@ module _ (P : Rule) (H : Heap) (limit : ℕ) (roots : List ℕ) (R : Ready H) (p
   pub left-connected : Connected (H .kids) (H .cluster) → Connected (H .kids) (leftClusters P H limit roots)
   unfolding leftClusters walked
   left-connected k = connected-keep (H .kids) _ _ (walked-inv .conn k)
-
-  pub left-heads : Heads (leftClusters P H limit roots)
-  unfolding leftClusters walked
-  left-heads = heads-keep _ _ (walked-inv .heads)
 
   -- an older cluster stays
   stays-older : (c : ℕ) → H .cluster c ≢ 0 → stays P H (walked H limit roots) c ≡ true
@@ -94,44 +91,6 @@ module _ (P : Rule) (H : Heap) (limit : ℕ) (roots : List ℕ) (R : Ready H) (p
       sym (e x ∙ outBit-same (H .kids) (H .kids) (H .sink) (H .cluster) (leftClusters P H limit roots) x refl (sym (left-older x q))
       (left-members (H .cluster x) (λ j. q (sym (R .heads x q) ∙ j))))
 
-  -- a new cluster that passes the test
-  stays-new : (c : ℕ) → H .cluster c ≡ 0 → stays P H (walked H limit roots) c ≡ true
-      → (10 * outsOf (H .n) (H .kids) (H .sink) (walked H limit roots) c ≤ P .outPerTen * size (H .n) (walked H limit roots) c)
-      × (P .least ≤ size (H .n) (walked H limit roots) c)
-  unfolding stays isNew over few
-  stays-new c e t = (ltb-false _ _ (both-false .0), ltb-false _ _ (both-false .1))
-    where
-      cl : ℕ → ℕ
-      cl = walked H limit roots
-
-      new : (b : Bool) → b ≡ true → (r : Bool) → not (b && r) ≡ true → r ≡ false
-      new true i r j = not-true r j
-      new false i r j = absurd (false≢true i)
-
-      both-false : (over P H cl c ≡ false) × (few P H cl c ≡ false)
-      both-false = or-split (over P H cl c) (few P H cl c) (new (eqb (H .cluster c) 0) (eq-eqb (H .cluster c) 0 e) _ t)
-
-  walked-small : (c : ℕ) → c ≢ 0 → H .cluster c ≡ 0 → size (H .n) (walked H limit roots) c ≤ limit
-  unfolding walked
-  walked-small c q e = walked-inv .small c q e
-
-  -- a new cluster that is left has at least `least` members and at most the limit, and not too many out pointers
-  pub left-sizes : (c x : ℕ) → c ≢ 0 → H .cluster c ≡ 0 → leftClusters P H limit roots x ≡ c
-      → (P .least ≤ size (H .n) (leftClusters P H limit roots) c)
-      × (size (H .n) (leftClusters P H limit roots) c ≤ limit)
-      × (10 * outsOf (H .n) (H .kids) (H .sink) (leftClusters P H limit roots) c
-      ≤ P .outPerTen * size (H .n) (leftClusters P H limit roots) c)
-  unfolding leftClusters
-  left-sizes c x q e f =
-      let cl = walked H limit roots in
-      let t = keep-was (stays P H cl) cl c x f q .1 in
-      let g = stays-new c e t in
-      rw (
-        ← size-same (H .n) cl (keep (stays P H cl) cl) c (keep-eqb (stays P H cl) cl c q t),
-        ← outsOf-same (H .n) (H .kids) (H .sink) cl (keep (stays P H cl) cl) c (keep-eqb (stays P H cl) cl c q t),
-      )
-      (g .1, walked-small c q e, g .0)
-
   left-was : (x : ℕ) → leftClusters P H limit roots x ≢ 0 → walked H limit roots x ≢ 0
   unfolding leftClusters
   left-was x q j = q (sym (keep-was _ _ _ x refl q .0) ∙ j)
@@ -147,9 +106,6 @@ module _ (P : Rule) (H : Heap) (limit : ℕ) (roots : List ℕ) (R : Ready H) (p
   pub left-range : (x : ℕ) → leftClusters P H limit roots x ≢ 0 → x ≤ H .n
   unfolding walked
   left-range x q = walked-inv .range x (left-was x q)
-
-  pub left-head-range : (x : ℕ) → leftClusters P H limit roots x ≢ 0 → leftClusters P H limit roots x ≤ H .n
-  left-head-range x q = left-range (leftClusters P H limit roots x) (λ j. q (sym (left-heads x q) ∙ j))
 
 -- ---- counting
 
@@ -167,27 +123,6 @@ sizes-le n cl =
         let b = bit-le (eqb (cl x) (cl x)) in
         omega arith
 
--- the members of the clusters that pass a test, by cluster and by object
-pub by-heads : (n : ℕ) (cl : ℕ → ℕ) (b : ℕ → Bool) → ((x : ℕ) → cl x ≢ 0 → cl x ≤ n)
-    → sum n (λ h. cond (b h) (size n cl h) 0) ≡ count n (λ x. not (eqb (cl x) 0) && b (cl x))
-unfolding size count
-by-heads n cl b r =
-    sum-ext n _ _ (λ h p q. one h (b h) refl) ∙ sum-swap n n (λ h x. bit (b h && eqb (cl x) h))
-    ∙ sum-ext n _ _ (λ x p q. each x (ℕ-discrete (cl x) 0))
-  where
-    one : (h : ℕ) (t : Bool) → b h ≡ t → cond t (sum n (λ x. bit (eqb (cl x) h))) 0 ≡ sum n (λ x. bit (t && eqb (cl x) h))
-    one h true e = refl
-    one h false e = sym (sum-zero n (λ x. 0) (λ x p q. refl))
-
-    miss : (x h : ℕ) → cl x ≢ h → bit (b h && eqb (cl x) h) ≡ 0
-    miss x h i = rw (ne-eqb (cl x) h i, and-false) refl
-
-    each : (x : ℕ) → Dec (cl x ≡ 0) → sum n (λ h. bit (b h && eqb (cl x) h)) ≡ bit (not (eqb (cl x) 0) && b (cl x))
-    each x (yes e) = sum-zero n _ (λ h p q. miss x h (λ i. lt-irrefl 0 (rw (sym i ∙ e) at p))) ∙ rw e refl
-    each x (no e) =
-        sum-at n (cl x) _ (omega (arith, e)) (r x e) (λ h i. miss x h (λ j. i (sym j)))
-        ∙ rw (eq-eqb (cl x) (cl x) refl, ne-eqb (cl x) 0 e, and-true) refl
-
 pub outLoss-le : (P : Rule) (H : Heap) (cl : ℕ → ℕ) → outLossOf P H cl ≤ H .n
 unfolding outLossOf
 outLoss-le P H cl =
@@ -200,10 +135,6 @@ outLoss-le P H cl =
     part true k = omega arith
     part false k = omega arith
 
-or-true-right : (a b : Bool) → b ≡ true → (a || b) ≡ true
-or-true-right true b e = refl
-or-true-right false b e = e
-
 -- ---- the analysis leaves a good heap
 
 pub analyse-good : (P : Rule) (H : Heap) (limit : ℕ) (roots : List ℕ) (loss : ℕ) → Good H loss → 1 ≤ limit
@@ -214,60 +145,12 @@ analyse-good P H limit roots loss G p h = record {
   zero-none = left-zero P H limit roots (good-ready G) p h;
   closed = G .closed;
   range = left-range P H limit roots (good-ready G) p h;
-  sinks = λ x e. left-barred P H limit roots (good-ready G) p h x (or-true-right (H .written x) (H .sink x) e) (G .sinks x e);
+  sinks = λ x e. left-barred P H limit roots (good-ready G) p h x (ap (λ b. H .written x || b) e ∙ or-true (H .written x)) (G .sinks x e);
   exact = λ x. refl;
   losses = let a = count-le (H .n) (λ x. not (eqb (leftClusters P H limit roots x) 0)) in omega arith;
 }
 
--- the members answered are those of the clusters answered
-pub members-by-cluster : (P : Rule) (H : Heap) (limit : ℕ) (roots : List ℕ) → Ready H → 1 ≤ limit → ((k : ℕ) → List·Memᴰ k roots → k ≤ H .n)
-    → analyse P H limit roots .members
-    ≡ sum (H .n) (λ h. cond (eqb (H .cluster h) 0 && eqb (leftClusters P H limit roots h) h) (size (H .n) (leftClusters P H limit roots) h) 0)
-unfolding analyse count
-members-by-cluster P H limit roots R p h =
-    sum-ext (H .n) _ _ (λ x q r. ap bit (each x (ℕ-discrete (cl x) 0)))
-    ∙ sym (by-heads (H .n) cl (λ k. eqb (H .cluster k) 0 && eqb (cl k) k) heads)
-  where
-    cl : ℕ → ℕ
-    cl = leftClusters P H limit roots
-
-    headed : (x : ℕ) → cl x ≢ 0 → cl (cl x) ≡ cl x
-    headed = left-heads P H limit roots R p h
-
-    heads : (x : ℕ) → cl x ≢ 0 → cl x ≤ H .n
-    heads = left-head-range P H limit roots R p h
-
-    new-or-older : (x : ℕ) → cl x ≢ 0 → Dec (H .cluster x ≡ 0) → eqb (H .cluster x) 0 ≡ eqb (H .cluster (cl x)) 0
-    new-or-older x n (yes e) = eq-eqb (H .cluster x) 0 e ∙ sym (eq-eqb (H .cluster (cl x)) 0 (left-new P H limit roots R p h x e n))
-    new-or-older x n (no e) =
-        let i : H .cluster (cl x) ≡ H .cluster x
-        = ap (H .cluster) (left-older P H limit roots R p h x e) ∙ R .heads x e in
-        rw i refl
-
-    each : (x : ℕ) → Dec (cl x ≡ 0)
-        → (eqb (H .cluster x) 0 && not (eqb (cl x) 0)) ≡ (not (eqb (cl x) 0) && (eqb (H .cluster (cl x)) 0 && eqb (cl (cl x)) (cl x)))
-    each x (yes e) = rw (eq-eqb (cl x) 0 e, and-false) refl
-    each x (no e) =
-        rw (ne-eqb (cl x) 0 e, headed x e, eq-eqb (cl x) (cl x) refl) (simp and-true (new-or-older x e (ℕ-discrete (H .cluster x) 0)))
-
 -- ---- which new clusters go
-
--- a new cluster goes exactly if too many pointers leave it or it has too few members
-pub left-deleted : (P : Rule) (H : Heap) (limit : ℕ) (roots : List ℕ) (c x : ℕ) → walked H limit roots x ≡ c → c ≢ 0 → H .cluster c ≡ 0
-    → (leftClusters P H limit roots x ≡ 0 → (over P H (walked H limit roots) c || few P H (walked H limit roots) c) ≡ true)
-    × ((over P H (walked H limit roots) c || few P H (walked H limit roots) c) ≡ true → leftClusters P H limit roots x ≡ 0)
-unfolding leftClusters stays isNew
-left-deleted P H limit roots c x e q n = (λ g. to (over P H cl c || few P H cl c) refl g, λ g. keep-out (stays P H cl) cl c x e (gone _ g))
-  where
-    cl : ℕ → ℕ
-    cl = walked H limit roots
-
-    gone : (b : Bool) → b ≡ true → not (eqb (H .cluster c) 0 && b) ≡ false
-    gone b g = rw (eq-eqb (H .cluster c) 0 n, g) refl
-
-    to : (b : Bool) → (over P H cl c || few P H cl c) ≡ b → keep (stays P H cl) cl x ≡ 0 → b ≡ true
-    to true f g = refl
-    to false f g = absurd (q (sym (keep-in (stays P H cl) cl c x e (rw (f, and-false) refl)) ∙ g))
 
 -- more than 25 out pointers for ten members is more than 5 for two
 pub over-halves : (s p : ℕ) → ltb (25 * s) (10 * p) ≡ ltb (5 * s) (2 * p)
@@ -299,7 +182,7 @@ upd-true seen o x e = go (ℕ-discrete x o)
 seenBy-keeps : (seen : ℕ → Bool) (cl : ℕ → ℕ) (o x : ℕ) (v : Visit) → seen x ≡ true → seenBy seen cl o v x ≡ true
 unfolding seenBy
 seenBy-keeps seen cl o x skip e = e
-seenBy-keeps seen cl o x older e = or-true-right (eqb (cl x) (cl o)) (seen x) e
+seenBy-keeps seen cl o x older e = rw e (or-true (eqb (cl x) (cl o)))
 seenBy-keeps seen cl o x alone e = upd-true seen o x e
 seenBy-keeps seen cl o x join e = upd-true seen o x e
 seenBy-keeps seen cl o x head e = upd-true seen o x e
@@ -473,11 +356,6 @@ module _ (H : Heap) (limit : ℕ) (R : Ready H) (p : 1 ≤ limit) (from : List �
       outs′ x y s z o m true e = due-act seen cl i rest v f y (F .outs x y e z o m)
       outs′ x y s z o m false e = waits (outs-act seen cl i rest I v f x y e s z o m)
 
--- a sink is a start
-sink-start : (H : Heap) (roots : List ℕ) (y : ℕ) → Obj (H .n) y → H .sink y ≡ true → List·Memᴰ y (starts H roots)
-unfolding starts
-sink-start H roots y b e = in-right y roots _ (gather-in (H .n) (H .sink) (λ x. x ∷ []) y y b e (List·Memᴰ·head refl))
-
 -- what is seen, may join and is in no older cluster has a cluster
 abbrev Placed : Heap → (ℕ → Bool) → (ℕ → ℕ) → Type 0
 Placed H seen cl = (x : ℕ) → seen x ≡ true → bars H x ≡ false → H .cluster x ≡ 0 → cl x ≢ 0
@@ -513,7 +391,7 @@ due-seen y w e (met s) nz = s
 due-seen y w e (waits a) nz = absurd (none (w .todo) e a)
   where
     none : (l : List Item) → l ≡ [] → Waits y l → ⊥
-    none (i ∷ l) e a = not-nil e
+    none (i ∷ l) e a = cons≢nil e
 
 module _ (H : Heap) (limit : ℕ) (roots : List ℕ) (R : Ready H) (p : 1 ≤ limit) (h : (k : ℕ) → List·Memᴰ k roots → k ≤ H .n) where
   started : Inv H limit (begin H (starts H roots))

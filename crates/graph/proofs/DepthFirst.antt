@@ -3,7 +3,7 @@
 use Prim.Native.Nat.{ℕ, zero, suc, _+_, _≤_, _<_}
 use mathlib.Core.Path.{_≡_, refl, sym, ap, _∙_, subst}
 use mathlib.Core.Bool.{Bool, true, false, not, cond, _&&_, _||_, or-true}
-use mathlib.Core.List.{List, [], _∷_, _++_, append-nil, List·Memᴰ}
+use mathlib.Core.List.{List, [], _∷_, _++_, append-nil, List·Memᴰ, cons≢nil}
 use mathlib.Core.Logic.{_≢_, _⊎_, inl, inr}
 use native.Mathlib.Decide.{ℕ-discrete, decLe}
 use native.Mathlib.Nat.{le-refl, le-trans}
@@ -17,8 +17,9 @@ use Rattle.graph.specs.Clusters.{size}
 use Rattle.graph.specs.Analysis.{Item, Work, items, bars, Visit, skip, older, alone, join, head, pick, kind, visitsOfCluster, pushed, seenBy, clBy, act, visit, step, begin, needed, finish, walked}
 use Rattle.graph.specs.DepthFirst.{Known, placed, Fresh, Meets, Visits, Forms}
 use Rattle.graph.specs.DepthFirst as Deep
+use Rattle.graph.specs.Invariant.{Ready, Inv}
 use Rattle.graph.proofs.NumberLaws.{upd-same, upd-other}
-use Rattle.graph.proofs.AnalysisInv.{not-nil, Ready, Inv, all-first, size-more}
+use Rattle.graph.proofs.AnalysisInv.{all-first, size-more}
 use Rattle.graph.proofs.AnalysisEnds.{step-inv, step-falls, step-needed, begin-inv, starts-range, older-same, inv-front, finish-step, finish-done}
 
 -- the objects that the walk by a list counts as seen: of a handled cluster all
@@ -218,7 +219,7 @@ module _ (H : Heap) (limit : ℕ) (R : Ready H) (p : 1 ≤ limit) where
       both m a b = (b .0, Deep.first m a (b .1))
 
       falls : {i : Item} {m : List Item} {j h : ℕ} → ((i ∷ m) ≡ []) ⊎ (j < h) → j < h
-      falls (inl e) = absurd (not-nil e)
+      falls (inl e) = absurd (cons≢nil e)
       falls (inr s) = s
 
       fewer : {j h : ℕ} → j < h → h ≤ suc f → j ≤ f

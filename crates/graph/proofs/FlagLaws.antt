@@ -2,7 +2,7 @@
 -- Assumes nothing.
 use Prim.Native.Nat.{ℕ, suc, _+_, _≤_}
 use mathlib.Core.Path.{_≡_, refl, sym, ap, subst, _∙_}
-use mathlib.Core.Bool.{Bool, true, false, cond, _&&_, true≢false}
+use mathlib.Core.Bool.{Bool, true, false, cond, and-false, true≢false}
 use mathlib.Core.Logic.{_≢_, _⊎_, inl, inr}
 use native.Mathlib.Decide.{ℕ-discrete}
 use native.Mathlib.Omega.{arith}
@@ -61,11 +61,7 @@ setFlag-same s f o b = rw (same-flag f, eq-eqb o o refl) refl
 -- at another object
 pub setFlag-other : (s : Flags) (f : Flag) (o : ℕ) (b : Bool) (g : Flag) (x : ℕ) → x ≢ o → setFlag s f o b g x ≡ s g x
 unfolding setFlag
-setFlag-other s f o b g x h = rw (ne-eqb x o h) (at (sameFlag f g))
-  where
-    at : (c : Bool) → cond (c && false) b (s g x) ≡ s g x
-    at true = refl
-    at false = refl
+setFlag-other s f o b g x h = rw (ne-eqb x o h, and-false (sameFlag f g)) refl
 
 -- another flag
 pub setFlag-apart : (s : Flags) (f : Flag) (o : ℕ) (b : Bool) (g : Flag) (x : ℕ) → f ≢ g → setFlag s f o b g x ≡ s g x

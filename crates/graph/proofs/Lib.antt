@@ -9,6 +9,7 @@ pub mod OutLaws
 pub mod MemberLaws
 -- ---- the walk of a collection: in every heap, then with connected clusters
 pub mod ReachLaws
+pub mod RoundLaws
 pub mod LowestLaws
 pub mod FlagLaws
 pub mod TraceSafe
@@ -18,7 +19,6 @@ pub mod TraceSteps
 pub mod TraceKeep
 pub mod TraceReach
 pub mod TraceCorrect
-pub mod TracePlain
 -- ---- the walk of the analysis
 pub mod AnalysisInv
 pub mod AnalysisEnds

@@ -11,8 +11,9 @@ use lib.Dec.{eqb}
 use Rattle.graph.specs.Numbers.{upd, count}
 use Rattle.graph.specs.Heap.{Heap}
 use Rattle.graph.specs.Clusters.{keep, outBit}
+use Rattle.graph.specs.Invariant.{Connected, Heads}
 use Rattle.graph.proofs.NumberLaws.{upd-same, upd-other, count-le}
-use Rattle.graph.proofs.Paths.{path-map, Connected, Heads, connected-keep, connected-kids, keep-zero, keep-in, keep-was}
+use Rattle.graph.proofs.Paths.{path-map, connected-keep, connected-kids, keep-zero, keep-in, keep-was}
 use Rattle.graph.proofs.OutLaws.{outBit-same, outBit-words, outBit-keep, outBit-none}
 use Rattle.graph.proofs.State.{Good, clustered, keep-fewer}
 

@@ -3,7 +3,7 @@
 use Prim.Native.Nat.{ℕ, _<_}
 use mathlib.Core.Path.{_≡_, refl, sym, ap, _∙_, subst}
 use mathlib.Core.Bool.{Bool, true, false, cond, true≢false}
-use mathlib.Core.List.{List, [], _∷_, List·Memᴰ, List·Memᴰ·head, List·Memᴰ·tail, List·Memᴰ·eq-of-singleton}
+use mathlib.Core.List.{List, [], _∷_, List·Memᴰ, List·Memᴰ·head, List·Memᴰ·tail}
 use mathlib.Core.Logic.{_≢_, _⊎_, inl, inr}
 use native.Mathlib.Decide.{ℕ-discrete}
 use native.Mathlib.Omega.{arith}
@@ -12,8 +12,8 @@ use borrow.Author.Tests.{eqb-true, eqb-false, ne-eqb, lt-ltb}
 use Rattle.graph.specs.Numbers.{Obj, gather}
 use Rattle.graph.specs.Heap.{Heap, pointers, targets, Reach, along}
 use Rattle.graph.specs.Clusters.{leaves, outCount, outBit}
-use Rattle.graph.proofs.NumberLaws.{gather-from}
-use Rattle.graph.proofs.Paths.{Path, here, step, Connected}
+use Rattle.graph.specs.Invariant.{Path, here, step, Connected}
+use Rattle.graph.proofs.NumberLaws.{gather-of}
 
 -- ---- the pointers among the words
 
@@ -49,9 +49,8 @@ pointer-nonzero (w ∷ l) y m = go (eqb w 0) refl (λ r. pointer-nonzero l y r) 
 -- a number that is gathered by its cluster is an object, and in it
 pub member-of : (n : ℕ) (cl : ℕ → ℕ) (h y : ℕ) → List·Memᴰ y (gather n (λ z. eqb (cl z) h) (λ z. z ∷ [])) → Obj n y × (cl y ≡ h)
 member-of n cl h y m =
-    let g = gather-from n (λ z. eqb (cl z) h) (λ z. z ∷ []) y m in
-    let q : y ≡ g .0 = List·Memᴰ·eq-of-singleton (g .3) in
-    rw q (g .1, eqb-true (cl (g .0)) h (g .2))
+    let g = gather-of n (λ z. eqb (cl z) h) y m in
+    (g .0, eqb-true (cl y) h (g .1))
 
 pub reach-path : {kids next : ℕ → List ℕ} {P : ℕ → Type 0} {from : List ℕ} {h y : ℕ}
     → ((x z : ℕ) → P z → List·Memᴰ z (kids x) → List·Memᴰ z (next x)) → Reach next from h → Path kids P h y → Reach next from y

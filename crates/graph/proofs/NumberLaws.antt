@@ -1,14 +1,13 @@
 -- Laws of functions that change at one place, of sums, counts and lists over 1 to n, and of members of a list.
 -- Assumes nothing.
 use Prim.Native.Nat.{ℕ, zero, suc, _+_, _*_, _≤_, _<_}
-use mathlib.Core.Path.{_≡_, refl, sym, ap, subst}
-use mathlib.Core.Bool.{Bool, true, false, cond, false≢true, true≢false}
-use mathlib.Core.List.{List, [], _∷_, _++_, List·Memᴰ, List·Memᴰ·head, List·Memᴰ·tail, List·Memᴰ·append-cases, List·Memᴰ·not-nil}
+use mathlib.Core.Path.{_≡_, refl, sym, ap, _∙_}
+use mathlib.Core.Bool.{Bool, true, false, cond, false≢true}
+use mathlib.Core.List.{List, [], _∷_, _++_, List·Memᴰ, List·Memᴰ·head, List·Memᴰ·tail, Memᴰ·append-left, Memᴰ·append-right, List·Memᴰ·append-cases, List·Memᴰ·not-nil, List·Memᴰ·eq-of-singleton}
 use mathlib.Core.Logic.{_≢_, _⊎_, inl, inr}
 use native.Mathlib.Decide.{ℕ-discrete}
 use native.Mathlib.Nat.{le-suc-iff}
 use native.Mathlib.Omega.{arith}
-use lib.Dec.{eqb}
 use lib.ListN.{length, getD, set, length-append}
 use borrow.Author.Tests.{eq-eqb, ne-eqb}
 use Rattle.graph.specs.Numbers.{Obj, upd, bit, sum, count, gather}
@@ -54,21 +53,17 @@ sum-zero (suc n) f h =
     let b = h (suc n) (omega arith) (omega arith) in
     omega arith
 
-pub sum-le : (n : ℕ) (f : ℕ → ℕ) → ((x : ℕ) → 0 < x → x ≤ n → f x ≤ 1) → sum n f ≤ n
+-- no term is above m
+pub sum-most : (n m : ℕ) (f : ℕ → ℕ) → ((x : ℕ) → Obj n x → f x ≤ m) → sum n f ≤ m * n
 unfolding sum
-sum-le zero f h = omega arith
-sum-le (suc n) f h =
-    let a = sum-le n f (λ x p q. h x p (omega arith)) in
-    let b = h (suc n) (omega arith) (omega arith) in
+sum-most zero m f h = omega arith
+sum-most (suc n) m f h =
+    let a = sum-most n m f (λ x b. h x (omega arith)) in
+    let b = h (suc n) (omega arith) in
     omega arith
 
-pub sum-bound : (n m : ℕ) (f : ℕ → ℕ) → ((x : ℕ) → f x ≤ m) → sum n f ≤ m * n
-unfolding sum
-sum-bound zero m f h = omega arith
-sum-bound (suc n) m f h =
-    let a = sum-bound n m f h in
-    let b = h (suc n) in
-    omega arith
+pub sum-le : (n : ℕ) (f : ℕ → ℕ) → ((x : ℕ) → 0 < x → x ≤ n → f x ≤ 1) → sum n f ≤ n
+sum-le n f h = omega (arith, sum-most n 1 f (λ x b. h x (omega arith) (b .1)))
 
 -- g is f but at o, where it is larger by d
 pub sum-bump : (n o d : ℕ) (f g : ℕ → ℕ) → 0 < o → o ≤ n → g o ≡ f o + d → ((x : ℕ) → x ≢ o → g x ≡ f x) → sum n g ≡ sum n f + d
@@ -107,12 +102,6 @@ sum-single (suc n) c f h = go (ℕ-discrete (suc n) c) (sum-single n c f h)
         omega arith
     go (no e) rec = let a = h (suc n) e in omega arith
 
-pub sum-at : (n c : ℕ) (f : ℕ → ℕ) → 0 < c → c ≤ n → ((x : ℕ) → x ≢ c → f x ≡ 0) → sum n f ≡ f c
-sum-at n c f p q h =
-    let a = sum-bump n c (f c) (λ x. 0) f p q (omega arith) h in
-    let b = sum-zero n (λ x. 0) (λ x r s. refl) in
-    omega arith
-
 pub bit-le : (b : Bool) → bit b ≤ 1
 bit-le true = omega arith
 bit-le false = omega arith
@@ -140,10 +129,6 @@ bit-mono true false h = absurd (false≢true (h refl))
 bit-mono false true h = omega arith
 bit-mono false false h = omega arith
 
-pub count-mono : (n : ℕ) (p q : ℕ → Bool) → ((x : ℕ) → p x ≡ true → q x ≡ true) → count n p ≤ count n q
-unfolding count
-count-mono n p q h = sum-mono n (λ x. bit (p x)) (λ x. bit (q x)) (λ x a b. bit-mono (p x) (q x) (h x))
-
 -- ---- lists of pointers
 
 -- a member that is not the one at k stays when k is set
@@ -152,22 +137,6 @@ mem-set (x ∷ l) zero t y (List·Memᴰ·head e) h = absurd (h (sym e))
 mem-set (x ∷ l) zero t y (List·Memᴰ·tail m) h = List·Memᴰ·tail m
 mem-set (x ∷ l) (suc k) t y (List·Memᴰ·head e) h = List·Memᴰ·head e
 mem-set (x ∷ l) (suc k) t y (List·Memᴰ·tail m) h = List·Memᴰ·tail (mem-set l k t y m h)
-
--- what holds of every member of the lists gathered
-pub gather-all : (Q : ℕ → Type 0) (n : ℕ) (p : ℕ → Bool) (f : ℕ → List ℕ)
-    → ((x : ℕ) → x ≤ n → (k : ℕ) → List·Memᴰ k (f x) → Q k) → (k : ℕ) → List·Memᴰ k (gather n p f) → Q k
-unfolding gather
-gather-all Q zero p f h k m = absurd (List·Memᴰ·not-nil m)
-gather-all Q (suc n) p f h k m =
-    go (λ m′. gather-all Q n p f (λ x q. h x (omega arith)) k m′) (List·Memᴰ·append-cases (gather n p f) m)
-  where
-    last : (b : Bool) → List·Memᴰ k (cond b (f (suc n)) []) → Q k
-    last true m′ = h (suc n) (omega arith) k m′
-    last false m′ = absurd (List·Memᴰ·not-nil m′)
-
-    go : (List·Memᴰ k (gather n p f) → Q k) → List·Memᴰ k (gather n p f) ⊎ List·Memᴰ k (cond (p (suc n)) (f (suc n)) []) → Q k
-    go rec (inl m′) = rec m′
-    go rec (inr m′) = last (p (suc n)) m′
 
 pub mem-of-set : (l : List ℕ) (k t y : ℕ) → List·Memᴰ y (set l k t) → (y ≡ t) ⊎ List·Memᴰ y l
 mem-of-set [] k t y m = inr m
@@ -192,25 +161,6 @@ sum-differ (suc n) o f g b h = go (λ c. sum-differ n o f g c (λ x d ne. h x (o
     go r (inl le) = omega (arith, r (b .0, le), h (suc n) (omega arith) (omega arith))
     go r (inr e) = omega (arith, sum-ext n f g (λ x p q. h x (omega arith) (omega arith)), ap f e, ap g e)
 
--- a sum of 0 has no other term
-pub sum-none : (n : ℕ) (f : ℕ → ℕ) → sum n f ≡ 0 → (x : ℕ) → Obj n x → f x ≡ 0
-unfolding sum
-sum-none zero f e x b = absurd (omega arith)
-sum-none (suc n) f e x b = go (λ c. sum-none n f (omega arith) x c) (le-suc-iff .0 (b .1))
-  where
-    go : (Obj n x → f x ≡ 0) → (x ≤ n) ⊎ (x ≡ suc n) → f x ≡ 0
-    go r (inl le) = r (b .0, le)
-    go r (inr q) = omega (arith, ap f q)
-
--- a sum over 1 to n of which no term is above m
-pub sum-most : (n m : ℕ) (f : ℕ → ℕ) → ((x : ℕ) → Obj n x → f x ≤ m) → sum n f ≤ m * n
-unfolding sum
-sum-most zero m f h = omega arith
-sum-most (suc n) m f h =
-    let a = sum-most n m f (λ x b. h x (omega arith)) in
-    let b = h (suc n) (omega arith) in
-    omega arith
-
 pub count-ext : (n : ℕ) (s t : ℕ → Bool) → ((x : ℕ) → Obj n x → s x ≡ t x) → count n s ≡ count n t
 unfolding count
 count-ext n s t h = sum-ext n (λ x. bit (s x)) (λ x. bit (t x)) (λ x p q. ap bit (h x (omega arith)))
@@ -223,17 +173,40 @@ pub count-within : (n : ℕ) (s t : ℕ → Bool) → ((x : ℕ) → Obj n x →
 unfolding count
 count-within n s t h = sum-mono n (λ x. bit (s x)) (λ x. bit (t x)) (λ x p q. bit-mono (s x) (t x) (h x (omega arith)))
 
+pub count-all : (n : ℕ) → count n (λ x. true) ≡ n
+unfolding count sum
+count-all zero = refl
+count-all (suc n) = let a = count-all n in omega arith
+
+-- a larger set that is not larger is the same
+pub count-back : (n : ℕ) (p q : ℕ → Bool) → ((x : ℕ) → Obj n x → p x ≡ true → q x ≡ true) → count n q ≤ count n p → (x : ℕ) → Obj n x → q x ≡ true → p x
+    ≡ true
+count-back n p q h l x b e = go (p x) refl
+  where
+    -- q without x
+    less : count n q ≡ count n (upd q x false) + 1
+    less =
+        unfold count in
+        (sum-bump n x 1 (λ y. bit (upd q x false y)) (λ y. bit (q y)) (omega (arith, b)) (b .1) (rw (e, upd-same q x false) refl)
+        (λ y d. ap bit (sym (upd-other q x y false d))))
+
+    go : (c : Bool) → p x ≡ c → p x ≡ true
+    go true c = c
+    go false c =
+        let a =
+        count-within n p (upd q x false) (λ y d f. upd-other q x y false (λ i. false≢true (sym c ∙ ap p (sym i) ∙ f)) ∙ h y d f)
+        in
+        absurd (omega (arith, a, l, less))
+
 -- ---- members of a list
 
 pub in-left : (x : ℕ) (s t : List ℕ) → List·Memᴰ x s → List·Memᴰ x (s ++ t)
-in-left x (y ∷ s) t (List·Memᴰ·head e) = List·Memᴰ·head e
-in-left x (y ∷ s) t (List·Memᴰ·tail m) = List·Memᴰ·tail (in-left x s t m)
+in-left x s t m = Memᴰ·append-left t m
 
 pub in-right : (x : ℕ) (s t : List ℕ) → List·Memᴰ x t → List·Memᴰ x (s ++ t)
-in-right x [] t m = m
-in-right x (y ∷ s) t m = List·Memᴰ·tail (in-right x s t m)
+in-right x s t m = Memᴰ·append-right s m
 
--- ---- added for analysis
+-- ---- lists that are gathered
 
 -- the members of the lists gathered are those of the lists of the numbers that pass
 pub gather-from : (n : ℕ) (t : ℕ → Bool) (f : ℕ → List ℕ) (k : ℕ) → List·Memᴰ k (gather n t f)
@@ -256,6 +229,11 @@ gather-from (suc n) t f k m =
     go rec (inl a) = wider (rec a)
     go rec (inr a) = last (t (suc n)) refl a
 
+-- what holds of every member of the lists gathered
+pub gather-all : (Q : ℕ → Type 0) (n : ℕ) (p : ℕ → Bool) (f : ℕ → List ℕ)
+    → ((x : ℕ) → x ≤ n → (k : ℕ) → List·Memᴰ k (f x) → Q k) → (k : ℕ) → List·Memᴰ k (gather n p f) → Q k
+gather-all Q n p f h k m = let t = gather-from n p f k m in h (t .0) (t .1 .1) k (t .3)
+
 pub gather-in : (n : ℕ) (t : ℕ → Bool) (f : ℕ → List ℕ) (x k : ℕ) → Obj n x → t x ≡ true → List·Memᴰ k (f x) → List·Memᴰ k (gather n t f)
 unfolding gather
 gather-in zero t f x k b e m = absurd (omega arith)
@@ -264,3 +242,13 @@ gather-in (suc n) t f x k b e m = go (λ c. gather-in n t f x k c e m) (le-suc-i
     go : (Obj n x → List·Memᴰ k (gather n t f)) → (x ≤ n) ⊎ (x ≡ suc n) → List·Memᴰ k (gather n t f ++ cond (t (suc n)) (f (suc n)) [])
     go r (inl le) = in-left k (gather n t f) _ (r (b .0, le))
     go r (inr q) = in-right k (gather n t f) _ (rw (← q, e) m)
+
+-- of lists of one: the numbers themselves
+pub gather-of : (n : ℕ) (t : ℕ → Bool) (x : ℕ) → List·Memᴰ x (gather n t (λ y. y ∷ [])) → Obj n x × (t x ≡ true)
+gather-of n t x m =
+    let g = gather-from n t (λ y. y ∷ []) x m in
+    let e : x ≡ g .0 = List·Memᴰ·eq-of-singleton (g .3) in
+    rw e (g .1, g .2)
+
+pub in-gather : (n : ℕ) (t : ℕ → Bool) (x : ℕ) → Obj n x → t x ≡ true → List·Memᴰ x (gather n t (λ y. y ∷ []))
+in-gather n t x b e = gather-in n t (λ y. y ∷ []) x x b e (List·Memᴰ·head refl)

@@ -2,15 +2,14 @@
 -- Assumes nothing.
 use Prim.Native.Nat.{ℕ, _+_}
 use mathlib.Core.Path.{_≡_, refl, sym, ap, ap₂, _∙_}
-use mathlib.Core.Bool.{Bool, true, false, not, cond, _&&_}
+use mathlib.Core.Bool.{Bool, true, false, not, _&&_}
 use mathlib.Core.List.{List, [], _∷_, List·Memᴰ, List·Memᴰ·head, List·Memᴰ·tail}
 use mathlib.Core.Logic.{_≢_}
 use native.Mathlib.Decide.{ℕ-discrete}
 use lib.Dec.{ltb, eqb}
 use borrow.Author.Tests.{eq-eqb, ne-eqb}
-use Rattle.graph.specs.Numbers.{bit, count}
-use Rattle.graph.specs.Clusters.{size, keep, leaves, outCount, outBit, outsOf}
-use Rattle.graph.proofs.NumberLaws.{sum-ext}
+use Rattle.graph.specs.Numbers.{bit}
+use Rattle.graph.specs.Clusters.{keep, leaves, outCount, outBit}
 use Rattle.graph.proofs.Paths.{keep-in, keep-out, keep-was}
 
 pub eqb-iff : (a b c d : ℕ) → (a ≡ b → c ≡ d) → (c ≡ d → a ≡ b) → eqb a b ≡ eqb c d
@@ -35,15 +34,6 @@ leaves-same sink cl cl′ c h y = ap (λ b. not (eqb y 0) && (not (sink y) && no
 pub outCount-same : (sink : ℕ → Bool) (cl cl′ : ℕ → ℕ) (c : ℕ) → ((y : ℕ) → eqb (cl y) c ≡ eqb (cl′ y) c) → (l : List ℕ)
     → outCount sink cl c l ≡ outCount sink cl′ c l
 outCount-same sink cl cl′ c h l = outCount-ext sink sink cl cl′ c c (leaves-same sink cl cl′ c h) l
-
-pub size-same : (n : ℕ) (cl cl′ : ℕ → ℕ) (c : ℕ) → ((y : ℕ) → eqb (cl y) c ≡ eqb (cl′ y) c) → size n cl c ≡ size n cl′ c
-unfolding size count
-size-same n cl cl′ c h = sum-ext n _ _ (λ x p q. ap bit (h x))
-
-pub outsOf-same : (n : ℕ) (kids : ℕ → List ℕ) (sink : ℕ → Bool) (cl cl′ : ℕ → ℕ) (c : ℕ)
-    → ((y : ℕ) → eqb (cl y) c ≡ eqb (cl′ y) c) → outsOf n kids sink cl c ≡ outsOf n kids sink cl′ c
-unfolding outsOf
-outsOf-same n kids sink cl cl′ c h = sum-ext n _ _ (λ x p q. ap₂ (λ b k. cond b k 0) (h x) (outCount-same sink cl cl′ c h (kids x)))
 
 -- the out bit of x, by the members of its cluster and its own words
 pub outBit-same : (kids kids′ : ℕ → List ℕ) (sink : ℕ → Bool) (cl cl′ : ℕ → ℕ) (x : ℕ) → kids x ≡ kids′ x → cl x ≡ cl′ x

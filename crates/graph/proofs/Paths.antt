@@ -9,12 +9,8 @@ use native.Mathlib.Decide.{ℕ-discrete}
 use lib.ListN.{getD, set}
 use Rattle.graph.specs.Numbers.{upd}
 use Rattle.graph.specs.Clusters.{keep}
+use Rattle.graph.specs.Invariant.{Path, here, step, Connected, Heads}
 use Rattle.graph.proofs.NumberLaws.{upd-same, upd-other, mem-set}
-
--- a path from h to y by the pointers `kids`, all of whose objects are in P
-pub data Path (kids : ℕ → List ℕ) (P : ℕ → Type 0) (h : ℕ) : ℕ → Type 0 where
-  here : {y : ℕ} → y ≡ h → P y → Path kids P h y
-  step : {x y : ℕ} → Path kids P h x → List·Memᴰ y (kids x) → P y → Path kids P h y
 
 pub path-end : {kids : ℕ → List ℕ} {P : ℕ → Type 0} {h y : ℕ} → Path kids P h y → P y
 path-end (here e p) = p
@@ -31,14 +27,6 @@ pub path-map : {kids kids′ : ℕ → List ℕ} {P Q : ℕ → Type 0} {h y : �
     → Path kids P h y → Path kids′ Q h y
 path-map f g (here e p) = here e (f _ p)
 path-map f g (step {x} {y = z} t m p) = step (path-map f g t) (g x z (path-end t) p m) (f z p)
-
--- each member has a path from its head that stays inside the cluster; so the head carries its own number
-unfoldable pub Connected : (ℕ → List ℕ) → (ℕ → ℕ) → Type 0
-Connected kids cl = (y c : ℕ) → cl y ≡ c → c ≢ 0 → Path kids (λ x. cl x ≡ c) c y
-
--- the head of every cluster is a member of it
-abbrev pub Heads : (ℕ → ℕ) → Type 0
-Heads cl = (y : ℕ) → cl y ≢ 0 → cl (cl y) ≡ cl y
 
 pub connected-head : (kids : ℕ → List ℕ) (cl : ℕ → ℕ) → Connected kids cl → Heads cl
 unfolding Connected
@@ -117,11 +105,6 @@ keep-was q cl d x e p = go (q (cl x)) refl
     go : (b : Bool) → q (cl x) ≡ b → (cl x ≡ d) × (q d ≡ true)
     go true i = let j = sym (keep-in q cl (cl x) x refl i) ∙ e in (j, ap q (sym j) ∙ i)
     go false i = absurd (p (sym e ∙ keep-out q cl (cl x) x refl i))
-
-pub heads-keep : (q : ℕ → Bool) (cl : ℕ → ℕ) → Heads cl → Heads (keep q cl)
-heads-keep q cl h y p =
-    let w = keep-was q cl (keep q cl y) y refl p in
-    keep-in q cl (keep q cl y) (keep q cl y) (rw (← w .0) (h y (λ k. p (sym (w .0) ∙ k)))) (w .1)
 
 pub connected-keep : (kids : ℕ → List ℕ) (q : ℕ → Bool) (cl : ℕ → ℕ) → Connected kids cl → Connected kids (keep q cl)
 unfolding Connected

@@ -1,16 +1,16 @@
 -- Laws of what paths of pointers lead to, and of the starts of the walks.
 -- Assumes nothing.
-use Prim.Native.Nat.{ℕ, _+_, _≤_}
-use mathlib.Core.Path.{_≡_, refl}
+use Prim.Native.Nat.{ℕ, _≤_}
+use mathlib.Core.Path.{_≡_}
 use mathlib.Core.Bool.{Bool, true, false, cond}
-use mathlib.Core.List.{List, [], _∷_, List·Memᴰ, List·Memᴰ·head, List·Memᴰ·tail, List·Memᴰ·append-cases, List·Memᴰ·not-nil}
+use mathlib.Core.List.{List, [], _∷_, List·Memᴰ, List·Memᴰ·append-cases}
 use mathlib.Core.Logic.{_⊎_, inl, inr}
 use native.Mathlib.Omega.{arith}
 use lib.Dec.{eqb}
-use lib.ListN.{length, length-append}
+use lib.ListN.{length}
 use Rattle.graph.specs.Numbers.{Obj, gather}
 use Rattle.graph.specs.Heap.{Heap, pointers, starts, Reach, start, along}
-use Rattle.graph.proofs.NumberLaws.{in-left, in-right, gather-all, gather-in, length-gather, sum-le}
+use Rattle.graph.proofs.NumberLaws.{in-left, in-right, gather-of, in-gather}
 use Rattle.graph.proofs.MemberLaws.{pointer-word, pointer-nonzero}
 
 -- ---- reachability
@@ -48,48 +48,28 @@ length-pointers (w ∷ l) = go (eqb w 0) (length-pointers l)
     go true r = omega arith
     go false r = omega arith
 
-module _ (H : Heap) (roots : List ℕ) where
-  -- the sinks by number
-  sinks : List ℕ
-  sinks = gather (H .n) (H .sink) (λ x. x ∷ [])
+-- what holds of the roots and of the sinks holds of the starts
+pub starts-all : (Q : ℕ → Type 0) (H : Heap) (roots : List ℕ) → ((k : ℕ) → List·Memᴰ k roots → Q k)
+    → ((x : ℕ) → Obj (H .n) x → H .sink x ≡ true → Q x) → (k : ℕ) → List·Memᴰ k (starts H roots) → Q k
+unfolding starts
+starts-all Q H roots r s k m = go (List·Memᴰ·append-cases roots m)
+  where
+    go : List·Memᴰ k roots ⊎ List·Memᴰ k (gather (H .n) (H .sink) (λ x. x ∷ [])) → Q k
+    go (inl a) = r k a
+    go (inr a) = let t = gather-of (H .n) (H .sink) k a in s k (t .0) (t .1)
 
+module _ (H : Heap) (roots : List ℕ) where
   pub root-start : (x : ℕ) → List·Memᴰ x roots → List·Memᴰ x (starts H roots)
-  unfolding starts sinks
-  root-start x m = in-left x roots sinks m
+  unfolding starts
+  root-start x m = in-left x roots _ m
 
   pub sink-start : (x : ℕ) → Obj (H .n) x → H .sink x ≡ true → List·Memᴰ x (starts H roots)
-  unfolding starts sinks
-  sink-start x b e = in-right x roots sinks (gather-in (H .n) (H .sink) (λ y. y ∷ []) x x b e (List·Memᴰ·head refl))
-
-  -- a start is a root, or a number up to n
-  start-cases : (x : ℕ) → List·Memᴰ x (starts H roots) → List·Memᴰ x roots ⊎ (x ≤ H .n)
-  unfolding starts sinks
-  start-cases x m = go (List·Memᴰ·append-cases roots m)
-    where
-      single : (k i : ℕ) → i ≤ H .n → List·Memᴰ k (i ∷ []) → k ≤ H .n
-      single k i le (List·Memᴰ·head e) = omega arith
-      single k i le (List·Memᴰ·tail m′) = absurd (List·Memᴰ·not-nil m′)
-
-      go : List·Memᴰ x roots ⊎ List·Memᴰ x sinks → List·Memᴰ x roots ⊎ (x ≤ H .n)
-      go (inl r) = inl r
-      go (inr g) = inr (gather-all (λ k. k ≤ H .n) (H .n) (H .sink) (λ y. y ∷ []) (λ i le k q. single k i le q) x g)
+  unfolding starts
+  sink-start x b e = in-right x roots _ (in-gather (H .n) (H .sink) x b e)
 
   -- roots that are objects or 0 give starts in range
-  pub starts-ranged : ((x : ℕ) → List·Memᴰ x roots → x ≤ H .n) → (x : ℕ) → List·Memᴰ x (pointers (starts H roots)) → Obj (H .n) x
-  starts-ranged h x m = (omega (arith, pointer-nonzero (starts H roots) x m), go (start-cases x (pointer-word (starts H roots) x m)))
-    where
-      go : List·Memᴰ x roots ⊎ (x ≤ H .n) → x ≤ H .n
-      go (inl r) = h x r
-      go (inr le) = le
+  pub starts-range : ((x : ℕ) → List·Memᴰ x roots → x ≤ H .n) → (x : ℕ) → List·Memᴰ x (starts H roots) → x ≤ H .n
+  starts-range h = starts-all (λ k. k ≤ H .n) H roots h (λ x b e. b .1)
 
-  pub length-starts : length (starts H roots) ≤ length roots + H .n
-  unfolding starts
-  length-starts =
-      let a = length-append roots (gather (H .n) (H .sink) (λ x. x ∷ [])) in
-      let b = length-gather (H .n) (H .sink) (λ x. x ∷ []) in
-      let c = sum-le (H .n) (λ x. cond (H .sink x) (length (x ∷ [])) 0) (λ x p q. one (H .sink x) x) in
-      omega arith
-    where
-      one : (b : Bool) (x : ℕ) → cond b (length (x ∷ [])) 0 ≤ 1
-      one true x = omega arith
-      one false x = omega arith
+  pub starts-ranged : ((x : ℕ) → List·Memᴰ x roots → x ≤ H .n) → (x : ℕ) → List·Memᴰ x (pointers (starts H roots)) → Obj (H .n) x
+  starts-ranged h x m = (omega (arith, pointer-nonzero (starts H roots) x m), starts-range h x (pointer-word (starts H roots) x m))

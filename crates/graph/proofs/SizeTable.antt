@@ -13,12 +13,9 @@ use Rattle.graph.specs.Numbers.{upd}
 use Rattle.graph.specs.Heap.{Heap}
 use Rattle.graph.specs.Clusters.{size}
 use Rattle.graph.specs.Analysis.{Item, bars, pick, kind, Visit, skip, older, alone, join, head, clBy}
+use Rattle.graph.specs.Invariant.{Ready, Inv, Sizes}
 use Rattle.graph.proofs.NumberLaws.{upd-same, upd-other}
-use Rattle.graph.proofs.AnalysisInv.{Facts, Ready, Inv, all-first, in-range, size-more, size-other, size-none}
-
--- the table holds the size of each cluster that is not older
-unfoldable pub Sizes : Heap → (ℕ → ℕ) → (ℕ → ℕ) → Type 0
-Sizes H cl table = (c : ℕ) → c ≢ 0 → H .cluster c ≡ 0 → table c ≡ size (H .n) cl c
+use Rattle.graph.proofs.AnalysisInv.{Facts, all-first, in-range, size-more, size-other, size-none}
 
 pub sizes-begin : (H : Heap) → Ready H → Sizes H (H .cluster) (λ c. 0)
 unfolding Sizes

@@ -10,9 +10,9 @@ use borrow.Author.Tests.{eqb-false, ne-eqb, not-true}
 use Rattle.graph.specs.Numbers.{count}
 use Rattle.graph.specs.Heap.{Heap}
 use Rattle.graph.specs.Clusters.{keep, outBit}
-use Rattle.graph.proofs.NumberLaws.{count-mono}
-use Rattle.graph.proofs.Paths.{Connected, connected-head, keep-zero}
-use Rattle.graph.proofs.AnalysisInv.{Ready}
+use Rattle.graph.specs.Invariant.{Connected, Ready}
+use Rattle.graph.proofs.NumberLaws.{count-within}
+use Rattle.graph.proofs.Paths.{connected-head, keep-zero}
 
 -- the members of all clusters
 unfoldable pub clustered : Heap → ℕ
@@ -20,7 +20,7 @@ clustered H = count (H .n) (λ x. not (eqb (H .cluster x) 0))
 
 -- who has a cluster after some are dissolved had one
 pub keep-fewer : (n : ℕ) (q : ℕ → Bool) (cl : ℕ → ℕ) → count n (λ x. not (eqb (keep q cl x) 0)) ≤ count n (λ x. not (eqb (cl x) 0))
-keep-fewer n q cl = count-mono n _ _ (λ x e. ap not (ne-eqb (cl x) 0 (λ j. eqb-false (keep q cl x) 0 (not-true _ e) (keep-zero q cl x j))))
+keep-fewer n q cl = count-within n _ _ (λ x b e. ap not (ne-eqb (cl x) 0 (λ j. eqb-false (keep q cl x) 0 (not-true _ e) (keep-zero q cl x j))))
 
 -- Clusters are connected (so each has its head as a member), pointers and members are in range, sinks have no cluster, out bits
 -- are exact; and `loss` members dissolved since the last analysis and those still in clusters are together at most n.

@@ -9,8 +9,9 @@ use Rattle.graph.specs.Numbers.{Obj, count}
 use Rattle.graph.specs.Heap.{Heap, pointers, targets, withMembers, starts, Reach}
 use Rattle.graph.specs.Clusters.{outBit}
 use Rattle.graph.specs.Trace.{Walk, traced, keeps, unclustered}
+use Rattle.graph.specs.Invariant.{Connected, Heads}
 use Rattle.graph.proofs.NumberLaws.{in-left}
-use Rattle.graph.proofs.Paths.{Connected, Heads, connected-head}
+use Rattle.graph.proofs.Paths.{connected-head}
 use Rattle.graph.proofs.ReachLaws.{starts-ranged, reach-mono}
 use Rattle.graph.proofs.TraceSafe.{Ranged, StartsIn, words-ranged}
 use Rattle.graph.proofs.TraceKeep.{keeps→kept, Finished, traced-finished, Quiet, exact-quiet, reach-kept}
@@ -91,12 +92,3 @@ pub same-test : (a b : Bool) → (a ≡ true → b ≡ true) → (b ≡ true →
 same-test true b f g = sym (f refl)
 same-test false true f g = g refl
 same-test false false f g = refl
-
--- where clusters are connected, both kinds of collection keep the same objects
-pub same-kept : (H : Heap) (from : List ℕ) → Sound H from → H .cluster 0 ≡ 0 → Connected (H .kids) (H .cluster) → (x : ℕ) → Obj (H .n) x
-    → keeps H (traced H from .flags) x ≡ keeps (unclustered H) (traced (unclustered H) from .flags) x
-same-kept H from S zero-none con x b =
-    let p = traced-correct H from S .kept-is x b in
-    let q = plain-correct H from (S .starts-in) (S .targets-in) .kept-is x b in
-    let r = connected-same H from zero-none con x in
-    same-test _ _ (λ k. q .1 (r .0 (p .0 k))) (λ k. p .1 (r .1 (q .0 k)))

@@ -1,6 +1,6 @@
 -- The walk ends, in every heap whose pointers are in range: the number that falls at each step, and the bound of the list of visits.
 -- Assumes nothing.
-use Prim.Native.Nat.{ℕ, zero, suc, _+_, _*_, _≤_, _<_}
+use Prim.Native.Nat.{ℕ, zero, suc, _≤_, _<_}
 use mathlib.Core.Path.{_≡_, refl, sym, ap, subst, _∙_}
 use mathlib.Core.Bool.{Bool, true, false}
 use mathlib.Core.List.{List, [], _∷_}
@@ -8,12 +8,10 @@ use mathlib.Core.Logic.{_⊎_, inl, inr}
 use native.Mathlib.Omega.{arith}
 use lib.Dec.{eqb}
 use lib.ListN.{length, length-append}
-use Rattle.graph.specs.Numbers.{Obj, count, sum, lowest}
-use Rattle.graph.specs.Heap.{Heap, pointers, targets}
-use Rattle.graph.specs.Run as Run
-use Rattle.graph.specs.Trace.{marked, postponed, reached, Walk, noFlags, scan, postpone, unpostpone, arrive, scanIf, scanOuts}
+use Rattle.graph.specs.Numbers.{Obj, count, lowest}
+use Rattle.graph.specs.Heap.{Heap, targets}
+use Rattle.graph.specs.Trace.{marked, postponed, reached, Walk, scan, postpone, unpostpone, arrive, scanIf, scanOuts}
 use Rattle.graph.specs.Trace.{visitBy, visit, takeBy, take, stepBy, step, begin, weight, needed, finish, traced}
-use Rattle.graph.proofs.NumberLaws.{sum-most, count-none}
 use Rattle.graph.proofs.RunLaws as RunLaws
 use Rattle.graph.proofs.LowestLaws.{lowest-passes, lowest-none, none-lowest}
 use Rattle.graph.proofs.FlagLaws.{marked≢postponed, reached≢marked, reached≢postponed, postponed≢marked, Is, setFlag-apart, rest}
@@ -171,55 +169,14 @@ module _ (H : Heap) where
       (λ w end. inl end)
 
   module _ (R : Ranged H) where
-    pub run-ends : (k : ℕ) (w : Walk) → Safe H w → needed H w ≤ k → Ended (Run.run (step H) k w)
-    run-ends = RunLaws.run-ends (step H) (needed H) (Safe H) Ended (safe-step H R) ended-step needed-falls
-
     pub finish-ends : (w : Walk) → Safe H w → Ended (finish H w)
     unfolding finish
     finish-ends = RunLaws.finish-ends (step H) (needed H) (Safe H) Ended (safe-step H R) ended-step needed-falls
-
-    -- more steps change nothing
-    pub enough : (k : ℕ) (w : Walk) → Safe H w → needed H w ≤ k → Run.run (step H) k w ≡ finish H w
-    unfolding finish
-    enough = RunLaws.enough (step H) (needed H) (Safe H) Ended (safe-step H R) ended-step needed-falls
 
     -- a step leaves the end of the walk as it is: what a loop that makes the steps keeps
     pub finish-step : (w : Walk) → Safe H w → finish H (step H w) ≡ finish H w
     unfolding finish
     finish-step = RunLaws.finish-step (step H) (needed H) (Safe H) Ended (safe-step H R) ended-step needed-falls
-
-    -- ---- the list of visits
-
-    weight-step : (w : Walk) → Safe H w → weight H (step H w) ≤ weight H w
-    weight-step w v = go (step-falls w v)
-      where
-        go : Ended w ⊎ Falls w (step H w) → weight H (step H w) ≤ weight H w
-        go (inl end) = omega (arith, ap (weight H) (ended-step w end))
-        go (inr f) = f .1
-
-    pub weight-run : (k : ℕ) (w : Walk) → Safe H w → weight H (Run.run (step H) k w) ≤ weight H w
-    weight-run k w v =
-        RunLaws.run-keeps (step H) (λ x. Safe H x × (weight H x ≤ weight H w))
-        (λ x t. (safe-step H R x (t .0), omega (arith, weight-step x (t .0)))) k w (v, omega arith) .1
-
-    -- the list never outgrows the weight that the walk began with
-    pub todo-fits : (k : ℕ) (w : Walk) → Safe H w → length (Run.run (step H) k w .todo) ≤ weight H w
-    unfolding weight
-    todo-fits k w v = omega (arith, weight-run k w v)
-
-  pub begin-weight : (from : List ℕ) → weight H (begin H from) ≡ length (pointers from) + sum n (λ x. length (targets H x))
-  unfolding weight begin noFlags
-  begin-weight from = refl
-
-  pub begin-needed : (from : List ℕ) → needed H (begin H from) ≡ 2 * (length (pointers from) + sum n (λ x. length (targets H x)))
-  unfolding needed weight begin noFlags
-  begin-needed from = omega (arith, count-none n (λ x. false) (λ x b. refl))
-
-  -- with at most eight pointers to an object, the list holds at most eight times n beside the starts
-  pub list-bound : Ranged H → (from : List ℕ) → StartsIn H from → ((x : ℕ) → Obj n x → length (targets H x) ≤ 8)
-      → (k : ℕ) → length (Run.run (step H) k (begin H from) .todo) ≤ length (pointers from) + 8 * n
-  list-bound R from si h8 k =
-      omega (arith, todo-fits R k (begin H from) (safe-begin H from si), begin-weight from, sum-most n 8 (λ x. length (targets H x)) h8)
 
   pub traced-ends : Ranged H → (from : List ℕ) → StartsIn H from → Ended (traced H from)
   unfolding traced

@@ -2,7 +2,7 @@
 -- Assumes nothing.
 use Prim.Native.Nat.{ℕ, _≤_}
 use mathlib.Core.Path.{_≡_, refl, sym, subst, _∙_}
-use mathlib.Core.Bool.{Bool, true, false, true≢false, _||_, _&&_, not}
+use mathlib.Core.Bool.{Bool, true, false, true≢false, _||_, _&&_, not, or-true, or-false}
 use mathlib.Core.List.{List, [], _∷_, List·Memᴰ, List·Memᴰ·not-nil, List·Memᴰ·append-cases}
 use mathlib.Core.Logic.{_≢_, _⊎_, inl, inr, _↔_}
 use native.Mathlib.Omega.{arith}
@@ -12,8 +12,8 @@ use Rattle.graph.specs.Numbers.{Obj, count, gather}
 use Rattle.graph.specs.Heap.{Heap, pointers, targets, withMembers, starts, Reach}
 use Rattle.graph.specs.Clusters.{outBit}
 use Rattle.graph.specs.Trace.{marked, reached, Flags, Walk, traced, keeps}
+use Rattle.graph.specs.Invariant.{Heads}
 use Rattle.graph.proofs.NumberLaws.{count-within, count-ext}
-use Rattle.graph.proofs.Paths.{Heads}
 use Rattle.graph.proofs.MemberLaws.{word-pointer, pointer-word, pointer-nonzero, member-of, no-out}
 use Rattle.graph.proofs.ReachLaws.{reach-all, sink-start}
 use Rattle.graph.proofs.FlagLaws.{Is}
@@ -41,20 +41,12 @@ module _ (H : Heap) where
   pub kept→keeps : (s : Flags) (x : ℕ) → Kept H s x → keeps H s x ≡ true
   unfolding keeps
   kept→keeps s x (inl i) = rw i refl
-  kept→keeps s x (inr (nz, i)) = rw (i, ne-eqb (cluster x) 0 nz) (at (s marked x))
-    where
-      at : (a : Bool) → (a || true) ≡ true
-      at true = refl
-      at false = refl
+  kept→keeps s x (inr (nz, i)) = rw (i, ne-eqb (cluster x) 0 nz) (or-true (s marked x))
 
   -- outside clusters the kept are the marked
   pub keeps-plain : (s : Flags) (x : ℕ) → cluster x ≡ 0 → keeps H s x ≡ s marked x
   unfolding keeps
-  keeps-plain s x e = rw (eq-eqb (cluster x) 0 e) (at (s marked x))
-    where
-      at : (a : Bool) → (a || false) ≡ a
-      at true = refl
-      at false = refl
+  keeps-plain s x e = rw (eq-eqb (cluster x) 0 e) (or-false (s marked x))
 
   -- ---- what holds at the end in every heap whose pointers are in range
 

@@ -13,11 +13,11 @@ use Rattle.graph.specs.Heap.{Heap, pointers, targets, withMembers, Reach
 use Rattle.graph.specs.Run as Run
 use Rattle.graph.specs.Trace.{Flag, marked, postponed, reached, Flags, setFlag, Walk, noFlags, scan, postpone, unpostpone, arrive}
 use Rattle.graph.specs.Trace.{scanIf, scanOuts, visitBy, visit, takeBy, take, stepBy, step, begin, needed, finish, traced}
-use Rattle.graph.proofs.NumberLaws.{in-left, in-right, gather-in}
+use Rattle.graph.specs.Invariant.{Connected}
+use Rattle.graph.proofs.NumberLaws.{in-left, in-right, in-gather}
 use Rattle.graph.proofs.RunLaws.{run-keeps}
 use Rattle.graph.proofs.LowestLaws.{lowest-passes}
 use Rattle.graph.proofs.FlagLaws.{Is, set-cases, clear-cases}
-use Rattle.graph.proofs.Paths.{Connected}
 use Rattle.graph.proofs.ReachLaws.{reach-all}
 use Rattle.graph.proofs.MemberLaws.{pointer-nonzero, member-of, reach-member}
 use Rattle.graph.proofs.TraceInv.{Kept}
@@ -66,7 +66,7 @@ module _ (H : Heap) (from : List ℕ) where
 
   pub member-live : (x h : ℕ) → Obj n x → cluster x ≡ h → Live h → Live x
   member-live x h b e r =
-      along r (in-right x (targets H h) _ (gather-in n (λ y. eqb (cluster y) h) (λ y. y ∷ []) x x b (eq-eqb (cluster x) h e) (List·Memᴰ·head refl)))
+      along r (in-right x (targets H h) _ (in-gather n (λ y. eqb (cluster y) h) x b (eq-eqb (cluster x) h e)))
 
   just-scanIf : (a c m : Bool) (h o : ℕ) (w : Walk) → eqb (cluster o) h ≡ c → Obj n o → Live h → Justified w → Justified (scanIf H a c m o w)
   unfolding scanIf

@@ -14,7 +14,7 @@ use Rattle.graph.specs.Heap.{Heap}
 use Rattle.graph.specs.Run as Run
 use Rattle.graph.specs.Trace.{Flag, marked, postponed, reached, Walk, noFlags, scan, postpone, unpostpone, arrive, scanIf, scanOuts}
 use Rattle.graph.specs.Trace.{visitBy, visit, takeBy, take, stepBy, step, begin, needed, finish, traced}
-use Rattle.graph.proofs.NumberLaws.{count-none, count-le}
+use Rattle.graph.proofs.NumberLaws.{count-none}
 use Rattle.graph.proofs.RunLaws.{run-keeps}
 use Rattle.graph.proofs.LowestLaws.{lowest-passes}
 use Rattle.graph.proofs.FlagLaws.{postponed≢marked, postponed≢reached, setFlag-same, setFlag-apart, Is, set-keeps}
@@ -154,10 +154,6 @@ module _ (H : Heap) (from : List ℕ) where
     run-inv k =
         run-keeps (step H) (λ w. Safe H w × Inv H from None None w) (λ w t. (safe-step H R w (t .0), inv-step w (t .0) (t .1)))
         k (begin H from) (safe-begin H from si, inv-begin)
-
-    -- so no more is scanned than there are objects
-    pub run-scanned : (k : ℕ) → Run.run (step H) k (begin H from) .scanned ≤ n
-    run-scanned k = let w = Run.run (step H) k (begin H from) in omega (arith, run-inv k .1 .counted, count-le n (λ x. w .flags marked x))
 
     pub traced-inv : Inv H from None None (traced H from)
     unfolding traced finish Run.finish

@@ -14,8 +14,9 @@ use Rattle.graph.specs.Numbers.{upd, bit, count}
 use Rattle.graph.specs.Heap.{Heap}
 use Rattle.graph.specs.Clusters.{keep, size, outBit, others}
 use Rattle.graph.specs.Writes.{dissolves, stored, storeBy, lossBy, store, lossOf, declare}
+use Rattle.graph.specs.Invariant.{Connected}
 use Rattle.graph.proofs.NumberLaws.{upd-same, upd-other, bit-le, sum-add, sum-mono, mem-of-set}
-use Rattle.graph.proofs.Paths.{Connected, connected-keep, connected-store, keep-out, keep-zero}
+use Rattle.graph.proofs.Paths.{connected-keep, connected-store, keep-out, keep-zero}
 use Rattle.graph.proofs.OutLaws.{outBit-same, outBit-keep, outBit-none}
 use Rattle.graph.proofs.AnalysisInv.{and-split}
 use Rattle.graph.proofs.State.{Good, clustered, keep-fewer}

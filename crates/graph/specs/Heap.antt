@@ -1,7 +1,6 @@
 -- The heap ("The heap"): objects 1 to n, their pointers, and what the calls know of each.
-use Prim.Native.Nat.{ℕ, _≤_}
+use Prim.Native.Nat.{ℕ}
 use mathlib.Core.Bool.{Bool, cond}
-use mathlib.Core.Logic.{_≢_}
 use mathlib.Core.List.{List, [], _∷_, _++_, List·Memᴰ}
 use lib.Dec.{eqb}
 use Rattle.graph.specs.Numbers.{gather}

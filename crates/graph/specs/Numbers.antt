@@ -1,6 +1,6 @@
 -- Functions of numbers that change at one place, and sums, counts and lists over the numbers 1 to n.
 use Prim.Native.Nat.{ℕ, zero, suc, _+_, _≤_}
-use mathlib.Core.Bool.{Bool, true, false, cond}
+use mathlib.Core.Bool.{Bool, true, false, cond, _||_}
 use mathlib.Core.List.{List, [], _∷_, _++_}
 use lib.Dec.{eqb}
 
@@ -11,6 +11,11 @@ Obj n x = (1 ≤ x) × (x ≤ n)
 -- f with the value v at i
 unfoldable pub upd {ℓ} : {A : Type ℓ} → (ℕ → A) → ℕ → A → ℕ → A
 upd f i v x = cond (eqb x i) v (f x)
+
+-- whether the list has the number
+unfoldable pub has : ℕ → List ℕ → Bool
+has x [] = false
+has x (y ∷ l) = eqb x y || has x l
 
 -- 1 for a test that passes
 abbrev pub bit : Bool → ℕ

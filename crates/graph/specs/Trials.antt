@@ -1,9 +1,9 @@
 -- Small heaps and what the walks make of them, by value.
 use Prim.Native.Nat.{ℕ, zero, suc}
-use mathlib.Core.Bool.{Bool, true, false, _||_}
+use mathlib.Core.Bool.{Bool, true, false}
 use mathlib.Core.List.{List, [], _∷_, _++_, map}
-use lib.Dec.{eqb}
 use lib.ListN.{getD, length}
+use Rattle.graph.specs.Numbers.{has}
 use Rattle.graph.specs.Heap.{Heap, starts}
 use Rattle.graph.specs.Clusters.{outBit}
 use Rattle.graph.specs.Trace.{traced, keeps}
@@ -13,11 +13,6 @@ use Rattle.graph.specs.Analysis.{Rule, analyse}
 unfoldable pub nth : {A : Type 0} → A → List A → ℕ → A
 nth d l zero = d
 nth d l (suc i) = getD l i d
-
--- whether the list has the number
-unfoldable pub has : List ℕ → ℕ → Bool
-has [] x = false
-has (y ∷ l) x = eqb x y || has l x
 
 -- the numbers 1 to n
 unfoldable pub upTo : ℕ → List ℕ
@@ -30,10 +25,10 @@ heap kids written sinks clusters =
     record {
       n = length kids;
       kids = nth [] kids;
-      sink = has sinks;
-      written = has written;
+      sink = λ x. has x sinks;
+      written = λ x. has x written;
       cluster = nth 0 clusters;
-      out = outBit (nth [] kids) (has sinks) (nth 0 clusters);
+      out = outBit (nth [] kids) (λ x. has x sinks) (nth 0 clusters);
     }
 
 -- ---- analyses

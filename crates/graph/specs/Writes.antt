@@ -1,5 +1,5 @@
 -- Writes and sinks ("Writes and sinks"): what an accepted write and a declaration do to the clusters.
-use Prim.Native.Nat.{ℕ, _+_}
+use Prim.Native.Nat.{ℕ}
 use mathlib.Core.Bool.{Bool, true, false, not, _&&_}
 use mathlib.Core.List.{List}
 use lib.Dec.{eqb}

@@ -44,6 +44,10 @@ illegal-neither : (n w : ℕ) → legalWord n w ≡ false → (isNil w ≡ false
 unfolding legalWord
 illegal-neither n w h = or-split (isNil w) (isPointer n w) (or-split (isNil w || isPointer n w) (isImmediate w) h .0)
 
+-- the tests before those of the word are passed
+abbrev pub Front : Control → ℕ → List ℕ → List ℕ → Type 0
+Front c j recs roots = (badControl c ≡ false) × (c .n ≤ length recs) × (c .r ≤ length roots) × (j < c .r)
+
 module _ (c : Control) (j w : ℕ) (recs roots : List ℕ) where
   pub bad-control : badControl c ≡ true → 20 ≡ first (setRootTests c j w recs roots)
   unfolding setRootTests first
@@ -64,52 +68,52 @@ module _ (c : Control) (j w : ℕ) (recs roots : List ℕ) where
         unfolding setRootTests first short
         no-root o = rw (b, le-ltb _ _ l, le-ltb _ _ m, le-leb _ _ o) refl
 
-        module _ (o : j < c .r) where
-          small : c .n ≤ 4095
-          small = control-facts c b .sizes .most
+  module _ (F : Front c j recs roots) where
+    small : c .n ≤ 4095
+    small = control-facts c (F .0) .sizes .most
 
-          says : (s : Word) → s ≡ sortOf (c .n) w → Says (c .n) w s
-          says s e = rw e (sort-says (c .n) w small)
+    says : (s : Word) → s ≡ sortOf (c .n) w → Says (c .n) w s
+    says s e = rw e (sort-says (c .n) w small)
 
-          -- the last two tests decide
-          last-tests : (p q : Bool) → not (isNil w || isPointer (c .n) w) ≡ p → isPointer (c .n) w && not (legal (c .n) (recOf (c .n) recs w)) ≡ q
-              → cond p 6 (cond q 23 0) ≡ first (setRootTests c j w recs roots)
-          unfolding setRootTests first short
-          last-tests p q e f = rw (b, le-ltb _ _ l, le-ltb _ _ m, lt-leb _ _ o, e, f) refl
+    -- the last two tests decide
+    last-tests : (p q : Bool) → not (isNil w || isPointer (c .n) w) ≡ p → isPointer (c .n) w && not (legal (c .n) (recOf (c .n) recs w)) ≡ q
+        → cond p 6 (cond q 23 0) ≡ first (setRootTests c j w recs roots)
+    unfolding setRootTests first short
+    last-tests p q e f = rw (F .0, le-ltb _ _ (F .1), le-ltb _ _ (F .2), lt-leb _ _ (F .3), e, f) refl
 
-          pub nil-root : Nil ≡ sortOf (c .n) w → 0 ≡ first (setRootTests c j w recs roots)
-          nil-root e = let z : isNil w ≡ true = unfold Says in (says Nil e) in last-tests false false (rw z refl) (rw (nil-no-pointer (c .n) w z) refl)
+    pub nil-root : Nil ≡ sortOf (c .n) w → 0 ≡ first (setRootTests c j w recs roots)
+    nil-root e = let z : isNil w ≡ true = unfold Says in (says Nil e) in last-tests false false (rw z refl) (rw (nil-no-pointer (c .n) w z) refl)
 
-          module _ (x : ℕ) (e : Object x ≡ sortOf (c .n) w) where
-            is-object : (x ≡ w) × (isPointer (c .n) w ≡ true)
-            is-object = unfold Says in (says (Object x) e)
+    module _ (x : ℕ) (e : Object x ≡ sortOf (c .n) w) where
+      is-object : (x ≡ w) × (isPointer (c .n) w ≡ true)
+      is-object = unfold Says in (says (Object x) e)
 
-            bounds : (1 ≤ w) × (w ≤ c .n)
-            bounds = within-true 1 (c .n) w (unfold isPointer in (is-object .1))
+      bounds : (1 ≤ w) × (w ≤ c .n)
+      bounds = within-true 1 (c .n) w (unfold isPointer in (is-object .1))
 
-            pub object-low : 1 ≤ x
-            object-low = omega (arith, is-object .0, bounds)
+      pub object-low : 1 ≤ x
+      object-low = omega (arith, is-object .0, bounds)
 
-            pub object-in : x - 1 < length recs
-            object-in = omega (arith, is-object .0, bounds, l)
+      pub object-in : x - 1 < length recs
+      object-in = omega (arith, is-object .0, bounds, F .1)
 
-            rec-at : recOf (c .n) recs w ≡ getD recs (x - 1) 0
-            rec-at = recOf-get (c .n) recs w (bounds .0) (bounds .1) ∙ ap (λ (y : ℕ). getD recs (y - 1) 0) (sym (is-object .0))
+      rec-at : recOf (c .n) recs w ≡ getD recs (x - 1) 0
+      rec-at = recOf-get (c .n) recs w (bounds .0) (bounds .1) ∙ ap (λ (y : ℕ). getD recs (y - 1) 0) (sym (is-object .0))
 
-            pub legal-root : legal (c .n) (getD recs (x - 1) 0) ≡ true → 0 ≡ first (setRootTests c j w recs roots)
-            legal-root h = let p = is-object .1 in last-tests false false (rw (p, right (isNil w)) refl) (rw (p, rec-at, h) refl)
+      pub legal-root : legal (c .n) (getD recs (x - 1) 0) ≡ true → 0 ≡ first (setRootTests c j w recs roots)
+      legal-root h = let p = is-object .1 in last-tests false false (rw (p, right (isNil w)) refl) (rw (p, rec-at, h) refl)
 
-            pub free-root : legal (c .n) (getD recs (x - 1) 0) ≡ false → 23 ≡ first (setRootTests c j w recs roots)
-            free-root h = let p = is-object .1 in last-tests false true (rw (p, right (isNil w)) refl) (rw (p, rec-at, h) refl)
+      pub free-root : legal (c .n) (getD recs (x - 1) 0) ≡ false → 23 ≡ first (setRootTests c j w recs roots)
+      free-root h = let p = is-object .1 in last-tests false true (rw (p, right (isNil w)) refl) (rw (p, rec-at, h) refl)
 
-          neither : isNil w ≡ false → isPointer (c .n) w ≡ false → 6 ≡ first (setRootTests c j w recs roots)
-          neither z p = last-tests true false (rw (z, p) refl) (rw p refl)
+    neither : isNil w ≡ false → isPointer (c .n) w ≡ false → 6 ≡ first (setRootTests c j w recs roots)
+    neither z p = last-tests true false (rw (z, p) refl) (rw p refl)
 
-          pub immediate-root : Immediate ≡ sortOf (c .n) w → 6 ≡ first (setRootTests c j w recs roots)
-          immediate-root e = let h : isImmediate w ≡ true = unfold Says in (says Immediate e) in neither (immediate-no-nil w h) (immediate-no-pointer (c .n) w small h)
+    pub immediate-root : Immediate ≡ sortOf (c .n) w → 6 ≡ first (setRootTests c j w recs roots)
+    immediate-root e = let h : isImmediate w ≡ true = unfold Says in (says Immediate e) in neither (immediate-no-nil w h) (immediate-no-pointer (c .n) w small h)
 
-          pub illegal-root : Illegal ≡ sortOf (c .n) w → 6 ≡ first (setRootTests c j w recs roots)
-          illegal-root e = let h = illegal-neither (c .n) w (unfold Says in (says Illegal e)) in neither (h .0) (h .1)
+    pub illegal-root : Illegal ≡ sortOf (c .n) w → 6 ≡ first (setRootTests c j w recs roots)
+    illegal-root e = let h = illegal-neither (c .n) w (unfold Says in (says Illegal e)) in neither (h .0) (h .1)
 
   pub kept : (m : ℕ) → m ≡ first (setRootTests c j w recs roots) → m ≢ 0
       → SetRoot.gives (record { refusal = m; control = c }) roots ≡ SetRoot.setRoot c j w recs roots

@@ -7,5 +7,6 @@ use Rattle.rules.specs.Allocate.{given, allocateTests}
 use Rattle.heap.specs.declared.allocate.Choice.{Choice}
 use Rattle.heap.specs.declared.allocate.Choice.the-variants.{Object, Refusal}
 
+-- the object that allocate gives, or the number of the refusal
 unfoldable pub choice : Control → ℕ → List ℕ → List ℕ → Choice
 choice c width recs slots = outcome (allocateTests c width recs slots) (Object (given c recs)) (λ k. Refusal k)

@@ -6,10 +6,10 @@ ghost use Rattle.layout.specs.Limits.{objectMax};
 ghost use Rattle.records.specs.Record.{free};
 ghost use Rattle.rules.specs.Buffers.{recOf, numbers};
 ghost use Rattle.rules.specs.Allocate as Allocate;
-ghost use Rattle.layout.specs.ControlRecord.{withLast};
 ghost use Rattle.heap.specs.Choice.{choice};
 use layout::answers::Allocated;
 use layout::answers::Control;
+use layout::control::with_last;
 use layout::limits::WIDTH_MAX;
 use layout::limits::slots_len;
 use layout::refusals::BAD_CONTROL;
@@ -19,20 +19,6 @@ use layout::refusals::TOO_WIDE;
 use layout::refusals::bad_control;
 use records::new_record;
 use table::buffers::clear_eight;
-
-// The control record after object x is given.
-pub(crate) fn with_last(c: Control, x: u32) -> Control
-    ensures { λ d. ⌜ d ≡ withLast x c ⌝ }
-{
-    Control {
-        n: c.n,
-        r: c.r,
-        last: x,
-        limit: c.limit,
-        write_loss: c.write_loss,
-        out_loss: c.out_loss,
-    }
-}
 
 // The first free object above `from` and up to `to`, 0 where there is none.
 pub(crate) fn first_free(n: u32, from: u32, to: u32, records: &[u32]) -> u32

@@ -1,28 +1,14 @@
 // Create: a heap of n free objects and r nil roots.
 ghost use mathlib.Core.Path.{_≡_};
-ghost use Rattle.layout.specs.ControlRecord.{newControl};
 ghost use Rattle.rules.specs.Create as Create;
-use layout::answers::Control;
 use layout::answers::Done;
+use layout::control::new_control;
 use layout::limits::slots_len;
 use layout::refusals::BAD_SIZES;
 use layout::refusals::TOO_SHORT;
 use layout::refusals::bad_sizes;
 use table::buffers::zero;
-
-// The control record of a heap just created.
-pub(crate) fn new_control(n: u32, r: u32) -> Control
-    ensures { λ c. ⌜ c ≡ newControl n r ⌝ }
-{
-    Control {
-        n: n,
-        r: r,
-        last: 0,
-        limit: 0,
-        write_loss: 0,
-        out_loss: 0,
-    }
-}
+use table::check::short_heap;
 
 // n records, 8 n slots and r roots become 0; after a refusal nothing changes and the control record is all zeros.
 pub fn create(n: u32, r: u32, records: &mut [u32], slots: &mut [u32], roots: &mut [u32]) -> Done
@@ -35,7 +21,7 @@ pub fn create(n: u32, r: u32, records: &mut [u32], slots: &mut [u32], roots: &mu
             control: new_control(0, 0),
         };
     }
-    if records.len() < n as usize || slots.len() < slots_len(n) || roots.len() < r as usize {
+    if short_heap(n, r, records, slots, roots) {
         return Done {
             refusal: TOO_SHORT,
             control: new_control(0, 0),

@@ -1,14 +1,15 @@
 -- A control record that is not refused, as plain facts, and what keeps it so. Assumes nothing.
 use Prim.Native.Nat.{ℕ, _≤_}
-use mathlib.Core.Path.{_≡_, refl, sym}
-use mathlib.Core.Bool.{Bool, true, false, not, _||_, false≢true}
+use mathlib.Core.Path.{_≡_, refl}
+use mathlib.Core.Bool.{Bool, true, false, _||_, or-true}
 use mathlib.Core.Logic.{_⊎_, inl, inr}
 use native.Mathlib.Omega.{arith}
-use lib.Dec.{eqb, ltb}
-use borrow.Author.Tests.{ltb-false, le-ltb, eqb-true, eq-eqb}
+use lib.Dec.{eqb}
+use borrow.Author.Tests.{ltb-false, le-ltb, eqb-true, eq-eqb, not-false}
 use Rattle.layout.specs.Limits.{objectMax, rootMax, limitMin, limitMax, within}
-use Rattle.layout.specs.ControlRecord.{badSizes, badControl, newControl, withLast, withWriteLoss, withAnalysis, badLimit}
+use Rattle.layout.specs.ControlRecord.{badSizes, badControl, newControl, controlWith, withLast, withWriteLoss, withAnalysis, badLimit}
 use Rattle.layout.specs.declared.answers.Control.{Control}
+use Rattle.layout.proofs.BoolLaws.{or-split}
 use Rattle.layout.proofs.LimitLaws.{within-true, in-within}
 
 -- ---- the sizes
@@ -19,17 +20,12 @@ pub record Sizes (n r : ℕ) : Type 0 where
   pub root : 1 ≤ r
   pub roots : r ≤ rootMax
 
-neither : (a b : Bool) → not a || not b ≡ false → (a ≡ true) × (b ≡ true)
-neither true true e = (refl, refl)
-neither true false e = absurd (false≢true (sym e))
-neither false b e = absurd (false≢true (sym e))
-
 pub sizes-facts : (n r : ℕ) → badSizes n r ≡ false → Sizes n r
 unfolding badSizes
 sizes-facts n r e =
-    let f = neither (within 1 objectMax n) (within 1 rootMax r) e in
-    let a = within-true 1 objectMax n (f .0) in
-    let b = within-true 1 rootMax r (f .1) in
+    let f = or-split _ _ e in
+    let a = within-true 1 objectMax n (not-false _ (f .0)) in
+    let b = within-true 1 rootMax r (not-false _ (f .1)) in
     record { some = a .0; most = a .1; root = b .0; roots = b .1 }
 
 pub facts-sizes : (n r : ℕ) → Sizes n r → badSizes n r ≡ false
@@ -38,50 +34,47 @@ facts-sizes n r s = rw (in-within 1 objectMax n (s .some) (s .most), in-within 1
 
 -- ---- the control record
 
+-- none yet, or in its range
+abbrev pub Limit : ℕ → Type 0
+Limit m = (m ≡ 0) ⊎ ((limitMin ≤ m) × (m ≤ limitMax))
+
 pub record Sound (c : Control) : Type 0 where
   pub sizes : Sizes (c .n) (c .r)
   pub last : c .last ≤ c .n
-  pub limit : (c .limit ≡ 0) ⊎ ((limitMin ≤ c .limit) × (c .limit ≤ limitMax))
+  pub limit : Limit (c .limit)
   pub writes : c .«write_loss» ≤ c .n
   pub outs : c .«out_loss» ≤ c .n
 
-none : (a b c d e : Bool) → a || b || not c || d || e ≡ false → (a ≡ false) × (b ≡ false) × (c ≡ true) × (d ≡ false) × (e ≡ false)
-none false false true false e h = (refl, refl, refl, refl, h)
-none false false true true e h = absurd (false≢true (sym h))
-none false false false d e h = absurd (false≢true (sym h))
-none false true c d e h = absurd (false≢true (sym h))
-none true b c d e h = absurd (false≢true (sym h))
-
-limit-facts : (m : ℕ) → eqb m 0 || within limitMin limitMax m ≡ true → (m ≡ 0) ⊎ ((limitMin ≤ m) × (m ≤ limitMax))
-limit-facts m h = go (eqb m 0) refl h
+limit-facts : (m : ℕ) → badLimit m ≡ false → Limit m
+unfolding badLimit
+limit-facts m h = go (eqb m 0) refl (not-false _ h)
   where
-    go : (b : Bool) → eqb m 0 ≡ b → b || within limitMin limitMax m ≡ true → (m ≡ 0) ⊎ ((limitMin ≤ m) × (m ≤ limitMax))
+    go : (b : Bool) → eqb m 0 ≡ b → b || within limitMin limitMax m ≡ true → Limit m
     go true e q = inl (eqb-true m 0 e)
     go false e q = inr (within-true limitMin limitMax m q)
 
-facts-limit : (m : ℕ) → (m ≡ 0) ⊎ ((limitMin ≤ m) × (m ≤ limitMax)) → eqb m 0 || within limitMin limitMax m ≡ true
+facts-limit : (m : ℕ) → Limit m → badLimit m ≡ false
+unfolding badLimit
 facts-limit m (inl z) = rw (eq-eqb m 0 z) refl
-facts-limit m (inr b) = rw (in-within limitMin limitMax m (b .0) (b .1)) (right (eqb m 0))
-  where
-    right : (a : Bool) → a || true ≡ true
-    right true = refl
-    right false = refl
+facts-limit m (inr b) = rw (in-within limitMin limitMax m (b .0) (b .1), or-true (eqb m 0)) refl
 
 pub control-facts : (c : Control) → badControl c ≡ false → Sound c
-unfolding badControl badLimit
+unfolding badControl
 control-facts c e =
-    let f = none (badSizes (c .n) (c .r)) (ltb (c .n) (c .last)) (eqb (c .limit) 0 || within limitMin limitMax (c .limit)) (ltb (c .n) (c .«write_loss»))
-    (ltb (c .n) (c .«out_loss»)) e in
+    let outs = or-split _ _ e in
+    let writes = or-split _ _ (outs .0) in
+    let limit = or-split _ _ (writes .0) in
+    let last = or-split _ _ (limit .0) in
     record {
-      sizes = sizes-facts (c .n) (c .r) (f .0);
-      last = ltb-false (c .n) (c .last) (f .1);
-      limit = limit-facts (c .limit) (f .2);
-      writes = ltb-false (c .n) (c .«write_loss») (f .3);
-      outs = ltb-false (c .n) (c .«out_loss») (f .4);
+      sizes = sizes-facts (c .n) (c .r) (last .0);
+      last = ltb-false (c .n) (c .last) (last .1);
+      limit = limit-facts (c .limit) (limit .1);
+      writes = ltb-false (c .n) (c .«write_loss») (writes .1);
+      outs = ltb-false (c .n) (c .«out_loss») (outs .1);
     }
 
 pub facts-control : (c : Control) → Sound c → badControl c ≡ false
-unfolding badControl badLimit
+unfolding badControl
 facts-control c s =
     rw (
       facts-sizes (c .n) (c .r) (s .sizes),
@@ -98,14 +91,17 @@ unfolding newControl
 new-sound n r s = record { sizes = s; last = omega arith; limit = inl refl; writes = omega arith; outs = omega arith }
 
 module _ (c : Control) (s : Sound c) where
+  with-sound : {last limit writes outs : ℕ} → last ≤ c .n → Limit limit → writes ≤ c .n → outs ≤ c .n → Sound (controlWith last limit writes outs c)
+  with-sound l m w o = record { sizes = s .sizes; last = l; limit = m; writes = w; outs = o }
+
   pub last-sound : (i : ℕ) → i ≤ c .n → Sound (withLast i c)
   unfolding withLast
-  last-sound i l = record { sizes = s .sizes; last = l; limit = s .limit; writes = s .writes; outs = s .outs }
+  last-sound i l = with-sound l (s .limit) (s .writes) (s .outs)
 
   pub writes-sound : (k : ℕ) → k ≤ c .n → Sound (withWriteLoss k c)
   unfolding withWriteLoss
-  writes-sound k l = record { sizes = s .sizes; last = s .last; limit = s .limit; writes = l; outs = s .outs }
+  writes-sound k l = with-sound (s .last) (s .limit) l (s .outs)
 
   pub analysis-sound : (m loss : ℕ) → limitMin ≤ m → m ≤ limitMax → loss ≤ c .n → Sound (withAnalysis m loss c)
   unfolding withAnalysis
-  analysis-sound m loss a b l = record { sizes = s .sizes; last = s .last; limit = inr (a, b); writes = omega arith; outs = l }
+  analysis-sound m loss a b l = with-sound (s .last) (inr (a, b)) (omega arith) l

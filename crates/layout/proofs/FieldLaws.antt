@@ -2,17 +2,17 @@
 -- Assumes nothing.
 use Prim.Native.Nat.{ℕ, zero, suc, _+_, _-_, _*_, _/_, _%_, _^_, _≤_, _<_}
 use mathlib.Core.Path.{_≡_, refl, sym, ap, ap₂, _∙_, subst}
-use mathlib.Core.Bool.{Bool, true, false, _||_}
+use mathlib.Core.Bool.{Bool, true, false, _||_, or-true}
 use mathlib.Core.Logic.{_≢_, _⊎_, inl, inr, ⊎-elim}
 use native.Mathlib.Nat.{mod-lt, add-comm, add-assoc, mul-assoc, add-zero, add-mul, max-eq-right, le-of-suc-le-suc, lt-of-lt-of-le, mod-eq-of-lt, one-mul, zero-div}
 use native.Mathlib.Decide.{decLt}
 use native.Mathlib.Omega.{arith}
 use lib.Dec.{eqb, leb}
 use borrow.Author.Tests.{le-leb, leb-true}
-use lib.Arith.{digits-lt}
-use lib.Pow.{pow-pos, pow-mono, pow-add, split, high, low, field, mod-mod-pow, shr-lt, shr-shr, shr-mod, ones-lt, ones-split, shl-exact, shl-lt, mod-pow-add}
+use lib.Pow.{pow-pos, pow-mono, pow-add, split, high, low, field, mod-mod-pow, shr-shr, shr-mod, ones-lt, ones-split, shl-exact, shl-lt, mod-pow-add}
 use lib.Bits.{bitAnd, bitOr, and-mask, and-block, or-block, or-shifted, or-zero-r, or-step, and-zero-r}
 use Rattle.layout.specs.Field as F
+use Rattle.layout.proofs.BoolLaws.{or-cases}
 
 -- ---- one field
 
@@ -23,11 +23,6 @@ small w v h = mod-eq-of-lt h
 pub field-lt : (p w r : ℕ) → F.field p w r < 2 ^ w
 unfolding F.field
 field-lt p w r = mod-lt (r / 2 ^ p) (pow-pos w)
-
--- the field of a field that starts below it
-pub field-of-high : (p w k r : ℕ) → F.field p w (r / 2 ^ k) ≡ F.field (k + p) w r
-unfolding F.field
-field-of-high p w k r = ap (λ (x : ℕ). x % 2 ^ w) (shr-shr r k p)
 
 -- the number 0 has no bit
 pub zero-field : (p w : ℕ) → F.field p w 0 ≡ 0
@@ -76,17 +71,6 @@ module _ (p w v r : ℕ) where
       = λ x. sym (mod-mod-pow x (p - k) k) ∙ ap (λ (i : ℕ). x % 2 ^ i % 2 ^ k) (sym e) in
       lows (F.put p w v r) ∙ ap (λ (x : ℕ). x % 2 ^ k) put-low ∙ sym (lows r)
 
-  -- the record keeps its size
-  pub put-lt : (n : ℕ) → w + p ≤ n → r < 2 ^ n → F.put p w v r < 2 ^ n
-  unfolding F.put
-  put-lt n l b =
-      let e : n ≡ (n - (w + p)) + (w + p) = omega arith in
-      let hi : r / 2 ^ (w + p) < 2 ^ (n - (w + p)) = shr-lt (n - (w + p)) (w + p) (subst (λ (k : ℕ). r < 2 ^ k) e b) in
-      subst (λ (m : ℕ). F.put p w v r < m)
-      (mul-assoc (2 ^ (n - (w + p))) (2 ^ w) (2 ^ p) ∙ ap (λ (m : ℕ). 2 ^ (n - (w + p)) * m) (sym (pow-add 2 w p))
-      ∙ sym (pow-add 2 (n - (w + p)) (w + p)) ∙ ap (λ (k : ℕ). 2 ^ k) (sym e))
-      (digits-lt (digits-lt hi fits) (mod-lt r (pow-pos p)))
-
   -- the same field put twice
   pub put-put : (u : ℕ) → F.put p w u (F.put p w v r) ≡ F.put p w u r
   unfolding F.put
@@ -108,10 +92,6 @@ put-same p w r =
     ∙ split (r / 2 ^ p) w)
     ∙ split r p
 
--- a field that has the value already
-pub put-stays : (p w v r : ℕ) → F.field p w r ≡ v → F.put p w v r ≡ r
-put-stays p w v r e = ap (λ (x : ℕ). F.put p w x r) (sym e) ∙ put-same p w r
-
 -- two numbers with the same above, in and below a field are the same
 pub parts : (p w r s : ℕ) → r / 2 ^ (w + p) ≡ s / 2 ^ (w + p) → F.field p w r ≡ F.field p w s → r % 2 ^ p ≡ s % 2 ^ p → r ≡ s
 unfolding F.put
@@ -119,35 +99,21 @@ parts p w r s a b c =
     sym (put-same p w r) ∙ ap (λ (v : ℕ). F.put p w v r) b
     ∙ ap₂ (λ (x y : ℕ). (x * 2 ^ w + F.field p w s % 2 ^ w) * 2 ^ p + y) a c ∙ put-same p w s
 
--- two numbers with the same field, that are the same after another value is put there, are the same
-pub put-cancel : (p w v r s : ℕ) → F.put p w v r ≡ F.put p w v s → F.field p w r ≡ F.field p w s → r ≡ s
-put-cancel p w v r s e f =
-    sym (put-same p w r) ∙ sym (put-put p w v r (F.field p w r)) ∙ ap₂ (λ (x y : ℕ). F.put p w x y) f e
-    ∙ put-put p w v s (F.field p w s) ∙ put-same p w s
-
 -- ---- two fields
 
 -- no bit in common; computes where the places are numerals
 abbrev pub apart : ℕ → ℕ → ℕ → ℕ → Bool
 apart p w q u = leb (w + p) q || leb (u + q) p
 
-or-true : (a b : Bool) → a || b ≡ true → (a ≡ true) ⊎ (b ≡ true)
-or-true true b e = inl refl
-or-true false b e = inr e
-
 pub apart-cases : (p w q u : ℕ) → apart p w q u ≡ true → (w + p ≤ q) ⊎ (u + q ≤ p)
-apart-cases p w q u e = ⊎-elim (λ a. inl (leb-true (w + p) q a)) (λ b. inr (leb-true (u + q) p b)) (or-true (leb (w + p) q) (leb (u + q) p) e)
+apart-cases p w q u e = ⊎-elim (λ a. inl (leb-true (w + p) q a)) (λ b. inr (leb-true (u + q) p b)) (or-cases (leb (w + p) q) (leb (u + q) p) e)
 
 pub apart-flags : (p q : ℕ) → p ≢ q → apart p 1 q 1 ≡ true
 apart-flags p q h = go (decLt p q)
   where
-    right : (a : Bool) → a || true ≡ true
-    right true = refl
-    right false = refl
-
     go : Dec (p < q) → apart p 1 q 1 ≡ true
     go (yes l) = rw (le-leb (1 + p) q (omega arith)) refl
-    go (no l) = rw (le-leb (1 + q) p (omega arith)) (right (leb (1 + p) q))
+    go (no l) = rw (le-leb (1 + q) p (omega arith)) (or-true (leb (1 + p) q))
 
 module _ (p w v r q u : ℕ) where
   field-put-above : w + p ≤ q → F.field q u (F.put p w v r) ≡ F.field q u r
@@ -250,13 +216,6 @@ flag-same p r = ap (λ (v : ℕ). F.put p 1 v r) (digit-flag p r) ∙ put-same p
 -- a flag that is so already, and one put back as it was
 pub flag-stays : (p : ℕ) (b : Bool) (r : ℕ) → F.flag p r ≡ b → F.putFlag p b r ≡ r
 flag-stays p b r e = ap (λ (c : Bool). F.putFlag p c r) (sym e) ∙ flag-same p r
-
-pub flag-undo : (p : ℕ) (b c : Bool) (r : ℕ) → F.flag p r ≡ c → F.putFlag p c (F.putFlag p b r) ≡ r
-flag-undo p b c r e = flag-put-put p b c r ∙ flag-stays p c r e
-
-pub flag-put-lt : (p : ℕ) (b : Bool) (r n : ℕ) → 1 + p ≤ n → r < 2 ^ n → F.putFlag p b r < 2 ^ n
-unfolding F.putFlag
-flag-put-lt p b r n l h = put-lt p 1 (F.digit b) r n l h
 
 -- ---- shifts and masks
 

@@ -1,4 +1,5 @@
 -- Laws of the layout.
+pub mod BoolLaws
 pub mod FieldLaws
 pub mod LimitLaws
 pub mod WordLaws

@@ -43,22 +43,11 @@ first-front (t ∷ a) l h = go (t .1) h (first-front a l)
     go true h r = refl
     go false h r = r h
 
--- no test holds: 0
-pub first-none : (l : List Test) → None l → first l ≡ 0
-unfolding first
-first-none [] h = refl
-first-none (t ∷ l) (cons e h) = rw e (first-none l h)
-
 -- none of the first tests holds: the others decide
 pub first-skip : (a l : List Test) → None a → first (a ++ l) ≡ first l
 unfolding first
 first-skip [] l h = refl
 first-skip (t ∷ a) l (cons e h) = rw e (first-skip a l h)
-
--- none before it holds and it does: its number
-pub first-at : (a : List Test) (t : Test) (l : List Test) → None a → t .1 ≡ true → first (a ++ (t ∷ l)) ≡ t .0
-unfolding first
-first-at a t l h e = first-skip a (t ∷ l) h ∙ rw e refl
 
 -- and back: with numbers above 0, 0 is answered only where no test holds
 pub first-zero : (l : List Test) → Numbered l → first l ≡ 0 → None l
@@ -69,36 +58,6 @@ first-zero (t ∷ l) (cons p h) e = go (t .1) refl e (first-zero l h)
     go : (b : Bool) → t .1 ≡ b → cond b (t .0) (first l) ≡ 0 → (first l ≡ 0 → None l) → None (t ∷ l)
     go true q z ih = absurd (omega arith)
     go false q z ih = cons q (ih z)
-
--- a number answered is that of a test that holds, and none before it does
-pub record Found (l : List Test) (k : ℕ) : Type 0 where
-  pub before : List Test
-  pub after : List Test
-  pub test : Test
-  pub parts : l ≡ before ++ (test ∷ after)
-  pub number : test .0 ≡ k
-  pub holds : test .1 ≡ true
-  pub earlier : None before
-
-pub first-found : (l : List Test) (k : ℕ) → 0 < k → first l ≡ k → Found l k
-unfolding first
-first-found [] k p e = absurd (omega arith)
-first-found (t ∷ l) k p e = go (t .1) refl e (first-found l k p)
-  where
-    go : (b : Bool) → t .1 ≡ b → cond b (t .0) (first l) ≡ k → (first l ≡ k → Found l k) → Found (t ∷ l) k
-    go true q z ih = record { before = []; after = l; test = t; parts = refl; number = z; holds = q; earlier = nil }
-    go false q z ih = let f = ih z in record {
-      before = t ∷ f .before;
-      after = f .after;
-      test = f .test;
-      parts = ap (λ (m : List Test). t ∷ m) (f .parts);
-      number = f .number;
-      holds = f .holds;
-      earlier = cons q (f .earlier);
-    }
-
-pub found-first : (l : List Test) (k : ℕ) → Found l k → first l ≡ k
-found-first l k f = ap first (f .parts) ∙ first-at (f .before) (f .test) (f .after) (f .earlier) (f .holds) ∙ f .number
 
 -- ---- outcomes
 
@@ -120,24 +79,3 @@ module _ {A : Type 0} (accepted : A) (refused : ℕ → A) where
   pub outcome-number : (l : List Test) (k : ℕ) → first l ≡ k → k ≢ 0 → outcome l accepted refused ≡ refused k
   unfolding outcome
   outcome-number l k e d = ap (λ (m : ℕ). by m accepted refused) e ∙ by-number k d
-
-  -- no test holds: accepted
-  pub outcome-accepted : (l : List Test) → None l → outcome l accepted refused ≡ accepted
-  unfolding outcome
-  outcome-accepted l h = by-zero (first l) (first-none l h)
-
-  -- none before it holds and it does: refused with its number
-  pub outcome-refused : (a : List Test) (t : Test) (l : List Test) → None a → t .1 ≡ true → t .0 ≢ 0 → outcome (a ++ (t ∷ l)) accepted refused ≡ refused (t .0)
-  unfolding outcome
-  outcome-refused a t l h e z =
-      let q = first-at a t l h e in
-      ap (λ (k : ℕ). by k accepted refused) q ∙ by-number (t .0) z
-
-  -- one test at a time, from the front
-  pub outcome-holds : (k : ℕ) (b : Bool) (l : List Test) → b ≡ true → k ≢ 0 → outcome ((k, b) ∷ l) accepted refused ≡ refused k
-  unfolding outcome
-  outcome-holds k b l e z = ap (λ (m : ℕ). by m accepted refused) (first-holds k l b e) ∙ by-number k z
-
-  pub outcome-fails : (k : ℕ) (b : Bool) (l : List Test) → b ≡ false → outcome ((k, b) ∷ l) accepted refused ≡ outcome l accepted refused
-  unfolding outcome
-  outcome-fails k b l e = ap (λ (m : ℕ). by m accepted refused) (first-fails k l b e)

@@ -1,12 +1,13 @@
 -- The sort of a word, from the tests of the word and back. Assumes nothing.
 use Prim.Native.Nat.{ℕ, _^_, _≤_}
-use mathlib.Core.Path.{_≡_, refl, sym}
-use mathlib.Core.Bool.{Bool, true, false, cond, _&&_, _||_, false≢true}
+use mathlib.Core.Path.{_≡_, refl}
+use mathlib.Core.Bool.{Bool, true, false, cond, _&&_, _||_, or-true}
 use native.Mathlib.Omega.{arith}
 use lib.Dec.{leb}
 use borrow.Author.Tests.{le-leb, lt-leb, leb-true, ne-eqb}
 use Rattle.layout.specs.Limits.{objectMax}
 use Rattle.layout.specs.Word.{isNil, isPointer, isImmediate, legalWord, sortOf}
+use Rattle.layout.proofs.BoolLaws.{or-split}
 use Rattle.layout.proofs.LimitLaws.{within-true, above-within}
 use Rattle.layout.specs.declared.words.Word.{Word}
 use Rattle.layout.specs.declared.words.Word.the-variants.{Nil, Object, Immediate, Illegal}
@@ -38,18 +39,10 @@ module _ (n w : ℕ) (h : n ≤ objectMax) where
 
   pub sort-illegal : legalWord n w ≡ false → sortOf n w ≡ Illegal
   unfolding sortOf legalWord
-  sort-illegal e = none (isNil w) (isPointer n w) (isImmediate w) e
-    where
-      none : (a b c : Bool) → a || b || c ≡ false → cond a Nil (cond (b && leb w objectMax) (Object w) (cond c Immediate Illegal)) ≡ Illegal
-      none false false false q = refl
-      none false false true q = absurd (false≢true (sym q))
-      none false true c q = absurd (false≢true (sym q))
-      none true b c q = absurd (false≢true (sym q))
-
-  -- no word has two sorts
-  pub pointer-not-nil : isPointer n w ≡ true → isNil w ≡ false
-  unfolding isPointer isNil
-  pointer-not-nil e = let b = within-true 1 n w e .0 in ne-eqb w 0 (λ q. omega arith)
+  sort-illegal e =
+      let s = or-split (isNil w || isPointer n w) (isImmediate w) e in
+      let t = or-split (isNil w) (isPointer n w) (s .0) in
+      rw (t .0, t .1, s .1) refl
 
   pub pointer-not-immediate : isPointer n w ≡ true → isImmediate w ≡ false
   unfolding isPointer isImmediate
@@ -57,11 +50,7 @@ module _ (n w : ℕ) (h : n ≤ objectMax) where
 
   pub pointer-legal : isPointer n w ≡ true → legalWord n w ≡ true
   unfolding legalWord
-  pointer-legal e = rw e (go (isNil w))
-    where
-      go : (p : Bool) → p || true || isImmediate w ≡ true
-      go true = refl
-      go false = refl
+  pointer-legal e = rw (e, or-true (isNil w)) refl
 
 -- ---- back: what an answered sort says
 

@@ -22,14 +22,18 @@ badControl c =
 unfoldable pub newControl : ℕ → ℕ → Control
 newControl n r = record { n = n; r = r; last = 0; limit = 0; «write_loss» = 0; «out_loss» = 0 }
 
+-- the control record with these for its last four numbers
+abbrev pub controlWith : ℕ → ℕ → ℕ → ℕ → Control → Control
+controlWith last limit writes outs c = record { n = c .n; r = c .r; last = last; limit = limit; «write_loss» = writes; «out_loss» = outs }
+
 -- the control record with another last number ("The heap")
 unfoldable pub withLast : ℕ → Control → Control
-withLast i c = record { n = c .n; r = c .r; last = i; limit = c .limit; «write_loss» = c .«write_loss»; «out_loss» = c .«out_loss» }
+withLast i c = controlWith i (c .limit) (c .«write_loss») (c .«out_loss») c
 
 -- the control record with another write loss ("The heap")
 unfoldable pub withWriteLoss : ℕ → Control → Control
-withWriteLoss k c = record { n = c .n; r = c .r; last = c .last; limit = c .limit; «write_loss» = k; «out_loss» = c .«out_loss» }
+withWriteLoss k c = controlWith (c .last) (c .limit) k (c .«out_loss») c
 
 -- what an analysis leaves: the new limit, no write loss, the new out loss
 unfoldable pub withAnalysis : ℕ → ℕ → Control → Control
-withAnalysis limit loss c = record { n = c .n; r = c .r; last = c .last; limit = limit; «write_loss» = 0; «out_loss» = loss }
+withAnalysis limit loss c = controlWith (c .last) limit 0 loss c

@@ -2,21 +2,23 @@
 -- Assumes nothing.
 use Prim.Native.Nat.{ℕ, zero, suc, _+_, _-_, _*_, _/_, _%_, _^_, _≤_, _<_}
 use mathlib.Core.Path.{_≡_, refl, sym, ap, ap₂, _∙_}
-use mathlib.Core.Bool.{Bool, true, false, cond, not, _||_, _&&_, false≢true}
+use mathlib.Core.Bool.{Bool, true, false, cond, false≢true}
 use mathlib.Core.List.{List}
 use mathlib.Core.Logic.{_≢_}
-use native.Mathlib.Decide.{ℕ-discrete}
+use native.Mathlib.Decide.{ℕ-discrete, decLe}
 use native.Mathlib.Omega.{arith}
-use lib.Dec.{eqb, leb, ltb}
 use lib.ListN.{length, getD, set, drop, length-set}
 use lib.Seq.{drop-set-lt}
-use borrow.Author.Tests.{leb-true, le-leb, lt-ltb, le-ltb}
-use Rattle.layout.specs.Limits.{objectMax, within}
+use borrow.Author.Tests.{lt-ltb, le-ltb}
+use Rattle.layout.specs.Limits.{within}
 use Rattle.layout.specs.Field.{field, flag}
+use Rattle.layout.proofs.LimitLaws.{within-true, in-within}
 use Rattle.graph.specs.Numbers.{upd}
 use Rattle.graph.proofs.NumberLaws.{upd-same, upd-other}
-use Rattle.rules.specs.Buffers.{recOf, short}
-use Rattle.rules.proofs.ListLaws.{recOf-above}
+use Rattle.rules.specs.Buffers.{recOf, short, eachFrom, eachRecord, zeros}
+use Rattle.rules.proofs.StoreLaws.{recOf-zero}
+use Rattle.rules.proofs.BufferLaws.{zeros-from}
+use Rattle.rules.proofs.ListLaws.{recOf-above, recOf-each, drop-past}
 use Rattle.rules.proofs.PlaceLaws.{rec-at, rec-put, by-object}
 use Rattle.links.specs.Links.{topMember, linkedIn, linkedAt, nextMember, linkWord, links, linkable}
 use Rattle.links.specs.Linking.{firstAt, nextAt, Linking}
@@ -24,32 +26,28 @@ use Rattle.links.proofs.MemberOrder.{top-le, top-up, top-own, next-is}
 
 -- ---- empty words
 
-zero-none : (n : ℕ) (recs : List ℕ) → recOf n recs 0 ≡ 0
-unfolding recOf
-zero-none n recs = refl
-
 -- 0 is no object, and linked nowhere
 pub none-linked : (outs : Bool) (n : ℕ) (recs : List ℕ) → linkedAt outs n recs 0 ≡ 0
 unfolding field flag
-none-linked true n recs = rw (zero-none n recs) refl
-none-linked false n recs = rw (zero-none n recs) refl
+none-linked true n recs = rw (recOf-zero n recs) refl
+none-linked false n recs = rw (recOf-zero n recs) refl
+
+module _ (n : ℕ) (work : List ℕ) (long : n ≤ length work) where
+  -- n words set to 0
+  pub zeros-none : (x : ℕ) → recOf n (zeros n work) x ≡ 0
+  unfolding eachRecord
+  zeros-none zero = recOf-zero n (zeros n work)
+  zeros-none (suc x) = ap (λ (l : List ℕ). recOf n l (suc x)) (sym (zeros-from 1 n work)) ∙ go (decLe (suc x) n)
+    where
+      go : Dec (suc x ≤ n) → recOf n (eachFrom 1 n (λ y w. 0) work) (suc x) ≡ 0
+      go (yes q) = recOf-each n (λ y w. 0) work (suc x) (omega arith) q long
+      go (no q) = recOf-above n (eachFrom 1 n (λ y w. 0) work) (suc x) (omega (arith, q))
+
+  pub zeros-past : drop n (zeros n work) ≡ drop n work
+  unfolding zeros
+  zeros-past = drop-past 0 n (λ i w. 0) work
 
 module _ (n : ℕ) (work : List ℕ) where
-  pub clear-start : (x : ℕ) → n < x → recOf n work x ≡ 0
-  clear-start x h = recOf-above n work x h
-
-  pub clear-turn : (k : ℕ) → 0 < k → k ≤ n → n ≤ length work → ((x : ℕ) → k < x → recOf n work x ≡ 0)
-      → (x : ℕ) → k - 1 < x → recOf n (set work (k - 1) 0) x ≡ 0
-  clear-turn k p q l h x r = rec-put n work k 0 (omega arith) q l x ∙ go (ℕ-discrete x k)
-    where
-      go : Dec (x ≡ k) → upd (recOf n work) k 0 x ≡ 0
-      go (yes f) = rw f (upd-same (recOf n work) k 0)
-      go (no f) = upd-other (recOf n work) k x 0 f ∙ h x (omega (arith, f))
-
-  pub clear-end : (k : ℕ) → k ≤ 0 → ((x : ℕ) → k < x → recOf n work x ≡ 0) → (x : ℕ) → recOf n work x ≡ 0
-  clear-end k e h zero = zero-none n work
-  clear-end k e h (suc x) = h (suc x) (omega arith)
-
   pub link-start : (cl : ℕ → ℕ) → cl 0 ≡ 0 → ((x : ℕ) → recOf n work x ≡ 0) → Linking n cl work 0
   unfolding topMember nextMember within
   link-start cl z h = record {
@@ -64,19 +62,6 @@ module _ (n : ℕ) (work : List ℕ) where
 
 -- ---- one object
 
-within-holds : (n d : ℕ) → within 1 n d ≡ true → (1 ≤ d) × (d ≤ n)
-unfolding within
-within-holds n d e = go (leb 1 d) (leb d n) refl refl e
-  where
-    go : (a b : Bool) → leb 1 d ≡ a → leb d n ≡ b → (a && b) ≡ true → (1 ≤ d) × (d ≤ n)
-    go true true p q r = (leb-true 1 d p, leb-true d n q)
-    go true false p q r = absurd (false≢true r)
-    go false b p q r = absurd (false≢true r)
-
-within-fits : (n d : ℕ) → d ≢ 0 → d ≤ n → within 1 n d ≡ true
-unfolding within
-within-fits n d p q = rw (le-leb 1 d (omega (arith, p)), le-leb d n q) refl
-
 module _ (n : ℕ) (outs : Bool) (recs work : List ℕ) (x : ℕ) (most : n ≤ 4095) (long : n ≤ length work) (p : 1 ≤ x) (q : x ≤ n)
     (L : Linking n (linkedAt outs n recs) work (x - 1)) (d : ℕ) (is : d ≡ linkedIn outs (getD recs (x - 1) 0)) where
   abbrev cl : ℕ → ℕ
@@ -88,7 +73,7 @@ module _ (n : ℕ) (outs : Bool) (recs work : List ℕ) (x : ℕ) (most : n ≤ 
   pub link-none : (b : Bool) → b ≡ within 1 n d → b ≡ false → Linking n cl work x
   unfolding nextMember
   link-none b e f = record {
-    first = λ c r s. L .first c r s ∙ sym (top-up cl c x p (λ g. false≢true (sym (sym e ∙ f) ∙ within-fits n d (λ z. r (sym g ∙ sym own ∙ z)) (rw (own, g) s))));
+    first = λ c r s. L .first c r s ∙ sym (top-up cl c x p (λ g. false≢true (sym (sym e ∙ f) ∙ in-within 1 n d (let z : d ≢ 0 = λ z. r (sym g ∙ sym own ∙ z) in omega (arith, z)) (rw (own, g) s))));
     next = λ y r. lower y r (ℕ-discrete y x);
     blank = λ y r. L .blank y (omega arith);
   }
@@ -99,7 +84,7 @@ module _ (n : ℕ) (outs : Bool) (recs work : List ℕ) (x : ℕ) (most : n ≤ 
 
   module _ (b : Bool) (e : b ≡ within 1 n d) (t : b ≡ true) where
     fits : (1 ≤ d) × (d ≤ n)
-    fits = within-holds n d (sym e ∙ t)
+    fits = within-true 1 n d (sym e ∙ t)
 
     some : d ≢ 0
     some z = absurd (omega (arith, fits .0))

@@ -6,9 +6,11 @@ use mathlib.Core.Logic.{_≢_}
 use Rattle.rules.specs.Buffers.{recOf}
 use Rattle.links.specs.Links.{topMember, nextMember}
 
+-- the highest member of a cluster, by the link word of its head
 abbrev pub firstAt : ℕ → List ℕ → ℕ → ℕ
 firstAt n work = λ d. recOf n work d / 4096
 
+-- the next lower member, by the link word of an object
 abbrev pub nextAt : ℕ → List ℕ → ℕ → ℕ
 nextAt n work = λ x. recOf n work x % 4096
 

@@ -12,10 +12,6 @@ unfoldable pub topMember : (ℕ → ℕ) → ℕ → ℕ → ℕ
 topMember cl d zero = 0
 topMember cl d (suc k) = cond (eqb (cl (suc k)) d) (suc k) (topMember cl d k)
 
--- the cluster of each object, 0 for none
-abbrev pub clOf : ℕ → List ℕ → ℕ → ℕ
-clOf n recs = λ x. cluster (recOf n recs x)
-
 -- the cluster in which an object with the record r is linked: its own, or, where out members alone are, 0 for the others
 abbrev pub linkedIn : Bool → ℕ → ℕ
 linkedIn outs r = cond (outs && not (isOut r)) 0 (cluster r)

@@ -1,15 +1,15 @@
 // The members of each cluster, or its out members alone, linked from the highest down: the walks go through a cluster by them.
 ghost use mathlib.Core.Path.{_≡_};
 ghost use mathlib.Core.Bool.{cond};
-ghost use Prim.Native.Nat.{ℕ, _-_, _/_, _%_, _≤_};
+ghost use Prim.Native.Nat.{_-_, _/_, _%_, _≤_};
 ghost use lib.ListN.{length, drop};
-ghost use Rattle.rules.specs.Buffers.{recOf};
 ghost use Rattle.links.specs.Links.{linkedIn, linkedAt, linkable, links};
 ghost use Rattle.links.specs.Linking.{Linking};
 use layout::limits::OBJECT_MAX;
 use layout::limits::within;
 use records::cluster_of;
 use records::is_out;
+use table::buffers::zero;
 
 // The next lower member of the object's cluster, 0 for none.
 pub fn next_member(link: u32) -> u32
@@ -23,18 +23,6 @@ pub fn top_member(link: u32) -> u32
     ensures { λ x. ⌜ x ≡ link / 4096 % 4096 ⌝ }
 {
     link / 4096 % 4096
-}
-
-// Empties the first n link words.
-fn clear(n: u32, work: &mut [u32])
-    requires { ⌜ n ≤ length (now work) ⌝ }
-    ensures { λ _. ⌜ ((x : ℕ) → recOf n (now (work .exit)) x ≡ 0) × (drop n (now (work .exit)) ≡ drop n (now (work .entry))) ⌝ }
-{
-    let mut k = n;
-    while 0 < k {
-        k -= 1;
-        work[k as usize] = 0;
-    }
 }
 
 // The cluster in which an object with the record r is linked; 0 where out members alone are linked and it is none.
@@ -67,7 +55,7 @@ fn link_all(outs: bool, n: u32, records: &[u32], work: &mut [u32])
     requires { ⌜ (n ≤ 4095) × (n ≤ length (now records)) × (n ≤ length (now work)) ⌝ }
     ensures { λ _. ⌜ now (work .exit) ≡ links n (linkedAt outs n (now (records .entry))) (now (work .entry)) ⌝ }
 {
-    clear(n, work);
+    zero(work, n as usize);
     let mut k = 0;
     while k < n {
         k += 1;

@@ -1,22 +1,21 @@
 -- The set of postponed objects: numbers put in, taken out and found.
 -- Assumes nothing.
 use Prim.Native.Nat.{ℕ, zero, suc, _+_, _-_, _*_, _/_, _%_, _^_, _<_, _≤_}
-use mathlib.Core.Path.{_≡_, refl, sym, ap, _∙_, subst}
+use mathlib.Core.Path.{_≡_, refl, sym, ap, _∙_}
 use mathlib.Core.Logic.{_≢_}
 use mathlib.Core.Bool.{Bool, true, false, not, true≢false}
 use mathlib.Core.List.{List}
 use native.Mathlib.Nat.{div-one}
 use native.Mathlib.Omega.{arith}
 use native.Mathlib.Decide.{ℕ-discrete, decLt}
-use borrow.Author.Tests.{eqb-true, eq-eqb, ne-eqb}
+use borrow.Author.Tests.{eqb-true, eq-eqb, ne-eqb, not-false}
 use lib.Dec.{eqb}
 use lib.ListN.{length, getD, set, take, drop, length-set}
 use lib.Seq.{getD-drop, getD-set-same, getD-set-other, take-set-le}
-use lib.Pow.{shr-shr, shr-lt}
 use lib.Count.{trailingZeros, under}
 use Rattle.layout.specs.Field.{field, flag, putFlag}
 use Rattle.layout.proofs.FieldLaws.{zero-flag, flag-put-same, flag-put-other}
-use Rattle.bitmap.proofs.BitLaws.{trailing-lt}
+use Rattle.bitmap.proofs.BitLaws.{half-lt, half-power, trailing-lt}
 use Rattle.graph.specs.Numbers.{Obj, lowest}
 use Rattle.graph.proofs.LowestLaws.{lowest-passes, lowest-least, none-lowest}
 use Rattle.postponed.specs.Postponed as P
@@ -24,16 +23,10 @@ use Rattle.postponed.specs.Postponed.{bitAt, putBit, sumAt, someIn, lowe
 
 -- ---- the lowest set bit
 
-half-power : (w t : ℕ) → w / 2 ^ suc t ≡ w / 2 / 2 ^ t
-half-power w t = let e : suc t ≡ 1 + t = omega arith in ap (λ (k : ℕ). w / 2 ^ k) e ∙ sym (shr-shr w 1 t)
-
-half-lt : (k w : ℕ) → w < 2 ^ suc k → w / 2 < 2 ^ k
-half-lt k w h = let e : suc k ≡ k + 1 = omega arith in shr-lt k 1 (subst (λ (x : ℕ). w < 2 ^ x) e h)
-
 digit-set : (k w : ℕ) → w ≢ 0 → w < 2 ^ k → w / 2 ^ trailingZeros k w % 2 ≡ 1
 unfolding trailingZeros
 digit-set zero w nz h = absurd (nz (omega arith))
-digit-set (suc k) w nz h = go (w % 2) refl (λ z. digit-set k (w / 2) z (half-lt k w h))
+digit-set (suc k) w nz h = go (w % 2) refl (λ z. digit-set k (w / 2) z (half-lt k h))
   where
     go : (d : ℕ) → w % 2 ≡ d → (w / 2 ≢ 0 → w / 2 / 2 ^ trailingZeros k (w / 2) % 2 ≡ 1) → w / 2 ^ under d (trailingZeros k (w / 2)) % 2 ≡ 1
     go zero e ih = ap (λ (x : ℕ). x % 2) (half-power w (trailingZeros k (w / 2))) ∙ ih (λ z. nz (omega arith))
@@ -193,15 +186,8 @@ module _ (n : ℕ) (work : List ℕ) (t : ℕ → Bool) (m : Mapped n t work) wh
   empty-word : (p : ℕ) → p / 32 ≤ n / 32 → bitAt work (sumAt n) (p / 32) ≡ false → t p ≡ false
   unfolding bitAt
   empty-word p h e =
-      let z : getD work (9 * n + p / 32) 0 ≡ 0 = zero-of (getD work (9 * n + p / 32) 0) (sym (m .sums (p / 32) h) ∙ e) in
+      let z : getD work (9 * n + p / 32) 0 ≡ 0 = eqb-true _ 0 (not-false _ (sym (m .sums (p / 32) h) ∙ e)) in
       sym (m .bits p h) ∙ ap (flag (p % 32)) z ∙ zero-flag (p % 32)
-    where
-      zero-of : (x : ℕ) → not (eqb x 0) ≡ false → x ≡ 0
-      zero-of x q = by (eqb x 0) refl q
-        where
-          by : (b : Bool) → eqb x 0 ≡ b → not b ≡ false → x ≡ 0
-          by true a z = eqb-true x 0 a
-          by false a z = absurd (true≢false z)
 
   module _ (only : (i : ℕ) → t i ≡ true → Obj n i) (k : ℕ) (none : (j : ℕ) → j < k → getD work (sumAt n + j) 0 ≡ 0) where
     -- no number has its word's bit in the words before k

@@ -6,17 +6,10 @@ ghost use lib.ListN.{getD, set};
 ghost use lib.Count.{trailingZeros};
 ghost use Rattle.layout.specs.Field.{putFlag};
 ghost use Rattle.postponed.specs.Postponed as P;
+use layout::bits::with_bit;
 
 // The words that a summary of 4,095 numbers has.
 const SUMMARY_MAX: usize = 4;
-
-// The word w with bit i, modulo 32, set or clear.
-fn with_bit(w: u32, i: usize, on: bool) -> u32
-    ensures { λ x. ⌜ x ≡ putFlag (i % 32) on w ⌝ }
-{
-    let bit: u32 = 1 << (i % 32);
-    if on { w | bit } else { w & !bit }
-}
 
 // A bit of the word at a place, which is answered; past the end nothing changes, and the word is 0.
 fn put_bit(work: &mut [u32], at: usize, i: usize, on: bool) -> u32
@@ -24,7 +17,7 @@ fn put_bit(work: &mut [u32], at: usize, i: usize, on: bool) -> u32
     ensures { λ _. ⌜ now (work .exit) ≡ set (now (work .entry)) at (putFlag (i % 32) on (getD (now (work .entry)) at 0)) ⌝ }
 {
     if at < work.len() {
-        let w = with_bit(work[at], i, on);
+        let w = with_bit(work[at], (i % 32) as u32, on);
         work[at] = w;
         return w;
     }

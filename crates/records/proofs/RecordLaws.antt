@@ -2,18 +2,19 @@
 -- Assumes nothing.
 use Prim.Native.Nat.{ℕ, zero, suc, _+_, _*_, _/_, _%_, _^_, _≤_, _<_}
 use mathlib.Core.Path.{_≡_, refl, sym, ap, ap₂, _∙_}
-use mathlib.Core.Bool.{Bool, true, false, not, _&&_, _||_, false≢true, true≢false}
+use mathlib.Core.Bool.{Bool, true, false, not, _&&_, _||_, and-false, false≢true}
 use mathlib.Core.Logic.{_≢_}
 use native.Mathlib.Nat.{zero-add}
 use native.Mathlib.Omega.{arith}
-use lib.Dec.{eqb, lit≤, lit<, eqb·suc-zero}
+use lib.Dec.{eqb, lit<, eqb·suc-zero}
 use lib.Bits.{bitAnd, and-zero-r}
 use lib.Pow.{shr-shr}
-use borrow.Author.Tests.{leb-true, le-leb, eqb-true, eqb-false, eq-eqb, ne-eqb}
+use borrow.Author.Tests.{leb-true, le-leb, eqb-true, eqb-false, eq-eqb, ne-eqb, not-false}
 use Rattle.layout.specs.Limits.{widthMax}
 use Rattle.layout.specs.Field.{field, put, flag, putFlag, digit}
 use Rattle.records.specs.Record as R
-use Rattle.layout.proofs.FieldLaws.{apart, small, zero-flag, put-stays, flag-stays, field-put-same, field-put-other, field-put-flag, flag-put-same, flag-put-field, flag-put-other, flag-put-lt, put-lt, and-window}
+use Rattle.layout.proofs.BoolLaws.{and-split}
+use Rattle.layout.proofs.FieldLaws.{apart, small, zero-flag, field-put-same, field-put-other, field-put-flag, flag-put-same, flag-put-field, flag-put-other, and-window}
 
 -- ---- one setter, any reader of other bits
 -- The flags' places are 0 to 6, the width has 4 bits from 8, the cluster 12 from 16: `apart` of two of them is `refl`.
@@ -29,17 +30,8 @@ module _ (v r : ℕ) where
   pub width-with-width : v < 2 ^ 4 → R.width (R.withWidth v r) ≡ v
   width-with-width h = field-put-same 8 4 v r ∙ small 4 v h
 
-  pub cluster-with-width : R.cluster (R.withWidth v r) ≡ R.cluster r
-  cluster-with-width = field-put-other 8 4 v r 16 12 refl
-
-  pub flag-with-width : (q : ℕ) → apart 8 4 q 1 ≡ true → flag q (R.withWidth v r) ≡ flag q r
-  flag-with-width q e = flag-put-field 8 4 v r q e
-
   pub cluster-with-cluster : v < 2 ^ 12 → R.cluster (R.withCluster v r) ≡ v
   cluster-with-cluster h = field-put-same 16 12 v r ∙ small 12 v h
-
-  pub width-with-cluster : R.width (R.withCluster v r) ≡ R.width r
-  width-with-cluster = field-put-other 16 12 v r 8 4 refl
 
   pub flag-with-cluster : (q : ℕ) → apart 16 12 q 1 ≡ true → flag q (R.withCluster v r) ≡ flag q r
   flag-with-cluster q e = flag-put-field 16 12 v r q e
@@ -50,20 +42,6 @@ module _ (v r : ℕ) where
 pub clear-same : (r s : ℕ) → field 4 4 r ≡ field 4 4 s → field 12 4 r ≡ field 12 4 s → field 28 4 r ≡ field 28 4 s → R.clear r ≡ R.clear s
 unfolding R.clear
 clear-same r s a b c = rw (a, b, c) refl
-
-pub clear-put-flag : (p : ℕ) (b : Bool) (r : ℕ) → p < 4 → R.clear (putFlag p b r) ≡ R.clear r
-clear-put-flag p b r h =
-    let above : (q : ℕ) → 4 ≤ q → apart p 1 q 4 ≡ true = λ q l. rw (le-leb (1 + p) q (omega arith)) refl in
-    clear-same (putFlag p b r) r (field-put-flag p b r 4 4 (above 4 (lit≤ tt))) (field-put-flag p b r 12 4 (above 12 (lit≤ tt)))
-    (field-put-flag p b r 28 4 (above 28 (lit≤ tt)))
-
-pub clear-with-width : (v r : ℕ) → R.clear (R.withWidth v r) ≡ R.clear r
-clear-with-width v r =
-    clear-same (R.withWidth v r) r (field-put-other 8 4 v r 4 4 refl) (field-put-other 8 4 v r 12 4 refl) (field-put-other 8 4 v r 28 4 refl)
-
-pub clear-with-cluster : (v r : ℕ) → R.clear (R.withCluster v r) ≡ R.clear r
-clear-with-cluster v r =
-    clear-same (R.withCluster v r) r (field-put-other 16 12 v r 4 4 refl) (field-put-other 16 12 v r 12 4 refl) (field-put-other 16 12 v r 28 4 refl)
 
 -- the mask of those bits, as a sum of the three fields
 and-clear-mask : (r : ℕ) → bitAnd r 0xF000F0F0 ≡ (field 28 4 r * 2 ^ 12 * 2 ^ 8 + field 12 4 r * 2 ^ 4) * 2 ^ 8 + field 4 4 r * 2 ^ 4
@@ -97,11 +75,7 @@ mask-clear r = ap (λ (x : ℕ). eqb x 0) (and-clear-mask r) ∙ three (field 28
 module _ (r : ℕ) (h : R.clear r ≡ true) where
   zeros : field 4 4 r ≡ 0
   unfolding R.clear
-  zeros = eqb-true (field 4 4 r) 0 (left _ _ (left _ _ h))
-    where
-      left : (x y : Bool) → x && y ≡ true → x ≡ true
-      left true y e = refl
-      left false y e = e
+  zeros = eqb-true (field 4 4 r) 0 (and-split _ _ (and-split _ _ h .0) .0)
 
   pub clear-marked : R.isMarked r ≡ false
   unfolding flag field
@@ -124,10 +98,6 @@ pub record Legal (n r : ℕ) : Type 0 where
   pub low : R.cluster r ≤ n
   pub sinkless : R.isSink r ≡ true → R.cluster r ≡ 0
   pub outless : R.isOut r ≡ true → R.cluster r ≢ 0
-
-and-split : (a b : Bool) → (a && b) ≡ true → (a ≡ true) × (b ≡ true)
-and-split true b e = (refl, e)
-and-split false b e = absurd (false≢true e)
 
 implies : (a b : Bool) → (not a || b) ≡ true → a ≡ true → b ≡ true
 implies true b e f = e
@@ -172,10 +142,6 @@ legal-nonzero n r L e = false≢true (sym (zero-flag 0) ∙ sym (ap R.inUse e) �
 
 -- a record is free, legal or damaged
 module _ (n r : ℕ) where
-  pub free-zero : R.free r ≡ true → r ≡ 0
-  unfolding R.free
-  free-zero e = eqb-true r 0 e
-
   pub zero-free : r ≡ 0 → R.free r ≡ true
   unfolding R.free
   zero-free e = eq-eqb r 0 e
@@ -191,84 +157,15 @@ module _ (n r : ℕ) where
   -- undamaged and not free: legal
   pub undamaged : R.damaged n r ≡ false → R.free r ≡ false → R.legal n r ≡ true
   unfolding R.damaged
-  undamaged d f = pick (R.legal n r) (rw f at d)
-    where
-      pick : (b : Bool) → (true && not b) ≡ false → b ≡ true
-      pick true e = refl
-      pick false e = absurd (true≢false e)
+  undamaged d f = not-false (R.legal n r) (rw f at d)
 
   pub legal-undamaged : R.legal n r ≡ true → R.damaged n r ≡ false
   unfolding R.damaged
-  legal-undamaged l = rw l (right (not (R.free r)))
-    where
-      right : (b : Bool) → (b && false) ≡ false
-      right true = refl
-      right false = refl
+  legal-undamaged l = rw l (and-false (not (R.free r)))
 
   pub free-undamaged : R.free r ≡ true → R.damaged n r ≡ false
   unfolding R.damaged
   free-undamaged f = rw f refl
-
-  pub damaged-nonzero : R.damaged n r ≡ true → (R.free r ≡ false) × (R.legal n r ≡ false)
-  unfolding R.damaged
-  damaged-nonzero d = pick (R.free r) (R.legal n r) d
-    where
-      pick : (a b : Bool) → (not a && not b) ≡ true → (a ≡ false) × (b ≡ false)
-      pick false false e = (refl, refl)
-      pick false true e = absurd (false≢true e)
-      pick true b e = absurd (false≢true e)
-
--- ---- setters of a legal record
-
--- a record with the bits that legality reads
-module _ (n r s : ℕ) (L : Legal n r) where
-  pub legal-alike :
-      R.clear s ≡ R.clear r → R.inUse s ≡ R.inUse r → R.width s ≡ R.width r → R.cluster s ≡ R.cluster r → R.isSink s ≡ R.isSink r → R.isOut s ≡ R.isOut r
-      → Legal n s
-  legal-alike a b c d e f = record {
-    blank = a ∙ L .blank;
-    used = b ∙ L .used;
-    narrow = rw c (L .narrow);
-    low = rw d (L .low);
-    sinkless = λ t. d ∙ L .sinkless (sym e ∙ t);
-    outless = λ t z. L .outless (sym f ∙ t) (sym d ∙ z);
-  }
-
--- the written flag is free to change
-pub written-legal : (n r : ℕ) (b : Bool) → Legal n r → Legal n (R.withWritten b r)
-written-legal n r b L =
-    legal-alike n r (R.withWritten b r) L (clear-put-flag 1 b r (lit≤ tt)) (flag-put-other 1 b r 0 (eqb-false 1 0 refl)) (width-put-flag 1 b r refl)
-    (cluster-put-flag 1 b r refl)
-    (flag-put-other 1 b r 2 (eqb-false 1 2 refl))
-    (flag-put-other 1 b r 3 (eqb-false 1 3 refl))
-
--- a sink is in no cluster
-pub sink-legal : (n r : ℕ) (b : Bool) → Legal n r → (b ≡ true → R.cluster r ≡ 0) → Legal n (R.withSink b r)
-sink-legal n r b L h =
-    let k = cluster-put-flag 2 b r refl in
-    record {
-      blank = clear-put-flag 2 b r (lit≤ tt) ∙ L .blank;
-      used = flag-put-other 2 b r 0 (eqb-false 2 0 refl) ∙ L .used;
-      narrow = rw (width-put-flag 2 b r refl) (L .narrow);
-      low = rw k (L .low);
-      sinkless = λ t. k ∙ h (sym (flag-put-same 2 b r) ∙ t);
-      outless = λ t z. L .outless (sym (flag-put-other 2 b r 3 (eqb-false 2 3 refl)) ∙ t) (sym k ∙ z);
-    }
-
--- out only with a cluster, and a cluster only without sink
-pub member-legal : (n r c : ℕ) (o : Bool) → n < 2 ^ 12 → Legal n r → c ≤ n → (R.isSink r ≡ true → c ≡ 0) → (o ≡ true → c ≢ 0)
-    → Legal n (R.withCluster c (R.withOut o r))
-member-legal n r c o b L l hs ho =
-    let s = R.withOut o r in
-    let k : R.cluster (R.withCluster c s) ≡ c = cluster-with-cluster c s (omega arith) in
-    record {
-      blank = clear-with-cluster c s ∙ clear-put-flag 3 o r (lit≤ tt) ∙ L .blank;
-      used = flag-with-cluster c s 0 refl ∙ flag-put-other 3 o r 0 (eqb-false 3 0 refl) ∙ L .used;
-      narrow = rw (width-with-cluster c s, width-put-flag 3 o r refl) (L .narrow);
-      low = rw k l;
-      sinkless = λ t. k ∙ hs (sym (flag-with-cluster c s 2 refl ∙ flag-put-other 3 o r 2 (eqb-false 3 2 refl)) ∙ t);
-      outless = λ t z. ho (sym (flag-with-cluster c s 3 refl ∙ flag-put-same 3 o r) ∙ t) (sym k ∙ z);
-    }
 
 -- ---- cluster and out taken off
 
@@ -301,11 +198,6 @@ module _ (r : ℕ) where
     sinkless = λ e. loose-cluster;
     outless = λ e z. false≢true (sym loose-out ∙ e);
   }
-
--- nothing to take off
-pub loose-stays : (r : ℕ) → R.cluster r ≡ 0 → R.isOut r ≡ false → R.loose r ≡ r
-unfolding R.loose
-loose-stays r c o = ap (R.withCluster 0) (flag-stays 3 false r o) ∙ put-stays 16 12 0 r c
 
 -- ---- a new record
 
@@ -352,11 +244,3 @@ module _ (w : ℕ) where
     }
 
 -- ---- sizes
-
-pub loose-lt : (r : ℕ) → r < 2 ^ 32 → R.loose r < 2 ^ 32
-unfolding R.loose
-loose-lt r h = put-lt 16 12 0 (R.withOut false r) 32 (lit≤ tt) (flag-put-lt 3 false r 32 (lit≤ tt) h)
-
-pub new-lt : (w : ℕ) → R.newRecord w < 2 ^ 32
-unfolding R.newRecord
-new-lt w = put-lt 8 4 w (R.withUse true 0) 32 (lit≤ tt) (flag-put-lt 0 true 0 32 (lit≤ tt) (lit< tt))

@@ -2,9 +2,17 @@
 // the width from bit 8 and the cluster from bit 16.
 ghost use mathlib.Core.Path.{_≡_};
 ghost use Prim.Native.Nat.{_%_};
-ghost use Rattle.layout.specs.Field.{flag, putFlag};
+ghost use Rattle.layout.specs.Field.{flag};
 ghost use Rattle.records.specs.Record as R;
+use layout::bits::with_bit;
 use layout::limits::WIDTH_MAX;
+
+// The flags of a walk, by their bits.
+pub const MARKED: u32 = 4;
+
+pub const POSTPONED: u32 = 5;
+
+pub const REACHED: u32 = 6;
 
 // ---- one bit
 
@@ -13,14 +21,6 @@ fn bit_at(r: u32, p: u32) -> bool
     ensures { λ x. ⌜ x ≡ flag (p % 32) r ⌝ }
 {
     (r >> (p % 32)) & 1 == 1
-}
-
-// r with bit p, modulo 32, set or clear.
-fn with_bit(r: u32, p: u32, on: bool) -> u32
-    ensures { λ x. ⌜ x ≡ putFlag (p % 32) on r ⌝ }
-{
-    let bit: u32 = 1 << (p % 32);
-    if on { r | bit } else { r & !bit }
 }
 
 // ---- reading
@@ -52,13 +52,13 @@ pub fn is_out(r: u32) -> bool
 pub fn is_marked(r: u32) -> bool
     ensures { λ x. ⌜ x ≡ R.isMarked r ⌝ }
 {
-    bit_at(r, 4)
+    bit_at(r, MARKED)
 }
 
 pub fn is_reached(r: u32) -> bool
     ensures { λ x. ⌜ x ≡ R.isReached r ⌝ }
 {
-    bit_at(r, 6)
+    bit_at(r, REACHED)
 }
 
 pub fn width_of(r: u32) -> u32
@@ -102,19 +102,19 @@ pub fn with_out(r: u32, on: bool) -> u32
 pub fn with_marked(r: u32, on: bool) -> u32
     ensures { λ x. ⌜ x ≡ R.withMarked on r ⌝ }
 {
-    with_bit(r, 4, on)
+    with_bit(r, MARKED, on)
 }
 
 pub fn with_postponed(r: u32, on: bool) -> u32
     ensures { λ x. ⌜ x ≡ R.withPostponed on r ⌝ }
 {
-    with_bit(r, 5, on)
+    with_bit(r, POSTPONED, on)
 }
 
 pub fn with_reached(r: u32, on: bool) -> u32
     ensures { λ x. ⌜ x ≡ R.withReached on r ⌝ }
 {
-    with_bit(r, 6, on)
+    with_bit(r, REACHED, on)
 }
 
 // The width is taken modulo 16.

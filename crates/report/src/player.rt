@@ -10,7 +10,7 @@ use files::reading::LINE;
 use files::reading::Source;
 use files::reading::next_line;
 use files::reading::parsed;
-use layout::answers::Control;
+use layout::control::new_control;
 use lines::Line;
 use phrases::memory::MAP;
 use phrases::memory::RECORDS;
@@ -28,17 +28,6 @@ pub(crate) struct Player {
     pub state: u32,
 }
 
-fn no_control() -> Control {
-    Control {
-        n: 0,
-        r: 0,
-        last: 0,
-        limit: 0,
-        write_loss: 0,
-        out_loss: 0,
-    }
-}
-
 pub(crate) fn start(source: Source, plain: bool) -> Player {
     Player {
         source,
@@ -49,7 +38,7 @@ pub(crate) fn start(source: Source, plain: bool) -> Player {
             a: 0,
             b: 0,
             c: 0,
-            control: no_control(),
+            control: new_control(0, 0),
         },
         state: READING,
     }

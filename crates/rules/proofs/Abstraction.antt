@@ -1,4 +1,4 @@
--- The plain heap that a heap of buffers is.
+-- The cells of the plain heap that a heap of buffers is.
 -- Assumes nothing.
 use Prim.Native.Nat.{ℕ, zero, suc, _≤_}
 use mathlib.Core.Path.{_≡_, refl, sym, ap, _∙_}
@@ -12,29 +12,16 @@ use Rattle.records.specs.Record as R
 use Rattle.layout.specs.Field.{field, flag}
 use Rattle.records.specs.Record.{width}
 use Rattle.rules.specs.Buffers.{recOf, numbers, usedWords}
-use Rattle.rules.specs.Plain.{Cell, free, object, Plain, isFree, isSink, wordsIn, cellAt}
-use Rattle.rules.specs.Steps.{State}
+use Rattle.rules.specs.Plain.{vacant, object, isFree, isSink, wordsIn, cellAt}
+use Rattle.rules.specs.PlainOf.{cellOf, cellsOf}
 use Rattle.rules.proofs.ListLaws.{recOf-above, length-numbers, get-numbers}
-
-unfoldable pub cellOf : ℕ → List ℕ → List ℕ → ℕ → Cell
-cellOf n recs slots x = cond (R.free (recOf n recs x)) free (object (usedWords n recs slots x) (flag 2 (recOf n recs x)))
-
-unfoldable pub cellsOf : ℕ → List ℕ → List ℕ → List Cell
-cellsOf n recs slots = map (cellOf n recs slots) (numbers 1 n)
-
-abbrev pub plainOf : State → Plain
-plainOf s = record {
-  last = s .control .last;
-  roots = take (s .control .r) (s .roots);
-  cells = cellsOf (s .control .n) (s .records) (s .slots);
-}
 
 module _ (n : ℕ) (recs slots : List ℕ) where
   pub cells-size : length (cellsOf n recs slots) ≡ n
   unfolding cellsOf
   cells-size = length-numbers (cellOf n recs slots) 1 n
 
-  above : (x : ℕ) → recOf n recs x ≡ 0 → cellOf n recs slots x ≡ free
+  above : (x : ℕ) → recOf n recs x ≡ 0 → cellOf n recs slots x ≡ vacant
   unfolding cellOf R.free
   above x e = rw e refl
 
@@ -43,25 +30,25 @@ module _ (n : ℕ) (recs slots : List ℕ) where
   cell-at zero = sym (above 0 refl)
   cell-at (suc i) = go (decLe (suc i) n)
     where
-      go : Dec (suc i ≤ n) → getD (map (cellOf n recs slots) (numbers 1 n)) i free ≡ cellOf n recs slots (suc i)
-      go (yes l) = get-numbers (cellOf n recs slots) 1 n i free l ∙ ap (cellOf n recs slots) (omega arith)
+      go : Dec (suc i ≤ n) → getD (map (cellOf n recs slots) (numbers 1 n)) i vacant ≡ cellOf n recs slots (suc i)
+      go (yes l) = get-numbers (cellOf n recs slots) 1 n i vacant l ∙ ap (cellOf n recs slots) (omega arith)
       go (no l) =
-          List·getD-eq-default (map (cellOf n recs slots) (numbers 1 n)) free (let e = length-numbers (cellOf n recs slots) 1 n in omega (arith, l))
+          List·getD-eq-default (map (cellOf n recs slots) (numbers 1 n)) vacant (let e = length-numbers (cellOf n recs slots) 1 n in omega (arith, l))
           ∙ sym (above (suc i) (recOf-above n recs (suc i) (omega (arith, l))))
 
   pub cell-free : (x : ℕ) → isFree (cellOf n recs slots x) ≡ R.free (recOf n recs x)
   unfolding cellOf
   cell-free x = go (R.free (recOf n recs x))
     where
-      go : (b : Bool) → isFree (cond b free (object (usedWords n recs slots x) (flag 2 (recOf n recs x)))) ≡ b
+      go : (b : Bool) → isFree (cond b vacant (object (usedWords n recs slots x) (R.isSink (recOf n recs x)))) ≡ b
       go true = unfold isFree in refl
       go false = unfold isFree in refl
 
-  pub cell-sink : (x : ℕ) → isSink (cellOf n recs slots x) ≡ flag 2 (recOf n recs x)
+  pub cell-sink : (x : ℕ) → isSink (cellOf n recs slots x) ≡ R.isSink (recOf n recs x)
   unfolding cellOf isSink R.free flag field
   cell-sink x = go (recOf n recs x)
     where
-      go : (r : ℕ) → isSink (cond (eqb r 0) free (object (usedWords n recs slots x) (flag 2 r))) ≡ flag 2 r
+      go : (r : ℕ) → isSink (cond (eqb r 0) vacant (object (usedWords n recs slots x) (R.isSink r))) ≡ R.isSink r
       go zero = refl
       go (suc r) = rw (lib.Dec.eqb·suc-zero r) refl
 
@@ -70,7 +57,7 @@ module _ (n : ℕ) (recs slots : List ℕ) where
   cell-words x = go (recOf n recs x)
     where
       go : (r : ℕ) → wordsIn
-          (cond (eqb r 0) free (object (take (width r) (Rattle.rules.specs.Buffers.eight slots x)) (flag 2 (recOf n recs x))))
+          (cond (eqb r 0) vacant (object (take (width r) (Rattle.rules.specs.Buffers.eight slots x)) (R.isSink (recOf n recs x))))
           ≡ take (width r) (Rattle.rules.specs.Buffers.eight slots x)
       go zero = refl
       go (suc r) = rw (lib.Dec.eqb·suc-zero r) refl
@@ -79,7 +66,7 @@ module _ (n : ℕ) (recs slots : List ℕ) where
   pub at-free : (x : ℕ) → isFree (cellAt (cellsOf n recs slots) x) ≡ R.free (recOf n recs x)
   at-free x = ap isFree (cell-at x) ∙ cell-free x
 
-  pub at-sink : (x : ℕ) → isSink (cellAt (cellsOf n recs slots) x) ≡ flag 2 (recOf n recs x)
+  pub at-sink : (x : ℕ) → isSink (cellAt (cellsOf n recs slots) x) ≡ R.isSink (recOf n recs x)
   at-sink x = ap isSink (cell-at x) ∙ cell-sink x
 
   pub at-words : (x : ℕ) → wordsIn (cellAt (cellsOf n recs slots) x) ≡ usedWords n recs slots x

@@ -34,14 +34,15 @@ use Rattle.rules.specs.Allocate.{candidates, firstOf, given}
 use Rattle.rules.specs.Allocate as Allocate
 use Rattle.rules.specs.Plain.{Plain, Played, Cell, object, plainGiven, answer, plainStep}
 use Rattle.rules.specs.Steps.{State, step}
-use Rattle.rules.specs.Demands.{heapOf, rec, rootsOf, wordsOf}
-use Rattle.rules.proofs.ListLaws.{length-each, length-eight, set-numbers}
+use Rattle.rules.specs.Demands.{heapOf, recordIn, rootsOf, wordsOf}
+use Rattle.rules.specs.PlainOf.{plainOf, cellOf, cellsOf}
+use Rattle.rules.proofs.ListLaws.{length-each, length-eight, set-numbers, recOf-range}
 use Rattle.rules.proofs.BufferLaws.{record-given, record-kept, words-given, words-kept}
 use Rattle.rules.proofs.SearchLaws.{candidates-found, candidates-lowest}
-use Rattle.rules.proofs.BoolLaws.{or-last}
+use Rattle.rules.proofs.BoolLaws.{or-last, cond-same}
 use Rattle.rules.proofs.Invariant.{Inv, SlotWord, inv-control, enough}
-use Rattle.rules.proofs.Abstraction.{plainOf, cellOf, cellsOf, cells-size, at-free}
-use Rattle.rules.proofs.Simulation.{Same, same-by, all-by, in-range}
+use Rattle.rules.proofs.Abstraction.{cells-size, at-free}
+use Rattle.rules.proofs.Simulation.{Same, same-by, all-by}
 use Rattle.rules.proofs.PointerLaws.{named-used}
 use Rattle.rules.proofs.CreateLaws.{mem-replicate, nil-map}
 
@@ -60,15 +61,11 @@ take-nil (suc k) (w ∷ l) p = ap (λ r. 0 ∷ r) (take-nil k l (omega arith))
 map-zero : (n k : ℕ) → map (target n) (replicate k 0) ≡ replicate k 0
 unfolding target
 map-zero n zero = refl
-map-zero n (suc k) = ap₂ (λ x r. x ∷ r) (none (leb 0 n)) (map-zero n k)
-  where
-    none : (b : Bool) → _≡_ {A = ℕ} (cond b 0 0) 0
-    none true = refl
-    none false = refl
+map-zero n (suc k) = ap₂ (λ x r. x ∷ r) (cond-same (leb 0 n) 0) (map-zero n k)
 
 -- ---- the buffers after it
 
-module _ (s : State) (I : Inv s) (i v : ℕ) (low : 1 ≤ i) (high : i ≤ s .control .n) (blank : rec s i ≡ 0) (narrow : v ≤ 8) where
+module _ (s : State) (I : Inv s) (i v : ℕ) (low : 1 ≤ i) (high : i ≤ s .control .n) (blank : recordIn s i ≡ 0) (narrow : v ≤ 8) where
   abbrev n : ℕ
   n = s .control .n
 
@@ -87,7 +84,7 @@ module _ (s : State) (I : Inv s) (i v : ℕ) (low : 1 ≤ i) (high : i ≤ s .co
   rec-at : recOf n recs′ i ≡ newRecord v
   rec-at = record-given n i low high (newRecord v) (s .records) (I .recs-long)
 
-  rec-other : (x : ℕ) → x ≢ i → recOf n recs′ x ≡ rec s x
+  rec-other : (x : ℕ) → x ≢ i → recOf n recs′ x ≡ recordIn s x
   rec-other x e = record-kept n i low high (newRecord v) (s .records) (I .recs-long) x e
 
   eight-at : eight slots′ i ≡ map (λ (w : ℕ). 0) (eight (s .slots) i)
@@ -106,11 +103,11 @@ module _ (s : State) (I : Inv s) (i v : ℕ) (low : 1 ≤ i) (high : i ≤ s .co
   unfolding usedWords
   used-other x e = go (I .legal x)
     where
-      go : (rec s x ≡ 0) ⊎ Legal n (rec s x) → take (width (recOf n recs′ x)) (eight slots′ x)
-          ≡ take (width (rec s x)) (eight (s .slots) x)
+      go : (recordIn s x ≡ 0) ⊎ Legal n (recordIn s x) → take (width (recOf n recs′ x)) (eight slots′ x)
+          ≡ take (width (recordIn s x)) (eight (s .slots) x)
       go (inl z) = rw (rec-other x e, z) (unfold field in refl)
       go (inr L) =
-          let r = in-range s I x (legal-nonzero n (rec s x) L) in
+          let r = recOf-range n (s .records) x (legal-nonzero n (recordIn s x) L) in
           ap₂ (λ (k : ℕ) (l : List ℕ). take (width k) l) (rec-other x e) (eight-other x (r .0) (r .1) e)
 
   empty′ : (x : ℕ) → 1 ≤ x → x ≤ n → allOf isNil (otherWords n recs′ slots′ x) ≡ true
@@ -132,7 +129,7 @@ module _ (s : State) (I : Inv s) (i v : ℕ) (low : 1 ≤ i) (high : i ≤ s .co
   -- a word that named an object in use still does
   names′ : (w : ℕ) → names n (s .records) w ≡ true → names n recs′ w ≡ true
   names′ w e =
-      go (unfold names in (ap (λ (r : ℕ). isPointer n w && flag 0 r) (rec-other w (λ j. named-used s I w e .2 (ap (rec s) j ∙ blank)))))
+      go (unfold names in (ap (λ (r : ℕ). isPointer n w && flag 0 r) (rec-other w (λ j. named-used s I w e .2 (ap (recordIn s) j ∙ blank)))))
     where
       go : names n recs′ w ≡ names n (s .records) w → names n recs′ w ≡ true
       go h = h ∙ e
@@ -159,11 +156,11 @@ module _ (s : State) (I : Inv s) (i v : ℕ) (low : 1 ≤ i) (high : i ≤ s .co
     out = fun-ext (bits R.isOut (new-out v)) j;
   }
     where
-      bits : {A : Type 0} (f : ℕ → A) → f (newRecord v) ≡ f 0 → (x : ℕ) → f (recOf n recs′ x) ≡ f (rec s x)
+      bits : {A : Type 0} (f : ℕ → A) → f (newRecord v) ≡ f 0 → (x : ℕ) → f (recOf n recs′ x) ≡ f (recordIn s x)
       bits f h x = go (ℕ-discrete x i)
         where
-          go : Dec (x ≡ i) → f (recOf n recs′ x) ≡ f (rec s x)
-          go (yes e) = ap (λ (y : ℕ). f (recOf n recs′ y)) e ∙ ap f rec-at ∙ h ∙ sym (ap f blank) ∙ ap (λ (y : ℕ). f (rec s y)) (sym e)
+          go : Dec (x ≡ i) → f (recOf n recs′ x) ≡ f (recordIn s x)
+          go (yes e) = ap (λ (y : ℕ). f (recOf n recs′ y)) e ∙ ap f rec-at ∙ h ∙ sym (ap f blank) ∙ ap (λ (y : ℕ). f (recordIn s y)) (sym e)
           go (no e) = ap f (rec-other x e)
 
       kids : (x : ℕ) → map (target n) (usedWords n recs′ slots′ x)
@@ -229,7 +226,7 @@ module _ (s : State) (I : Inv s) (v : ℕ) where
   record Passed : Type 0 where
     low : 1 ≤ given (s .control) (s .records)
     high : given (s .control) (s .records) ≤ s .control .n
-    blank : rec s (given (s .control) (s .records)) ≡ 0
+    blank : recordIn s (given (s .control) (s .records)) ≡ 0
     narrow : v ≤ 8
 
   facts : first (Allocate.allocateTests (s .control) v (s .records) (s .slots)) ≡ 0 → Passed
@@ -239,7 +236,7 @@ module _ (s : State) (I : Inv s) (v : ℕ) where
       let t2 = first-passed 1 _ _ (t1 .1) in
       let t3 = first-passed 2 _ _ (t2 .1) in
       let t4 = first-passed 23 _ _ (t3 .1) in
-      let f = candidates-found (λ x. R.free (rec s x)) (s .control .last) (s .control .n) (I .sound .last) (unfold given in (eqb-false _ _ (t4 .0))) in
+      let f = candidates-found (λ x. R.free (recordIn s x)) (s .control .last) (s .control .n) (I .sound .last) (unfold given in (eqb-false _ _ (t4 .0))) in
       unfold given R.free in (record { low = f .0 .0; high = f .0 .1; blank = eqb-true _ _ (f .1); narrow = ltb-false _ _ (t3 .0) })
 
   abbrev stateOf : Allocate.Outcome → State

@@ -20,17 +20,18 @@ use Rattle.graph.specs.Clusters.{keep, size}
 use Rattle.graph.specs.Heap.{Heap}
 use Rattle.graph.specs.Analysis.{bars, walked, isNew, newHead, over, few, stays, outLossOf, leftClusters}
 use Rattle.graph.specs.Analysis as Graph
+use Rattle.graph.specs.Invariant.{Ready}
 use Rattle.graph.proofs.NumberLaws.{sum-ext, count-ext}
-use Rattle.graph.proofs.AnalysisInv.{Ready}
 use Rattle.graph.proofs.AnalysisLaws.{ended-inv, left-older, left-out, left-new, over-halves, seen-reach, placed}
 use Rattle.graph.proofs.DepthFirst.{forms, forms-one}
 use Rattle.graph.proofs.State.{good-ready}
 use Rattle.rules.specs.View.{view}
-use Rattle.rules.specs.Analyse.{rule, nextLimit, usedCount}
+use Rattle.rules.specs.Analyse.{rule, sixteenth, half, clamped, nextLimit, usedCount}
 use Rattle.rules.specs.Analyse as Analyse
 use Rattle.rules.specs.Calls.{analyse}
 use Rattle.rules.specs.Steps.{State, step}
-use Rattle.rules.specs.Demands.{rec, refusalOf, Analyses, Adjusts, heapOf, rootsOf, limitIn, walkedIn, membersIn, outsIn}
+use Rattle.rules.specs.Demands.{recordIn, refusalOf, Analyses, Adjusts, heapOf, rootsOf, limitIn, walkedIn, membersIn, outsIn}
+use Rattle.rules.proofs.BoolLaws.{cond-not}
 use Rattle.rules.proofs.Invariant.{Inv, inv-control, inv-formed, enough}
 use Rattle.rules.proofs.Simulation.{all-by}
 use Rattle.rules.proofs.PointerLaws.{roots-low}
@@ -54,22 +55,18 @@ module _ (s : State) (I : Inv s) (work : List ℕ) (accepted : refusalOf (analys
   low = limit-low s I work accepted
 
   -- the clusters that the records have after it
-  left : (x : ℕ) → cluster (rec (step (analyse work) s .after) x) ≡ leftClusters rule H limit roots x
+  left : (x : ℕ) → cluster (recordIn (step (analyse work) s .after) x) ≡ leftClusters rule H limit roots x
   unfolding view Graph.analyse
   left x = ap (λ (K : Heap). K .cluster x) (analyse-ruled s I work accepted)
 
-  out : (x : ℕ) → isOut (rec (step (analyse work) s .after) x) ≡ Graph.analyse rule H limit roots .heap .out x
+  out : (x : ℕ) → isOut (recordIn (step (analyse work) s .after) x) ≡ Graph.analyse rule H limit roots .heap .out x
   unfolding view
   out x = ap (λ (K : Heap). K .out x) (analyse-ruled s I work accepted)
 
   kept-or-not : (x c : ℕ) → walked H limit roots x ≡ c → H .cluster c ≡ 0
       → leftClusters rule H limit roots x ≡ cond (over rule H (walked H limit roots) c || few rule H (walked H limit roots) c) 0 c
   unfolding leftClusters keep stays isNew
-  kept-or-not x c e z = rw (e, eq-eqb (H .cluster c) 0 z) (go (over rule H (walked H limit roots) c || few rule H (walked H limit roots) c))
-    where
-      go : (b : Bool) → cond (not b) c 0 ≡ cond b 0 c
-      go true = refl
-      go false = refl
+  kept-or-not x c e z = rw (e, eq-eqb (H .cluster c) 0 z) (cond-not (over rule H (walked H limit roots) c || few rule H (walked H limit roots) c) c 0)
 
   pub analyse-does : Analyses s work
   unfolding view
@@ -110,7 +107,7 @@ module _ (s : State) (I : Inv s) (work : List ℕ) (accepted : refusalOf (analys
       gone c = unfold over few in
           (ap (λ (b : Bool). cond (b || ltb (membersIn s work c) 4) 0 c) (over-halves (membersIn s work c) (outsIn s work c)))
 
-      unbarred : (x : ℕ) → isWritten (rec s x) ≡ false → isSink (rec s x) ≡ false → bars H x ≡ false
+      unbarred : (x : ℕ) → isWritten (recordIn s x) ≡ false → isSink (recordIn s x) ≡ false → bars H x ≡ false
       unbarred x w k = unfold bars in (rw (w, k) refl)
 
       fresh : (x : ℕ) → H .cluster x ≡ 0 → walked H limit roots x ≢ 0 → H .cluster (walked H limit roots x) ≡ 0
@@ -128,7 +125,7 @@ module _ (s : State) (work : List ℕ) (accepted : refusalOf (analyse work) s �
   before = s .control
 
   abbrev used : ℕ
-  used = count (before .n) (λ x. inUse (rec s x))
+  used = count (before .n) (λ x. inUse (recordIn s x))
 
   abbrev lossIn : ℕ → ℕ
   lossIn limit = outLossOf rule (heapOf s) (walked (heapOf s) limit (rootsOf s))
@@ -149,14 +146,14 @@ module _ (s : State) (work : List ℕ) (accepted : refusalOf (analyse work) s �
   -- the next limit by what its two tests tell
   limit-by : (b d : Bool) → eqb (before .limit) 0 ≡ b → ltb (before .«out_loss») (before .«write_loss») ≡ d
       → nextLimit before used ≡ max 8 (min 4095 (cond b (used / 16) (cond d (before .limit / 2) (2 * before .limit))))
-  unfolding nextLimit
+  unfolding nextLimit clamped sixteenth half
   limit-by b d e f = λ i. max 8 (min 4095 (cond (e i) (used / 16) (cond (f i) (before .limit / 2) (2 * before .limit))))
 
   loss-left : lossIn (limitIn s work)
-      ≡ sum (before .n) (λ h. cond (eqb (cluster (rec s h)) 0 && eqb (walkedIn s work h) h && ltb (5 * membersIn s work h) (2 * outsIn s work h)) (membersIn s work h) 0)
+      ≡ sum (before .n) (λ h. cond (eqb (cluster (recordIn s h)) 0 && eqb (walkedIn s work h) h && ltb (5 * membersIn s work h) (2 * outsIn s work h)) (membersIn s work h) 0)
   unfolding outLossOf newHead isNew over view
   loss-left =
-      sum-ext (before .n) _ _ (λ h p q. ap (λ (b : Bool). cond (eqb (cluster (rec s h)) 0 && eqb (walkedIn s work h) h && b) (membersIn s work h) 0)
+      sum-ext (before .n) _ _ (λ h p q. ap (λ (b : Bool). cond (eqb (cluster (recordIn s h)) 0 && eqb (walkedIn s work h) h && b) (membersIn s work h) 0)
       (over-halves (membersIn s work h) (outsIn s work h)))
 
   pub analyse-adjusts : Adjusts s work

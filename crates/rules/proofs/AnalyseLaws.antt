@@ -2,7 +2,7 @@
 -- Assumes nothing.
 use Prim.Native.Nat.{ℕ, _≤_}
 use mathlib.Core.Path.{_≡_, refl, sym, ap, _∙_}
-use mathlib.Core.Bool.{Bool, false}
+use mathlib.Core.Bool.{false}
 use mathlib.Core.List.{List, map}
 use mathlib.Core.Logic.{_≢_, _⊎_, inl, inr}
 use native.Mathlib.Nat.{suc-ne-zero}
@@ -18,24 +18,26 @@ use Rattle.graph.specs.Heap.{Heap}
 use Rattle.graph.proofs.AnalysisLaws.{analyse-good, outLoss-le, walked-met}
 use Rattle.graph.proofs.Paths.{keep-zero}
 use Rattle.graph.proofs.State.{Good, good-ready}
-use Rattle.rules.specs.Analyse.{rule, nextLimit, usedCount, analysed}
-use Rattle.rules.specs.View.{view, target, laid}
+use Rattle.rules.specs.Analyse.{rule, clamped, nextLimit, usedCount, analysed}
+use Rattle.rules.specs.View.{view, target, encoded}
 use Rattle.rules.specs.Calls.{analyse}
 use Rattle.rules.specs.Analyse as Analyse
 use Rattle.rules.specs.Plain.{Cell, plainStep}
 use Rattle.rules.specs.Steps.{State, step}
-use Rattle.rules.specs.Demands.{heapOf, wordsOf, rec, rootsOf, limitIn}
+use Rattle.rules.specs.Demands.{heapOf, wordsOf, recordIn, rootsOf, limitIn}
+use Rattle.rules.specs.PlainOf.{plainOf, cellOf, cellsOf}
 use Rattle.rules.proofs.ListLaws.{same-numbers}
+use Rattle.rules.proofs.ViewLaws.{view-used}
 use Rattle.rules.proofs.Invariant.{Inv}
-use Rattle.rules.proofs.Abstraction.{plainOf, cellOf, cellsOf}
 use Rattle.rules.proofs.Simulation.{Same, all-by}
-use Rattle.rules.proofs.LaidLaws.{laid-inv, laid-cell, view-laid}
+use Rattle.rules.proofs.EncodedState.{good-fits, encoded-inv, encoded-cell, encoded-view}
+use Rattle.rules.proofs.EncodedLaws.{Fits}
 use Rattle.rules.proofs.PointerLaws.{kids-in-use, roots-in-use, roots-low, sinks-in-use}
 
 -- ---- the call
 
 pub limit-range : (c : Control) (used : ℕ) → (8 ≤ nextLimit c used) × (nextLimit c used ≤ 4095)
-unfolding nextLimit
+unfolding nextLimit clamped
 limit-range c used = (omega arith, omega arith)
 
 module _ (s : State) (I : Inv s) (work : List ℕ) where
@@ -59,18 +61,15 @@ module _ (s : State) (I : Inv s) (work : List ℕ) where
   G = analyse-good rule H limit roots (s .control .«write_loss») (I .good) low (roots-low s I)
 
   abbrev Used : ℕ → Type 0
-  Used y = rec s y ≢ 0
+  Used y = recordIn s y ≢ 0
 
   -- who has a cluster is in use, so the walk leads from objects in use only to such
-  clustered-used : (x : ℕ) → H .cluster x ≢ 0 → Used x
-  unfolding view field
-  clustered-used x nz e = nz (rw e refl)
-
-  blank-cl : (x : ℕ) → rec s x ≡ 0 → cl′ x ≡ 0
+  blank-cl : (x : ℕ) → recordIn s x ≡ 0 → cl′ x ≡ 0
   unfolding view field
   blank-cl x e =
       go
-      (walked-met H limit (good-ready (I .good)) low Used (λ x y u m nz. used y nz (kids-in-use s I x y m)) (λ o y u nz j b. clustered-used y (λ z. nz (sym j ∙ z)))
+      (walked-met H limit (good-ready (I .good)) low Used (λ x y u m nz. used y nz (kids-in-use s I x y m))
+      (λ o y u nz j b. view-used (s .control .n) (s .records) (s .slots) y (λ z. nz (sym j ∙ z)))
       roots (roots-low s I) (λ y m nz. used y nz (roots-in-use s I y m)) (λ y b q. sinks-in-use s I y q) x)
     where
       used : (y : ℕ) → y ≢ 0 → (y ≡ 0) ⊎ Used y → Used y
@@ -84,12 +83,9 @@ module _ (s : State) (I : Inv s) (work : List ℕ) where
       go (inl i) = unfold leftClusters in (keep-zero (stays rule H (walked H limit roots)) (walked H limit roots) x (i ∙ none))
       go (inr d) = absurd (d e)
 
-  blank : (x : ℕ) → rec s x ≡ 0 → (_≡_ {A = Bool} false false) × (H .sink x ≡ false) × (cl′ x ≡ 0)
-  unfolding view flag field
-  blank x e = (refl, rw e refl, blank-cl x e)
-
-  abbrev out′ : ℕ → Bool
-  out′ = outBit (H .kids) (H .sink) cl′
+  fits : Fits (s .control .n) (s .records) (H .sink) (λ x. false) (outBit (H .kids) (H .sink) cl′) cl′
+  unfolding Graph.analyse view flag field
+  fits = good-fits G (λ x e. (rw e refl, refl, blank-cl x e))
 
   same-kids : (x : ℕ) → map (target (s .control .n)) (wordsOf s x) ≡ H .kids x
   unfolding view
@@ -97,8 +93,8 @@ module _ (s : State) (I : Inv s) (work : List ℕ) where
 
   abbrev after : State
   after = record {
-    control = record { n = s .control .n; r = s .control .r; last = s .control .last; limit = limit; «write_loss» = 0; «out_loss» = Graph.analyse rule H limit roots .outLoss };
-    records = laid (Graph.analyse rule H limit roots .heap) (s .records);
+    control = withAnalysis limit (Graph.analyse rule H limit roots .outLoss) (s .control);
+    records = encoded (Graph.analyse rule H limit roots .heap) (s .records);
     slots = s .slots;
     roots = s .roots;
   }
@@ -107,7 +103,7 @@ module _ (s : State) (I : Inv s) (work : List ℕ) where
   unfolding Graph.analyse view withAnalysis
   after-inv =
       let l = limit-range (s .control) (usedCount (s .control .n) (s .records)) in
-      laid-inv s I (H .kids) (H .sink) (λ x. false) out′ cl′ 0 G blank (s .slots) same-kids (s .control .last) limit (outLossOf rule H (walked H limit roots))
+      encoded-inv s I (H .kids) fits (s .slots) same-kids (s .control .last) limit 0 (outLossOf rule H (walked H limit roots)) G
       (analysis-sound (s .control) (I .sound) limit _ (l .0) (l .1) (outLoss-le rule H (walked H limit roots)))
       (I .slots-long) (I .empty) (I .named)
 
@@ -118,14 +114,14 @@ module _ (s : State) (I : Inv s) (work : List ℕ) where
       cell : (x : ℕ) → cellOf (s .control .n) (after .records) (s .slots) x ≡ cellOf (s .control .n) (s .records) (s .slots) x
       cell x =
           unfold Graph.analyse view in
-          (laid-cell s I (H .kids) (H .sink) (λ x. false) out′ cl′ 0 G blank (s .slots) same-kids x) ∙ unfold cellOf view flag field in refl
+          (encoded-cell s I (H .kids) fits (s .slots) x) ∙ unfold cellOf view flag field in refl
 
   abbrev stateOf : Analyse.Outcome → State
   stateOf o = record { control = o .answer .control; records = o .records; slots = s .slots; roots = s .roots }
 
   after-view : view (s .control .n) (after .records) (s .slots) ≡ Graph.analyse rule H limit roots .heap
   unfolding Graph.analyse view
-  after-view = view-laid s I (H .kids) (H .sink) (λ x. false) out′ cl′ 0 G blank (s .slots) same-kids
+  after-view = encoded-view s I (H .kids) fits (s .slots) same-kids
 
   -- the buffers hold the heap that the rule gives
   pub analyse-ruled : Analyse.analyse (s .control) (s .records) (s .slots) (s .roots) work .answer .refusal ≡ 0

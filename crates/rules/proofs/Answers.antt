@@ -8,7 +8,7 @@ use mathlib.Core.Logic.{_≢_, _⊎_, inl, inr}
 use native.Mathlib.Nat.{suc-ne-zero}
 use native.Mathlib.Omega.{arith}
 use lib.Dec.{eqb}
-use lib.ListN.{length, getD, set, take, drop, replicate}
+use lib.ListN.{length, getD, take, drop, replicate}
 use borrow.Author.Tests.{leb-false, ltb-false, eqb-true, eqb-false, eq-eqb}
 use Rattle.layout.specs.ControlRecord.{newControl, withLast, withWriteLoss}
 use Rattle.layout.specs.Field.{put, putFlag, digit}
@@ -27,7 +27,7 @@ use Rattle.graph.specs.Writes.{dissolves, storeBy, store}
 use Rattle.graph.proofs.NumberLaws.{upd-same, upd-other}
 use Rattle.graph.proofs.WritesLaws.{points-clustered}
 use Rattle.rules.specs.Buffers.{short, recOf, eight, usedWords, eachRecord, eachSlot, zeros}
-use Rattle.rules.specs.View.{view, target, laidRecord, laid}
+use Rattle.rules.specs.View.{view, target, encodedRecord, encoded}
 use Rattle.rules.specs.Create as Create
 use Rattle.rules.specs.Allocate as Allocate
 use Rattle.rules.specs.Read as Read
@@ -37,15 +37,16 @@ use Rattle.rules.specs.SetRoot as SetRoot
 use Rattle.rules.specs.DeclareSink as DeclareSink
 use Rattle.rules.specs.Collect.{Kind}
 use Rattle.rules.specs.Collect as Collect
-use Rattle.rules.specs.Demands.{Refuses, here, later, Cleared, Stored, Touches, Gives}
+use Rattle.rules.specs.Demands.{Refuses, here, there, Cleared, Stored, Touches, Gives}
 use Rattle.rules.proofs.BoolLaws.{or-split}
 use Rattle.rules.proofs.BufferLaws.{used-part, used-get, record-given, record-kept, words-given, words-kept}
 use Rattle.rules.proofs.Frames.{clears, Named, named, slot-fits, root-fits}
-use Rattle.rules.proofs.LaidRecord.{laid-written, laid-same}
-use Rattle.rules.proofs.ListLaws.{length-eight, recOf-each}
+use Rattle.rules.proofs.EncodedRecord.{encoded-written, encoded-same}
+use Rattle.rules.proofs.ListLaws.{length-eight}
 use Rattle.rules.proofs.Refused.{refuses, answered}
 use Rattle.rules.proofs.SearchLaws.{candidates-found, candidates-first}
-use Rattle.rules.proofs.StoreLaws.{laid-dissolved}
+use Rattle.rules.proofs.StoreLaws.{encoded-dissolved, store-size}
+use Rattle.rules.proofs.EncodedLaws.{encoded-at}
 use Rattle.rules.proofs.Simulation.{all-by}
 
 -- ---- create
@@ -88,9 +89,9 @@ module _ (c : Control) (v : ℕ) (recs slots : List ℕ) where
   full : Refuses 24 (Allocate.allocateTests c v recs slots) → (x : ℕ) → Obj (c .n) x → recOf (c .n) recs x ≢ 0
   unfolding Allocate.allocateTests
   full (here q h) x b z = absurd (omega (arith, q))
-  full (later h (here q k)) x b z = absurd (omega (arith, q))
-  full (later h (later k (here q m))) x b z = absurd (omega (arith, q))
-  full (later h (later k (later m (here q e)))) x b z =
+  full (there h (here q k)) x b z = absurd (omega (arith, q))
+  full (there h (there k (here q m))) x b z = absurd (omega (arith, q))
+  full (there h (there k (there m (here q e)))) x b z =
       candidates-first (λ y. R.free (recOf (c .n) recs y)) (c .last) (c .n) x (control-facts c h .last) b (unfold R.free in (eq-eqb _ 0 z)) .0
       (unfold Allocate.given in (eqb-true _ 0 e))
 
@@ -177,27 +178,25 @@ module _ (n : ℕ) (recs slots : List ℕ) (i k t : ℕ) (low : 1 ≤ i) (high :
   abbrev H : Heap
   H = view n recs slots
 
-  pub laid-at : (d : Bool) (x : ℕ) → 1 ≤ x → x ≤ n
-      → let K = storeBy d H i k t in recOf n (laid K recs) x ≡ laidRecord (K .cluster x) (K .out x) (K .sink x) (K .written x) (recOf n recs x)
-  unfolding laid view storeBy
-  laid-at true x p q = recOf-each n _ recs x p q long
-  laid-at false x p q = recOf-each n _ recs x p q long
+  at : (d : Bool) (x : ℕ) → 1 ≤ x → x ≤ n
+      → let K = storeBy d H i k t in recOf n (encoded K recs) x ≡ encodedRecord (K .cluster x) (K .out x) (K .sink x) (K .written x) (recOf n recs x)
+  at d = encoded-at n (storeBy d H i k t) (store-size d n recs slots i k t) recs long
 
-  own : (d : Bool) → isWritten (recOf n (laid (storeBy d H i k t) recs) i) ≡ true
-  own d = ap isWritten (laid-at d i low high) ∙ laid-written _ _ _ _ (recOf n recs i) ∙ now d
+  own : (d : Bool) → isWritten (recOf n (encoded (storeBy d H i k t) recs) i) ≡ true
+  own d = ap isWritten (at d i low high) ∙ encoded-written _ _ _ _ (recOf n recs i) ∙ now d
     where
       now : (d : Bool) → storeBy d H i k t .written i ≡ true
       now true = unfold storeBy in (upd-same (H .written) i true)
       now false = unfold storeBy in (upd-same (H .written) i true)
 
   other : (d : Bool) → dissolves H i k t ≡ d → (x : ℕ) → Obj n x → x ≢ i
-      → (recOf n (laid (storeBy d H i k t) recs) x ≡ recOf n recs x)
-      ⊎ ((cluster (recOf n recs i) ≢ 0) × (cluster (recOf n recs x) ≡ cluster (recOf n recs i)) × (recOf n (laid (storeBy d H i k t) recs) x ≡ loose (recOf n recs x)))
+      → (recOf n (encoded (storeBy d H i k t) recs) x ≡ recOf n recs x)
+      ⊎ ((cluster (recOf n recs i) ≢ 0) × (cluster (recOf n recs x) ≡ cluster (recOf n recs i)) × (recOf n (encoded (storeBy d H i k t) recs) x ≡ loose (recOf n recs x)))
   unfolding storeBy view
-  other false e x b z = inl (laid-at false x (b .0) (b .1) ∙ rw (upd-other (H .out) i x _ z, upd-other (H .written) i x true z) (laid-same (recOf n recs x)))
+  other false e x b z = inl (at false x (b .0) (b .1) ∙ rw (upd-other (H .out) i x _ z, upd-other (H .written) i x true z) (encoded-same (recOf n recs x)))
   other true e x b z =
       member (eqb (cluster (recOf n recs x)) (cluster (recOf n recs i))) refl
-      (laid-at true x (b .0) (b .1) ∙ rw (upd-other (H .written) i x true z) (unfold keep in (laid-dissolved (recOf n recs x) (cluster (recOf n recs i)))))
+      (at true x (b .0) (b .1) ∙ rw (upd-other (H .written) i x true z) (unfold keep in (encoded-dissolved (recOf n recs x) (cluster (recOf n recs i)))))
     where
       member : {r : ℕ} (m : Bool) → eqb (cluster (recOf n recs x)) (cluster (recOf n recs i)) ≡ m
           → r ≡ cond (eqb (cluster (recOf n recs x)) (cluster (recOf n recs i))) (loose (recOf n recs x)) (recOf n recs x)
@@ -205,7 +204,7 @@ module _ (n : ℕ) (recs slots : List ℕ) (i k t : ℕ) (low : 1 ≤ i) (high :
       member true q h = inr (points-clustered H i k t e, eqb-true _ _ q, rw q at h)
       member false q h = inl (rw q at h)
 
-  touches : Touches n i (recOf n recs) (recOf n (laid (store H i k t) recs))
+  touches : Touches n i (recOf n recs) (recOf n (encoded (store H i k t) recs))
   unfolding store
   touches = (own (dissolves H i k t), other (dissolves H i k t) refl)
 
@@ -276,5 +275,5 @@ declare-control c i recs slots roots = handed-back (λ (o : DeclareSink.Outcome)
 
 pub collect-control : (kind : Kind) (c : Control) (recs slots roots work map : List ℕ)
     → Collect.collect kind c recs slots roots work map .answer .control ≡ c
-unfolding Collect.collect Collect.sweep
+unfolding Collect.collect
 collect-control kind c recs slots roots work map = handed-back (λ (o : Collect.Outcome). o .answer .control) c (Collect.collect kind c recs slots roots work map) _ _ _ refl refl (λ m. refl)

@@ -13,7 +13,7 @@ use borrow.Author.Tests.{eq-eqb, ne-eqb}
 use Rattle.layout.specs.Limits.{slotsLen}
 use Rattle.records.specs.Record.{width}
 use Rattle.rules.specs.Buffers.{recOf, eight, usedWords, eachFrom, eachRecord, eachSlot, zeros}
-use Rattle.rules.proofs.ListLaws.{each-same, each-id, each-set, recOf-above, recOf-each, eight-each, map-id}
+use Rattle.rules.proofs.ListLaws.{each-nil, each-same, each-id, each-set, recOf-above, recOf-each, eight-each, map-id}
 
 -- ---- reading
 
@@ -50,11 +50,7 @@ each-after i zero k f l h =
     ap₂ (λ (x y : ℕ). eachFrom y x f l) a b
 each-after i (suc a) k f [] h =
     let s : suc a + k ≡ suc (a + k) = omega arith in
-    ap (λ (y : ℕ). eachFrom i y f []) s ∙ sym (nil (i + suc a) k)
-  where
-    nil : (j k : ℕ) → eachFrom j k f [] ≡ []
-    nil j zero = refl
-    nil j (suc k) = refl
+    ap (λ (y : ℕ). eachFrom i y f []) s ∙ sym (each-nil (i + suc a) k f)
 each-after i (suc a) k f (w ∷ l) h =
     let s : suc a + k ≡ suc (a + k) = omega arith in
     let e : suc i + a ≡ i + suc a = omega arith in

@@ -26,12 +26,12 @@ use Rattle.graph.proofs.State.{Good}
 use Rattle.rules.specs.Buffers.{recOf, short, eachFrom, eachSlot, zeros, eight, usedWords, otherWords, allOf}
 use Rattle.rules.specs.View.{target, view}
 use Rattle.rules.specs.Create.{Outcome, createTests, create}
-use Rattle.rules.specs.Plain.{free, plainCreated}
+use Rattle.rules.specs.Plain.{vacant, plainCreated}
 use Rattle.rules.specs.Steps.{State, created}
+use Rattle.rules.specs.PlainOf.{plainOf, cellOf, cellsOf}
 use Rattle.rules.proofs.ListLaws.{take-zeros, recOf-above, length-each, take-each, eight-each, same-numbers, const-numbers}
 use Rattle.rules.proofs.BoolLaws.{or-split}
 use Rattle.rules.proofs.Invariant.{Inv}
-use Rattle.rules.proofs.Abstraction.{plainOf, cellOf, cellsOf}
 
 -- ---- zeroed words
 
@@ -144,9 +144,9 @@ module _ (n r : ℕ) (recs slots roots : List ℕ) where
     unfolding newControl plainCreated zeros
     zeroed-plain = λ i. record { last = 0; roots = take-zeros 0 r roots (F .roots-long) i; cells = cells i }
       where
-        cell : (x : ℕ) → cellOf n (zeros n recs) (zeros (slotsLen n) slots) x ≡ free
+        cell : (x : ℕ) → cellOf n (zeros n recs) (zeros (slotsLen n) slots) x ≡ vacant
         cell x = unfold cellOf R.free in (rw (blank x) refl)
 
-        cells : cellsOf n (zeros n recs) (zeros (slotsLen n) slots) ≡ replicate n free
+        cells : cellsOf n (zeros n recs) (zeros (slotsLen n) slots) ≡ replicate n vacant
         cells =
-            unfold cellsOf in (same-numbers (cellOf n (zeros n recs) (zeros (slotsLen n) slots)) (λ (x : ℕ). free) 1 n (λ x p q. cell x) ∙ const-numbers free 1 n)
+            unfold cellsOf in (same-numbers (cellOf n (zeros n recs) (zeros (slotsLen n) slots)) (λ (x : ℕ). vacant) 1 n (λ x p q. cell x) ∙ const-numbers vacant 1 n)

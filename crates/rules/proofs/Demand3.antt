@@ -24,11 +24,12 @@ use Rattle.rules.specs.Analyse as Analyse
 use Rattle.rules.specs.Calls.{Call, allocate, allocateInPlace, read, show, write, writeInPlace, setRoot, declareSink, collect, analyse}
 use Rattle.rules.specs.Plain.{Plain, Played, Cell, eightOf, plainSlots, plainStep, plainCreated, answer}
 use Rattle.rules.specs.Steps.{State, step, answersOf, afterAll}
-use Rattle.rules.specs.Demands.{Lent, EachLent, ScansFew, Alike, Demand3, PlainKeeps, wordsOf, rec}
+use Rattle.rules.specs.Demands.{Lent, EachLent, ScansFew, Alike, Demand3, PlainKeeps, wordsOf, recordIn}
+use Rattle.rules.specs.PlainOf.{plainOf, cellOf, cellsOf}
 use Rattle.rules.proofs.ListLaws.{length-eight}
 use Rattle.rules.proofs.BoolLaws.{and-split}
 use Rattle.rules.proofs.Invariant.{Inv}
-use Rattle.rules.proofs.Abstraction.{plainOf, cellOf, cellsOf, cell-words}
+use Rattle.rules.proofs.Abstraction.{cell-words}
 use Rattle.rules.proofs.Simulation.{Same, all-by, used-length}
 use Rattle.rules.proofs.ReadLaws.{read-same, show-same, read-stays, show-stays}
 use Rattle.rules.proofs.SetRootLaws.{root-same}
@@ -66,11 +67,11 @@ module _ (s : State) (I : Inv s) where
       let u = used-length s I x in
       ap (λ (l : List ℕ). l ++ replicate (8 - length l) 0) (cell-words (s .control .n) (s .records) (s .slots) x)
       ∙ ap (λ (l : List ℕ). wordsOf s x ++ l) (sym rest)
-      ∙ unfold usedWords otherWords in (take-append-drop (width (rec s x)) (eight (s .slots) x))
+      ∙ unfold usedWords otherWords in (take-append-drop (width (recordIn s x)) (eight (s .slots) x))
     where
       long : length (otherWords (s .control .n) (s .records) (s .slots) x) ≡ 8 - length (wordsOf s x)
       long = unfold otherWords in
-          (length-drop (width (rec s x)) (eight (s .slots) x)
+          (length-drop (width (recordIn s x)) (eight (s .slots) x)
           ∙ ap₂ (λ (a b : ℕ). a - b) (length-eight (s .control .n) (s .slots) x p q (I .slots-long)) (sym (used-length s I x)))
 
       rest : otherWords (s .control .n) (s .records) (s .slots) x ≡ replicate (8 - length (wordsOf s x)) 0
@@ -95,7 +96,7 @@ unfolding Write.write withWriteLoss
 write-sizes s i k w = all-by (λ (o : Write.Outcome). Sizes s (o .answer .control)) _ _ _ (λ z. (refl, refl)) (λ m. (refl, refl))
 
 pub sizes-kept : (call : Call) (s : State) → Sizes s (step call s .after .control)
-unfolding step answer Allocate.allocateInPlace Write.writeInPlace SetRoot.setRoot DeclareSink.declareSink Collect.collect Collect.sweep Analyse.analyse withAnalysis
+unfolding step answer Allocate.allocateInPlace Write.writeInPlace SetRoot.setRoot DeclareSink.declareSink Collect.collect Analyse.analyse withAnalysis
 sizes-kept (allocate width) s = allocate-sizes s width
 sizes-kept (allocateInPlace width) s = allocate-sizes s width
 sizes-kept (read i k) s = subst (λ (t : State). Sizes s (t .control)) (sym (read-stays s i k)) (refl, refl)

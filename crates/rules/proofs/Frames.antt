@@ -1,7 +1,7 @@
 -- Of every input: no call changes a word past those of the heap, and work is 0 after an accepted one.
 -- Assumes nothing.
 use Prim.Native.Nat.{ℕ, _+_, _-_, _*_, _≤_, _<_}
-use mathlib.Core.Path.{_≡_, refl, sym, _∙_}
+use mathlib.Core.Path.{_≡_, refl, sym}
 use mathlib.Core.Bool.{Bool, true, false, cond, not, _||_}
 use mathlib.Core.List.{List, _∷_}
 use native.Mathlib.Omega.{arith}
@@ -19,9 +19,9 @@ use Rattle.layout.specs.declared.answers.Control.{Control}
 use Rattle.records.proofs.RecordLaws.{legal-facts, undamaged}
 use Rattle.graph.specs.Heap.{Heap}
 use Rattle.graph.specs.Analysis as Graph
-use Rattle.graph.specs.Writes.{dissolves, storeBy, store, declare}
+use Rattle.graph.specs.Writes.{dissolves, store, declare}
 use Rattle.rules.specs.Buffers.{short, recOf, eachFrom, eachRecord, eachSlot, zeros}
-use Rattle.rules.specs.View.{view, target, laid}
+use Rattle.rules.specs.View.{view, target, encoded}
 use Rattle.rules.specs.Create as Create
 use Rattle.rules.specs.Allocate as Allocate
 use Rattle.rules.specs.Write as Write
@@ -30,9 +30,11 @@ use Rattle.rules.specs.DeclareSink as DeclareSink
 use Rattle.rules.specs.Analyse as Analyse
 use Rattle.rules.specs.Collect.{Kind}
 use Rattle.rules.specs.Collect as Collect
+use Rattle.rules.specs.Sweep.{sweep}
 use Rattle.rules.specs.Demands.{Within, Cleared}
 use Rattle.rules.proofs.ListLaws.{length-each, drop-past, take-zeros}
 use Rattle.rules.proofs.BoolLaws.{or-split}
+use Rattle.rules.proofs.StoreLaws.{store-size}
 use Rattle.rules.proofs.Simulation.{all-by, pointer-facts}
 
 -- ---- work after an accepted analysis or collection
@@ -56,12 +58,12 @@ analyse-clears c recs slots roots work =
 
 pub collect-clears : (kind : Kind) (c : Control) (recs slots roots work map : List ℕ)
     → let o = Collect.collect kind c recs slots roots work map in o .answer .refusal ≡ 0 → Cleared (workLen (c .n)) (o .work)
-unfolding Collect.collect Collect.sweep
+unfolding Collect.collect
 collect-clears kind c recs slots roots work map =
     all-by (λ (o : Collect.Outcome). o .answer .refusal ≡ 0 → Cleared (workLen (c .n)) (o .work)) _ _ _
     (λ z e. clears (workLen (c .n)) work (fits z)) (λ m e. absurd (suc-ne-zero m e))
   where
-    fits : first (Collect.collectTests kind c recs slots roots work map) ≡ 0 → short (workLen (c .n)) work ≡ false
+    fits : first (Collect.collectTests c recs slots roots work map) ≡ 0 → short (workLen (c .n)) work ≡ false
     fits z = unfold Collect.collectTests in
         (let t1 = first-passed 19 _ _ z in
         let t2 = first-passed 1 (short (c .n) recs || short (slotsLen (c .n)) slots || short (c .r) roots || short (workLen (c .n)) work || short (mapLen (c .n)) map) _ (t1 .1) in
@@ -91,9 +93,9 @@ zeroed : (k : ℕ) (l : List ℕ) → Within k l (zeros k l)
 unfolding zeros
 zeroed k l = each 0 k _ l
 
-by-laid : (n : ℕ) (H : Heap) (l : List ℕ) → H .n ≡ n → Within n l (laid H l)
-unfolding laid
-by-laid n H l e = rw (sym e) (by-record (H .n) _ l)
+by-encoded : (n : ℕ) (H : Heap) (l : List ℕ) → H .n ≡ n → Within n l (encoded H l)
+unfolding encoded
+by-encoded n H l e = rw (sym e) (by-record (H .n) _ l)
 
 pub create-within : (n r : ℕ) (recs slots roots : List ℕ)
     → let o = Create.create n r recs slots roots in
@@ -150,24 +152,16 @@ slot-fits c i k w recs slots z =
     let b = leb-false (width (recOf (c .n) recs i)) k (first-passed 4 _ _ (f .1) .0) in
     omega (arith, f .0 .low, f .0 .high, f .0 .narrow, b)
 
-store-size : (H : Heap) (o k t : ℕ) → store H o k t .n ≡ H .n
-unfolding store storeBy
-store-size H o k t = go (dissolves H o k t)
-  where
-    go : (b : Bool) → storeBy b H o k t .n ≡ H .n
-    go true = refl
-    go false = refl
-
 pub write-within : (c : Control) (i k w : ℕ) (recs slots : List ℕ)
     → let o = Write.write c i k w recs slots in Within (c .n) recs (o .records) × Within (slotsLen (c .n)) slots (o .slots)
 unfolding Write.write
 write-within c i k w recs slots =
     all-by (λ (o : Write.Outcome). Within (c .n) recs (o .records) × Within (slotsLen (c .n)) slots (o .slots)) _ _ _
-    (λ z. (by-laid (c .n) _ recs (store-size (view (c .n) recs slots) i k (target (c .n) w) ∙ size), one (slotsLen (c .n)) slots _ w (slot-fits c i k w recs slots z)))
+    (λ z. (by-encoded (c .n) _ recs (size), one (slotsLen (c .n)) slots _ w (slot-fits c i k w recs slots z)))
     (λ m. (same (c .n) recs, same (slotsLen (c .n)) slots))
   where
-    size : view (c .n) recs slots .n ≡ c .n
-    size = unfold view in refl
+    size : store (view (c .n) recs slots) i k (target (c .n) w) .n ≡ c .n
+    size = unfold store in (store-size (dissolves (view (c .n) recs slots) i k (target (c .n) w)) (c .n) recs slots i k (target (c .n) w))
 
 pub root-fits : (c : Control) (j w : ℕ) (recs roots : List ℕ) → first (SetRoot.setRootTests c j w recs roots) ≡ 0 → (j < c .r) × (c .r ≤ length roots)
 unfolding SetRoot.setRootTests short
@@ -187,22 +181,22 @@ unfolding DeclareSink.declareSink
 declare-within c i recs slots roots =
     all-by (λ (o : DeclareSink.Outcome). Within (c .n) recs (o .records)) _ _ _ (λ z. either (isSink (recOf (c .n) recs i))) (λ m. same (c .n) recs)
   where
-    either : (b : Bool) → Within (c .n) recs (cond b recs (laid (declare (view (c .n) recs slots) i) recs))
+    either : (b : Bool) → Within (c .n) recs (cond b recs (encoded (declare (view (c .n) recs slots) i) recs))
     either true = same (c .n) recs
-    either false = by-laid (c .n) _ recs (unfold declare view in refl)
+    either false = by-encoded (c .n) _ recs (unfold declare view in refl)
 
 pub analyse-within : (c : Control) (recs slots roots work : List ℕ)
     → let o = Analyse.analyse c recs slots roots work in Within (c .n) recs (o .records) × Within (workLen (c .n)) work (o .work)
 unfolding Analyse.analyse Analyse.analysed Graph.analyse view
 analyse-within c recs slots roots work =
     all-by (λ (o : Analyse.Outcome). Within (c .n) recs (o .records) × Within (workLen (c .n)) work (o .work)) _ _ _
-    (λ z. (by-laid (c .n) _ recs refl, zeroed (workLen (c .n)) work)) (λ m. (same (c .n) recs, same (workLen (c .n)) work))
+    (λ z. (by-encoded (c .n) _ recs refl, zeroed (workLen (c .n)) work)) (λ m. (same (c .n) recs, same (workLen (c .n)) work))
 
 pub collect-within : (kind : Kind) (c : Control) (recs slots roots work map : List ℕ)
     → let o = Collect.collect kind c recs slots roots work map in
     Within (c .n) recs (o .records) × Within (slotsLen (c .n)) slots (o .slots) × Within (workLen (c .n)) work (o .work)
     × Within (mapLen (c .n)) map (o .map)
-unfolding Collect.collect Collect.sweep
+unfolding Collect.collect sweep
 collect-within kind c recs slots roots work map =
     all-by
     (λ (o : Collect.Outcome).

@@ -16,13 +16,14 @@ use Rattle.records.specs.Record.{cluster, clear, damaged}
 use Rattle.layout.specs.Word.{isNil, isImmediate}
 use Rattle.records.proofs.RecordLaws.{Legal, facts-legal, legal-nonzero, zero-free, free-undamaged, legal-undamaged}
 use Rattle.layout.proofs.ControlLaws.{Sound, facts-control}
-use Rattle.graph.proofs.Paths.{Heads, connected-head}
+use Rattle.graph.specs.Invariant.{Heads}
+use Rattle.graph.proofs.Paths.{connected-head}
 use Rattle.graph.proofs.State.{Good}
 use Rattle.rules.specs.Buffers.{recOf, short, usedWords, otherWords, allOf}
 use Rattle.rules.specs.View.{view, exactOut}
-use Rattle.rules.specs.WellFormed.{names, legalAt, emptyAt, wordsAt, headAt, outAt, rootsNamed, wellFormed}
+use Rattle.rules.specs.WellFormed.{names, legalAt, emptyAt, wordsAt, headAt, outAt, rootsNamed, formed, wellFormed}
 use Rattle.rules.specs.Steps.{State}
-use Rattle.rules.specs.Demands.{heapOf, wordsOf, rec, rootsOf}
+use Rattle.rules.specs.Demands.{heapOf, wordsOf, recordIn, rootsOf}
 use Rattle.rules.proofs.BoolLaws.{or-true}
 use Rattle.rules.proofs.ListLaws.{allOf-all, allTo-all}
 
@@ -41,7 +42,7 @@ pub record Inv (s : State) : Type 0 where
   pub slots-long : 8 * s .control .n ≤ length (s .slots)
   pub roots-long : s .control .r ≤ length (s .roots)
   -- the heap is well formed, but for what `good` says
-  pub legal : (x : ℕ) → (rec s x ≡ 0) ⊎ Legal (s .control .n) (rec s x)
+  pub legal : (x : ℕ) → (recordIn s x ≡ 0) ⊎ Legal (s .control .n) (recordIn s x)
   pub empty : (x : ℕ) → 1 ≤ x → x ≤ s .control .n → allOf isNil (otherWords (s .control .n) (s .records) (s .slots) x) ≡ true
   pub named : (x w : ℕ) → List·Memᴰ w (wordsOf s x) → SlotWord (s .control .n) (s .records) w
   pub rooted : (w : ℕ) → List·Memᴰ w (rootsOf s) → RootWord (s .control .n) (s .records) w
@@ -81,8 +82,8 @@ module _ (n r : ℕ) (recs slots roots : List ℕ) where
       → Heads (view n recs slots .cluster)
       → ((x : ℕ) → view n recs slots .out x ≡ exactOut (view n recs slots) x)
       → ((w : ℕ) → List·Memᴰ w (take r roots) → RootWord n recs w)
-      → wellFormed n r recs slots roots ≡ true
-  unfolding wellFormed emptyAt wordsAt outAt rootsNamed
+      → formed n r recs slots roots ≡ true
+  unfolding formed emptyAt wordsAt outAt rootsNamed
   formed-by legal empty named heads exact rooted =
       rw (
         allTo-all n (legalAt n recs) (λ x p q. legal-at n recs x (legal x)),
@@ -94,7 +95,8 @@ module _ (n r : ℕ) (recs slots roots : List ℕ) where
       (allOf-all _ _ rooted)
 
 module _ (s : State) (I : Inv s) where
-  pub inv-formed : wellFormed (s .control .n) (s .control .r) (s .records) (s .slots) (s .roots) ≡ true
+  pub inv-formed : wellFormed (s .control) (s .records) (s .slots) (s .roots) ≡ true
+  unfolding wellFormed
   inv-formed =
       formed-by _ _ _ _ _ (I .legal) (I .empty) (I .named) (connected-head _ _ (I .good .conn)) (λ x. unfold exactOut in (I .good .exact x)) (I .rooted)
 
@@ -102,12 +104,12 @@ module _ (s : State) (I : Inv s) where
   inv-control = facts-control (s .control) (I .sound)
 
   -- no record is damaged
-  pub inv-sane : (x : ℕ) → damaged (s .control .n) (rec s x) ≡ false
-  inv-sane x = sane (s .control .n) (rec s x) (I .legal x)
+  pub inv-sane : (x : ℕ) → damaged (s .control .n) (recordIn s x) ≡ false
+  inv-sane x = sane (s .control .n) (recordIn s x) (I .legal x)
 
   -- an object is legal exactly where it is not R.free
-  pub inv-illegal : (x : ℕ) → not (R.legal (s .control .n) (rec s x)) ≡ R.free (rec s x)
-  inv-illegal x = illegal (s .control .n) (rec s x) (I .legal x)
+  pub inv-illegal : (x : ℕ) → not (R.legal (s .control .n) (recordIn s x)) ≡ R.free (recordIn s x)
+  inv-illegal x = illegal (s .control .n) (recordIn s x) (I .legal x)
 
 pub enough : (k : ℕ) (l : List ℕ) → k ≤ length l → short k l ≡ false
 unfolding short

@@ -5,7 +5,8 @@ pub mod PassLaws
 pub mod BufferLaws
 pub mod PlaceLaws
 pub mod SearchLaws
-pub mod LaidRecord
+pub mod EncodedRecord
+pub mod EncodedLaws
 pub mod StoreLaws
 pub mod WellFormedLaws
 pub mod SaneLaws
@@ -21,7 +22,7 @@ pub mod WalksEnd
 -- ---- call by call, in a heap with the invariant
 pub mod ReadLaws
 pub mod SetRootLaws
-pub mod LaidLaws
+pub mod EncodedState
 pub mod PointerLaws
 pub mod WriteLaws
 pub mod WriteFacts

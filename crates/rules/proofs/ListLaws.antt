@@ -9,7 +9,7 @@ use native.Mathlib.Nat.{le-suc-iff}
 use native.Mathlib.Decide.{decLe}
 use native.Mathlib.Omega.{arith}
 use lib.ListN.{length, getD, take, drop, set, length-take, length-drop, List·getD-eq-default, replicate}
-use lib.Seq.{take-set-le, take-set-lt, drop-set-lt, drop-set-add, length-take-le, getD-take, getD-set-same, getD-set-other}
+use lib.Seq.{take-set-le, take-set-lt, drop-set-lt, drop-set-add, length-take-le, getD-take}
 use Rattle.layout.specs.Limits.{slotsLen}
 use Rattle.rules.specs.Buffers.{recOf, eachFrom, eachRecord, eachSlot, eight, allOf, allTo, numbers}
 use Rattle.rules.proofs.BoolLaws.{and-split}
@@ -31,6 +31,11 @@ get-each i (suc k) f (w ∷ l) zero d p q = ap (λ (x : ℕ). f x w) (omega arit
 get-each i (suc k) f (w ∷ l) (suc j) d p q =
     get-each (suc i) k f l j d (omega arith) (omega arith) ∙ ap (λ (x : ℕ). f x (getD l j d)) (omega arith)
 
+pub each-nil : {A : Type 0} (i k : ℕ) (f : ℕ → A → A) → eachFrom i k f [] ≡ []
+unfolding eachFrom
+each-nil i zero f = refl
+each-nil i (suc k) f = refl
+
 pub drop-each : {A : Type 0} (i k : ℕ) (f : ℕ → A → A) (l : List A) (m : ℕ) → drop m (eachFrom i (m + k) f l) ≡ eachFrom (i + m) k f (drop m l)
 unfolding eachFrom
 drop-each i k f l zero =
@@ -39,12 +44,8 @@ drop-each i k f l zero =
     ap₂ (λ (x y : ℕ). eachFrom x y f l) a b
 drop-each {A = A} i k f [] (suc m) =
     let a : suc m + k ≡ suc (m + k) = omega arith in
-    ap (λ (y : ℕ). drop (suc m) (eachFrom i y f [])) a ∙ none (eachFrom i (suc (m + k)) f []) refl ∙ sym (nil (i + suc m) k)
+    ap (λ (y : ℕ). drop (suc m) (eachFrom i y f [])) a ∙ none (eachFrom i (suc (m + k)) f []) refl ∙ sym (each-nil (i + suc m) k f)
   where
-    nil : (j k : ℕ) → eachFrom j k f [] ≡ []
-    nil j zero = refl
-    nil j (suc k) = refl
-
     none : (l : List A) → l ≡ [] → drop (suc m) l ≡ []
     none l e = rw e refl
 drop-each i k f (w ∷ l) (suc m) =
@@ -102,6 +103,15 @@ take-zeros j zero l p = refl
 take-zeros j (suc k) [] p = absurd (omega arith)
 take-zeros j (suc k) (w ∷ l) p = ap (λ r. 0 ∷ r) (take-zeros (suc j) k l (omega arith))
 
+-- the words that become 0 do not matter
+pub zeros-same : (i k : ℕ) (l m : List ℕ) → length l ≡ length m → drop k l ≡ drop k m → eachFrom i k (λ x w. 0) l ≡ eachFrom i k (λ x w. 0) m
+unfolding eachFrom
+zeros-same i zero l m e d = d
+zeros-same i (suc k) [] [] e d = refl
+zeros-same i (suc k) [] (y ∷ m) e d = absurd (omega arith)
+zeros-same i (suc k) (x ∷ l) [] e d = absurd (omega arith)
+zeros-same i (suc k) (x ∷ l) (y ∷ m) e d = ap (λ (r : List ℕ). 0 ∷ r) (zeros-same (suc i) k l m (omega arith) d)
+
 -- two changes that do the same to each element
 pub each-alike : {A : Type 0} (i k : ℕ) (f g : ℕ → A → A) (l : List A) (d : A)
     → ((m : ℕ) → m < k → m < length l → f (i + m) (getD l m d) ≡ g (i + m) (getD l m d)) → eachFrom i k f l ≡ eachFrom i k g l
@@ -143,6 +153,16 @@ unfolding recOf
 recOf-above n recs zero p = refl
 recOf-above n recs (suc i) p = List·getD-eq-default (take n recs) 0 (let a = length-take n recs in omega arith)
 
+-- a record that is not 0 is that of an object
+pub recOf-range : (n : ℕ) (recs : List ℕ) (x : ℕ) → recOf n recs x ≢ 0 → (1 ≤ x) × (x ≤ n)
+unfolding recOf
+recOf-range n recs zero h = absurd (h refl)
+recOf-range n recs (suc i) h = (omega arith, go (decLe (suc i) n))
+  where
+    go : Dec (suc i ≤ n) → suc i ≤ n
+    go (yes l) = l
+    go (no l) = absurd (h (recOf-above n recs (suc i) (omega (arith, l))))
+
 pub recOf-each : (n : ℕ) (f : ℕ → ℕ → ℕ) (recs : List ℕ) (x : ℕ) → 1 ≤ x → x ≤ n → n ≤ length recs → recOf n (eachRecord n f recs) x
     ≡ f x (recOf n recs x)
 unfolding recOf eachRecord
@@ -165,28 +185,6 @@ records-alike n f g recs h =
     each-alike 1 n f g recs 0 (λ m p q.
     let z : 1 + m ≡ suc m = omega arith in
     rw z (rw (sym (rec-get n recs m p)) (h (suc m) (omega arith) p)))
-
--- a change of the record of object i + 1 alone
-pub records-set : (n : ℕ) (f : ℕ → ℕ → ℕ) (recs : List ℕ) (i v : ℕ) → i < n → f (suc i) (recOf n recs (suc i)) ≡ v
-    → ((x : ℕ) → 1 ≤ x → x ≤ n → x ≢ suc i → f x (recOf n recs x) ≡ recOf n recs x) → eachRecord n f recs ≡ set recs i v
-unfolding eachRecord
-records-set n f recs i v p e h =
-    let z : 1 + i ≡ suc i = omega arith in
-    each-set 1 n f recs i v 0 p (rw z (rw (sym (rec-get n recs i p)) e)) (λ m q r d.
-    let y : 1 + m ≡ suc m = omega arith in
-    rw y (rw (sym (rec-get n recs m q)) (h (suc m) (omega arith) q (omega (arith, d)))))
-
-pub recOf-set : (n : ℕ) (recs : List ℕ) (i v : ℕ) → i < n → n ≤ length recs → recOf n (set recs i v) (suc i) ≡ v
-recOf-set n recs i v p q = rec-get n (set recs i v) i p ∙ getD-set-same recs i v 0 (omega arith)
-
-pub recOf-set-other : (n : ℕ) (recs : List ℕ) (i v x : ℕ) → x ≢ suc i → recOf n (set recs i v) x ≡ recOf n recs x
-unfolding recOf
-recOf-set-other n recs i v zero e = refl
-recOf-set-other n recs i v (suc m) e = go (decLe (suc m) n)
-  where
-    go : Dec (suc m ≤ n) → getD (take n (set recs i v)) m 0 ≡ getD (take n recs) m 0
-    go (yes l) = getD-take n (set recs i v) m 0 l ∙ getD-set-other recs i m v 0 (omega (arith, e)) ∙ sym (getD-take n recs m 0 l)
-    go (no l) = recOf-above n (set recs i v) (suc m) (omega (arith, l)) ∙ sym (recOf-above n recs (suc m) (omega (arith, l)))
 
 -- ---- the eight words of an object
 
@@ -242,10 +240,6 @@ map-set f (x ∷ l) (suc k) w = ap (λ r. f x ∷ r) (map-set f l k w)
 pub map-of : (f : ℕ → ℕ) (l : List ℕ) (y : ℕ) → List·Memᴰ y (map f l) → (w : ℕ) × List·Memᴰ w l × (y ≡ f w)
 map-of f (x ∷ l) y (List·Memᴰ·head e) = (x, List·Memᴰ·head refl, e)
 map-of f (x ∷ l) y (List·Memᴰ·tail m) = let a = map-of f l y m in (a .0, List·Memᴰ·tail (a .1), a .2)
-
-pub map-in : (f : ℕ → ℕ) (l : List ℕ) (w : ℕ) → List·Memᴰ w l → List·Memᴰ (f w) (map f l)
-map-in f (x ∷ l) w (List·Memᴰ·head e) = List·Memᴰ·head (ap f e)
-map-in f (x ∷ l) w (List·Memᴰ·tail m) = List·Memᴰ·tail (map-in f l w m)
 
 -- ---- tests on all
 

@@ -1,15 +1,13 @@
 -- A pass over a buffer, one word after the other: what is left of it after some words, so that one law serves every loop that rewrites words.
 -- Assumes nothing.
-use Prim.Native.Nat.{ℕ, zero, suc, _+_, _-_, _≤_, _<_}
+use Prim.Native.Nat.{ℕ, zero, suc, _+_, _≤_, _<_}
 use mathlib.Core.Path.{_≡_, refl, sym, ap, ap₂, _∙_}
-use mathlib.Core.Logic.{_≢_}
 use mathlib.Core.List.{List, [], _∷_, _++_, append-assoc}
-use native.Mathlib.Decide.{ℕ-discrete, decLt}
 use native.Mathlib.Omega.{arith}
-use lib.ListN.{length, getD, take, drop, set, length-set, length-append, length-take, length-drop, take-append-drop, drop-of-length-le}
-use lib.Seq.{drop-cons, take-suc-set, drop-set-lt, length-take-le, getD-set-same, getD-set-other, set-getD, ext-getD}
-use Rattle.rules.specs.Buffers.{eachFrom, zeros}
-use Rattle.rules.proofs.ListLaws.{length-each, get-each}
+use lib.ListN.{length, getD, take, drop, set, take-append-drop, drop-of-length-le}
+use lib.Seq.{drop-cons, take-suc-set, drop-set-lt, set-getD}
+use Rattle.rules.specs.Buffers.{eachFrom}
+use Rattle.rules.proofs.ListLaws.{each-nil}
 
 -- the words before place i as they are, the next k each rewritten: the word at place j is number base + j
 unfoldable pub passFrom : {A : Type 0} → ℕ → ℕ → ℕ → (ℕ → A → A) → List A → List A
@@ -28,14 +26,10 @@ pass-end base i f l = take-append-drop i l
 -- past the end of the list too
 pub pass-past : {A : Type 0} (base i k : ℕ) (f : ℕ → A → A) (l : List A) → length l ≤ i → passFrom base i k f l ≡ l
 unfolding passFrom eachFrom
-pass-past {A = A} base i k f l p = ap (λ (m : List A). take i l ++ m) (ap (eachFrom (base + i) k f) none ∙ nil k ∙ sym none) ∙ take-append-drop i l
+pass-past {A = A} base i k f l p = ap (λ (m : List A). take i l ++ m) (ap (eachFrom (base + i) k f) none ∙ each-nil (base + i) k f ∙ sym none) ∙ take-append-drop i l
   where
     none : drop i l ≡ []
     none = drop-of-length-le l {i = i} p
-
-    nil : (k : ℕ) → eachFrom (base + i) k f [] ≡ []
-    nil zero = refl
-    nil (suc k) = refl
 
 -- rewriting the word at i leaves the rest of the pass
 pub pass-turn : {A : Type 0} (base i k : ℕ) (f : ℕ → A → A) (l : List A) (d : A) → i < length l
@@ -62,17 +56,3 @@ get-past i zero f l j d p = refl
 get-past i (suc k) f [] j d p = refl
 get-past i (suc k) f (w ∷ l) zero d p = absurd (omega arith)
 get-past i (suc k) f (w ∷ l) (suc j) d p = get-past (suc i) k f l j d (omega arith)
-
--- a pass that changes one word only is a store
-pub pass-one : {A : Type 0} (i k : ℕ) (f : ℕ → A → A) (l : List A) (j : ℕ) (d : A) → j < k → k ≤ length l
-    → ((m : ℕ) → m < k → m ≢ j → f (i + m) (getD l m d) ≡ getD l m d) → eachFrom i k f l ≡ set l j (f (i + j) (getD l j d))
-pass-one i k f l j d p q h =
-    ext-getD d (eachFrom i k f l) (set l j (f (i + j) (getD l j d))) (length-each i k f l ∙ sym (length-set l j _)) (λ m r. go m (ℕ-discrete m j) (decLt m k))
-  where
-    go : (m : ℕ) → Dec (m ≡ j) → Dec (m < k) → getD (eachFrom i k f l) m d ≡ getD (set l j (f (i + j) (getD l j d))) m d
-    go m (yes e) b =
-        rw e (get-each i k f l j d p (omega arith) ∙ sym (getD-set-same l j (f (i + j) (getD l j d)) d (omega arith)))
-    go m (no ne) (yes b) =
-        get-each i k f l m d b (omega arith) ∙ h m b ne ∙ sym (getD-set-other l j m (f (i + j) (getD l j d)) d ne)
-    go m (no ne) (no b) =
-        get-past i k f l m d (omega (arith, b)) ∙ sym (getD-set-other l j m (f (i + j) (getD l j d)) d ne)

@@ -9,7 +9,7 @@ use native.Mathlib.Decide.{ℕ-discrete, decLt}
 use native.Mathlib.Omega.{arith}
 use lib.Dec.{eqb}
 use lib.ListN.{length, getD, take, drop, set}
-use lib.Seq.{getD-take, take-set-lt, getD-set-same, getD-set-other, length-take-le, ext-getD, getD-drop}
+use lib.Seq.{take-set-lt, getD-set-same, getD-set-other, length-take-le, ext-getD, getD-drop}
 use Rattle.graph.specs.Numbers.{upd}
 use Rattle.graph.proofs.NumberLaws.{upd-same, upd-other}
 use Rattle.rules.specs.Buffers.{recOf, eachFrom}

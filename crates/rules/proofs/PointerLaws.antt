@@ -3,41 +3,28 @@
 use Prim.Native.Nat.{ℕ, _≤_, _^_}
 use mathlib.Core.Path.{_≡_, refl, sym, ap, _∙_}
 use mathlib.Core.Bool.{Bool, true, false, cond, _||_, false≢true}
-use mathlib.Core.List.{[], _∷_, List·Memᴰ, List·Memᴰ·head, List·Memᴰ·eq-of-singleton}
+use mathlib.Core.List.{List·Memᴰ}
 use mathlib.Core.Logic.{_≢_, _⊎_, inl, inr}
 use native.Mathlib.Omega.{arith}
 use lib.Dec.{leb, eqb}
 use borrow.Author.Tests.{leb-true, eqb-true}
 use Rattle.layout.specs.Field.{field, flag}
 use Rattle.layout.specs.Word.{isNil, isImmediate}
-use Rattle.graph.specs.Numbers.{gather}
-use Rattle.graph.proofs.NumberLaws.{gather-from, gather-in}
 use Rattle.rules.specs.View.{view, target}
 use Rattle.rules.specs.WellFormed.{names}
 use Rattle.rules.specs.Steps.{State}
-use Rattle.rules.specs.Demands.{heapOf, wordsOf, rec, rootsOf}
-use Rattle.rules.proofs.BoolLaws.{and-split}
+use Rattle.rules.specs.Demands.{heapOf, wordsOf, recordIn, rootsOf}
+use Rattle.rules.proofs.BoolLaws.{or-cases, and-split}
 use Rattle.rules.proofs.ListLaws.{map-of}
 use Rattle.rules.proofs.Invariant.{Inv, SlotWord}
 use Rattle.rules.proofs.Simulation.{pointer-facts}
-
--- ---- gathered numbers
-
-pub gather-of : (n : ℕ) (t : ℕ → Bool) (x : ℕ) → List·Memᴰ x (gather n t (λ y. y ∷ [])) → (1 ≤ x) × (x ≤ n) × (t x ≡ true)
-gather-of n t x m =
-    let g = gather-from n t (λ y. y ∷ []) x m in
-    let e : x ≡ g .0 = List·Memᴰ·eq-of-singleton (g .3) in
-    rw e (g .1 .0, g .1 .1, g .2)
-
-pub in-gather : (n : ℕ) (t : ℕ → Bool) (x : ℕ) → 1 ≤ x → x ≤ n → t x ≡ true → List·Memᴰ x (gather n t (λ y. y ∷ []))
-in-gather n t x p q e = gather-in n t (λ y. y ∷ []) x x (p, q) e (List·Memᴰ·head refl)
 
 -- ---- in a heap with the invariant
 
 module _ (s : State) (I : Inv s) where
   -- in use: its record is not 0
   abbrev pub Used : ℕ → Type 0
-  Used y = rec s y ≢ 0
+  Used y = recordIn s y ≢ 0
 
   pub named-used : (w : ℕ) → names (s .control .n) (s .records) w ≡ true → (1 ≤ w) × (w ≤ s .control .n) × Used w
   unfolding names flag field
@@ -70,21 +57,19 @@ module _ (s : State) (I : Inv s) where
 
   pub roots-in-use : (y : ℕ) → List·Memᴰ y (rootsOf s) → (y ≡ 0) ⊎ Used y
   unfolding isNil
-  roots-in-use y m = go _ _ refl refl (I .rooted y m)
+  roots-in-use y m = go (or-cases (eqb y 0) (names (s .control .n) (s .records) y) (I .rooted y m))
     where
-      go : (a b : Bool) → eqb y 0 ≡ a → names (s .control .n) (s .records) y ≡ b → (a || b) ≡ true → (y ≡ 0) ⊎ Used y
-      go true b ea eb h = inl (eqb-true y 0 ea)
-      go false true ea eb h = inr (named-used y eb .2)
-      go false false ea eb h = absurd (false≢true h)
+      go : (eqb y 0 ≡ true) ⊎ (names (s .control .n) (s .records) y ≡ true) → (y ≡ 0) ⊎ Used y
+      go (inl e) = inl (eqb-true y 0 e)
+      go (inr e) = inr (named-used y e .2)
 
   pub roots-low : (y : ℕ) → List·Memᴰ y (rootsOf s) → y ≤ s .control .n
   unfolding isNil
-  roots-low y m = go _ _ refl refl (I .rooted y m)
+  roots-low y m = go (or-cases (eqb y 0) (names (s .control .n) (s .records) y) (I .rooted y m))
     where
-      go : (a b : Bool) → eqb y 0 ≡ a → names (s .control .n) (s .records) y ≡ b → (a || b) ≡ true → y ≤ s .control .n
-      go true b ea eb h = omega (arith, eqb-true y 0 ea)
-      go false true ea eb h = named-used y eb .1
-      go false false ea eb h = absurd (false≢true h)
+      go : (eqb y 0 ≡ true) ⊎ (names (s .control .n) (s .records) y ≡ true) → y ≤ s .control .n
+      go (inl e) = omega (arith, eqb-true y 0 e)
+      go (inr e) = named-used y e .1
 
   pub sinks-in-use : (x : ℕ) → heapOf s .sink x ≡ true → Used x
   unfolding view flag field

@@ -13,8 +13,9 @@ use Rattle.rules.specs.Read as Read
 use Rattle.rules.specs.Show as Show
 use Rattle.rules.specs.Plain.{Plain, Played, plainWords, objectTests, slotTests, answer, plainStep}
 use Rattle.rules.specs.Steps.{State, step}
+use Rattle.rules.specs.PlainOf.{plainOf}
 use Rattle.rules.proofs.Invariant.{Inv, inv-control, inv-sane, enough}
-use Rattle.rules.proofs.Abstraction.{plainOf, cells-size, at-free, at-words}
+use Rattle.rules.proofs.Abstraction.{cells-size, at-free, at-words}
 use Rattle.rules.proofs.Simulation.{Same, same-by, all-by, used-length}
 
 -- nothing changes, not even the control record

@@ -17,9 +17,8 @@ use Rattle.rules.specs.Write as Write
 use Rattle.rules.specs.SetRoot as SetRoot
 use Rattle.rules.specs.DeclareSink as DeclareSink
 use Rattle.rules.specs.Analyse as Analyse
-use Rattle.rules.specs.Collect.{Kind}
 use Rattle.rules.specs.Collect as Collect
-use Rattle.rules.specs.Demands.{order, inOrder, Refuses, here, later, Decided}
+use Rattle.rules.specs.Demands.{order, inOrder, Refuses, here, there, Decided}
 
 pub refuses : (T : List Test) (k : ℕ) → 1 ≤ k → first T ≡ k → Refuses k T
 unfolding first
@@ -28,12 +27,12 @@ refuses (t ∷ l) k p e = go (t .1) refl e (λ f. refuses l k p f)
   where
     go : (b : Bool) → t .1 ≡ b → cond b (t .0) (first l) ≡ k → (first l ≡ k → Refuses k l) → Refuses k (t ∷ l)
     go true h f r = here f h
-    go false h f r = later h (r f)
+    go false h f r = there h (r f)
 
 pub refused-first : (T : List Test) (k : ℕ) → Refuses k T → first T ≡ k
 unfolding first
 refused-first (t ∷ l) k (here e h) = rw h e
-refused-first (t ∷ l) k (later h r) = rw h (refused-first l k r)
+refused-first (t ∷ l) k (there h r) = rw h (refused-first l k r)
 
 module _ {A : Type 0} (T : List Test) (a : A) (r : ℕ → A) (refusal : A → ℕ) (zeroth : refusal a ≡ 0) (kth : (k : ℕ) → refusal (r k) ≡ k) where
   -- the refusal that is answered
@@ -89,6 +88,6 @@ pub analyse-ordered : (c : Control) (recs slots roots work : List ℕ) → inOrd
 unfolding inOrder Analyse.analyseTests
 analyse-ordered c recs slots roots work = refl
 
-pub collect-ordered : (kind : Kind) (c : Control) (recs slots roots work map : List ℕ) → inOrder order (Collect.collectTests kind c recs slots roots work map) ≡ true
+pub collect-ordered : (c : Control) (recs slots roots work map : List ℕ) → inOrder order (Collect.collectTests c recs slots roots work map) ≡ true
 unfolding inOrder Collect.collectTests
-collect-ordered kind c recs slots roots work map = refl
+collect-ordered c recs slots roots work map = refl

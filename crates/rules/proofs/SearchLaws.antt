@@ -14,7 +14,7 @@ use Rattle.graph.proofs.LowestLaws.{lowest-passes, lowest-none, lowest-least, n
 use Rattle.rules.specs.Buffers.{numbers}
 use Rattle.rules.specs.Allocate.{candidates, firstOf}
 use Rattle.rules.specs.Demands.{place}
-use Rattle.rules.proofs.BoolLaws.{and-split}
+use Rattle.rules.proofs.BoolLaws.{is-false, and-split}
 
 pub firstOf-found : (t : ℕ → Bool) (l : List ℕ) → firstOf t l ≢ 0 → List·Memᴰ (firstOf t l) l × (t (firstOf t l) ≡ true)
 unfolding firstOf
@@ -142,11 +142,7 @@ module _ (t : ℕ → Bool) where
     found = firstOf t (candidates last n)
 
     none : found ≡ 0 → (x : ℕ) → Obj n x → t x ≡ false
-    none z x b = go (t x) refl
-      where
-        go : (c : Bool) → t x ≡ c → c ≡ false
-        go true q = absurd (candidates-first last n x fits b q .0 z)
-        go false q = refl
+    none z x b = is-false (t x) (λ q. candidates-first last n x fits b q .0 z)
 
     -- none past last passes
     up-to : lowest past n ≡ 0 → Dec (found ≡ 0) → found ≡ lowest t last

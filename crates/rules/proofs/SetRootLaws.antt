@@ -18,9 +18,10 @@ use Rattle.rules.specs.Calls.{setRoot, did}
 use Rattle.rules.specs.SetRoot as SetRoot
 use Rattle.rules.specs.Plain.{Plain, Played, namesFree, answer, plainStep}
 use Rattle.rules.specs.Steps.{State, step}
-use Rattle.rules.specs.Demands.{rec, rootsOf}
+use Rattle.rules.specs.Demands.{recordIn, rootsOf}
+use Rattle.rules.specs.PlainOf.{plainOf}
 use Rattle.rules.proofs.Invariant.{Inv, RootWord, inv-control, inv-illegal, enough}
-use Rattle.rules.proofs.Abstraction.{plainOf, cells-size, at-free}
+use Rattle.rules.proofs.Abstraction.{cells-size, at-free}
 use Rattle.rules.proofs.Simulation.{Same, same-by, all-by, is-named}
 
 module _ (s : State) (I : Inv s) (j w : ℕ) where
@@ -51,7 +52,7 @@ module _ (s : State) (I : Inv s) (j w : ℕ) where
       let t5 = first-passed 22 _ _ (t4 .1) in
       (leb-false (s .control .r) j (t3 .0), word (isNil w) (isPointer (s .control .n) w) refl refl (not-false _ (t4 .0)) (t5 .0))
     where
-      word : (a b : Bool) → isNil w ≡ a → isPointer (s .control .n) w ≡ b → (a || b) ≡ true → (b && not (R.legal (s .control .n) (rec s w))) ≡ false
+      word : (a b : Bool) → isNil w ≡ a → isPointer (s .control .n) w ≡ b → (a || b) ≡ true → (b && not (R.legal (s .control .n) (recordIn s w))) ≡ false
           → RootWord (s .control .n) (s .records) w
       word true b ea eb e f = rw ea refl
       word false true ea eb e f = rw ea (is-named s I w eb (sym (inv-illegal s I w) ∙ f))

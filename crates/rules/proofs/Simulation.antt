@@ -2,11 +2,9 @@
 -- Assumes nothing.
 use Prim.Native.Nat.{ℕ, zero, suc, _≤_}
 use mathlib.Core.Path.{_≡_, refl, sym, ap, _∙_}
-use mathlib.Core.Bool.{Bool, true, false, true≢false}
-use mathlib.Core.List.{List, _∷_}
-use mathlib.Core.Logic.{_≢_, _⊎_, inl, inr}
-use native.Mathlib.Decide.{decLe}
-use native.Mathlib.Nat.{suc-ne-zero}
+use mathlib.Core.Bool.{true, false, true≢false}
+use mathlib.Core.List.{List}
+use mathlib.Core.Logic.{_⊎_, inl, inr}
 use native.Mathlib.Omega.{arith}
 use lib.Dec.{eqb}
 use lib.ListN.{length, take}
@@ -18,15 +16,15 @@ use Rattle.layout.specs.Refusal.{Test, first, by, outcome}
 use Rattle.layout.specs.Word.{isPointer}
 use Rattle.records.proofs.RecordLaws.{Legal, legal-nonzero}
 use Rattle.layout.proofs.LimitLaws.{within-true}
-use Rattle.rules.specs.Buffers.{recOf, usedWords, eight}
+use Rattle.rules.specs.Buffers.{usedWords, eight}
 use Rattle.rules.specs.WellFormed.{names}
 use Rattle.rules.specs.Calls.{Call}
 use Rattle.rules.specs.Plain.{plainStep}
 use Rattle.rules.specs.Steps.{State, step}
-use Rattle.rules.specs.Demands.{wordsOf, rec}
-use Rattle.rules.proofs.ListLaws.{recOf-above, length-eight}
+use Rattle.rules.specs.Demands.{wordsOf, recordIn}
+use Rattle.rules.specs.PlainOf.{plainOf}
+use Rattle.rules.proofs.ListLaws.{length-eight, recOf-range}
 use Rattle.rules.proofs.Invariant.{Inv}
-use Rattle.rules.proofs.Abstraction.{plainOf}
 
 -- the call does to the buffers what it does to the plain heap
 pub record Same (call : Call) (s : State) : Type 0 where
@@ -57,40 +55,30 @@ unfolding isPointer
 pointer-facts n w e = within-true 1 n w e
 
 module _ (s : State) (I : Inv s) where
-  -- a record that is not 0 is in range
-  pub in-range : (x : ℕ) → rec s x ≢ 0 → (1 ≤ x) × (x ≤ s .control .n)
-  unfolding recOf
-  in-range zero h = absurd (h refl)
-  in-range (suc i) h = (omega arith, go (decLe (suc i) (s .control .n)))
-    where
-      go : Dec (suc i ≤ s .control .n) → suc i ≤ s .control .n
-      go (yes l) = l
-      go (no l) = absurd (h (recOf-above (s .control .n) (s .records) (suc i) (omega (arith, l))))
-
-  pub used-length : (x : ℕ) → length (wordsOf s x) ≡ width (rec s x)
+  pub used-length : (x : ℕ) → length (wordsOf s x) ≡ width (recordIn s x)
   unfolding usedWords
   used-length x = go (I .legal x)
     where
-      go : (rec s x ≡ 0) ⊎ Legal (s .control .n) (rec s x)
-          → length (take (width (rec s x)) (eight (s .slots) x)) ≡ width (rec s x)
+      go : (recordIn s x ≡ 0) ⊎ Legal (s .control .n) (recordIn s x)
+          → length (take (width (recordIn s x)) (eight (s .slots) x)) ≡ width (recordIn s x)
       go (inl e) = rw e (unfold field in refl)
       go (inr L) =
-          let b = in-range x (legal-nonzero (s .control .n) (rec s x) L) in
+          let b = recOf-range (s .control .n) (s .records) x (legal-nonzero (s .control .n) (recordIn s x) L) in
           let e = length-eight (s .control .n) (s .slots) x (b .0) (b .1) (I .slots-long) in
-          length-take-le (width (rec s x)) (eight (s .slots) x) (omega (arith, L .narrow))
+          length-take-le (width (recordIn s x)) (eight (s .slots) x) (omega (arith, L .narrow))
 
-  pub widths : (x : ℕ) → width (rec s x) ≤ 8
+  pub widths : (x : ℕ) → width (recordIn s x) ≤ 8
   widths x = go (I .legal x)
     where
-      go : (rec s x ≡ 0) ⊎ Legal (s .control .n) (rec s x) → width (rec s x) ≤ 8
+      go : (recordIn s x ≡ 0) ⊎ Legal (s .control .n) (recordIn s x) → width (recordIn s x) ≤ 8
       go (inl e) = rw e (unfold field in (omega arith))
       go (inr L) = L .narrow
 
   -- a word that passes tests 6 and 23
-  pub is-named : (w : ℕ) → isPointer (s .control .n) w ≡ true → R.free (rec s w) ≡ false → names (s .control .n) (s .records) w ≡ true
+  pub is-named : (w : ℕ) → isPointer (s .control .n) w ≡ true → R.free (recordIn s w) ≡ false → names (s .control .n) (s .records) w ≡ true
   unfolding names R.free
   is-named w p f = rw p (go (I .legal w))
     where
-      go : (rec s w ≡ 0) ⊎ Legal (s .control .n) (rec s w) → flag 0 (rec s w) ≡ true
+      go : (recordIn s w ≡ 0) ⊎ Legal (s .control .n) (recordIn s w) → flag 0 (recordIn s w) ≡ true
       go (inl e) = absurd (true≢false (sym (ap (λ (r : ℕ). eqb r 0) e) ∙ f))
       go (inr L) = L .used

@@ -4,13 +4,13 @@ use Prim.Native.Nat.{ℕ, zero, suc, _+_, _-_, _*_, _≤_, _<_}
 use mathlib.Core.Path.{_≡_, refl, sym, ap, ap₂, _∙_, fun-ext}
 use mathlib.Core.Bool.{Bool, true, false, not, cond, _&&_}
 use mathlib.Core.Logic.{_≢_}
-use mathlib.Core.List.{List, [], _∷_, map}
-use native.Mathlib.Decide.{ℕ-discrete, decLt, decLe}
+use mathlib.Core.List.{List, map}
+use native.Mathlib.Decide.{ℕ-discrete, decLt}
 use native.Mathlib.Omega.{arith}
 use lib.Dec.{eqb, ltb}
 use lib.ListN.{length, getD, take, set, length-set, length-take, List·getD-eq-default}
 use lib.Seq.{take-set-lt, getD-set-same, getD-set-other, ext-getD}
-use borrow.Author.Tests.{le-leb, lt-leb, eq-eqb, ne-eqb, eqb-false}
+use borrow.Author.Tests.{eq-eqb, ne-eqb, eqb-false}
 use Rattle.layout.specs.Field.{field}
 use Rattle.records.specs.Record.{width, cluster, isOut, isSink, isWritten, withOut, withSink, withCluster, withWritten, loose}
 use Rattle.layout.proofs.FieldLaws.{put-same, field-put-flag, flag-put-other, flag-stays}
@@ -20,11 +20,12 @@ use Rattle.graph.specs.Clusters.{keep, others, outCount, outBit}
 use Rattle.graph.specs.Writes.{dissolves, stored, storeBy}
 use Rattle.graph.proofs.NumberLaws.{upd-same, upd-other}
 use Rattle.rules.specs.Buffers.{recOf, eight, usedWords, eachFrom, eachRecord}
-use Rattle.rules.specs.View.{target, view, exactOut, laidRecord, laid}
-use Rattle.rules.proofs.ListLaws.{length-each, get-each, recOf-above, eight-set, map-set}
-use Rattle.rules.proofs.PassLaws.{pass-one, get-past}
+use Rattle.rules.specs.View.{target, view, exactOut, encodedRecord, encoded}
+use Rattle.rules.proofs.ListLaws.{length-each, get-each, each-set, recOf-above, rec-get, eight-set, map-set}
+use Rattle.rules.proofs.ViewLaws.{get-target, rec-target}
+use Rattle.rules.proofs.PassLaws.{get-past}
 use Rattle.rules.proofs.BufferLaws.{recOf-get, used-get}
-use Rattle.rules.proofs.LaidRecord.{laid-same, laid-loose}
+use Rattle.rules.proofs.EncodedRecord.{encoded-same, encoded-loose}
 
 -- ---- the record of an object
 
@@ -41,6 +42,19 @@ recOf-zero n recs = refl
 pub recOf-place : (n : ℕ) (recs : List ℕ) (m : ℕ) → m < n → recOf n recs (1 + m) ≡ getD recs m 0
 recOf-place n recs m p = let z : 1 + m - 1 ≡ m = omega arith in recOf-get n recs (1 + m) (omega arith) (omega arith) ∙ ap (λ (j : ℕ). getD recs j 0) z
 
+-- a store of a record that a reader does not tell from the old one
+pub stored-alike : {A : Type 0} (f : ℕ → A) (n : ℕ) (recs : List ℕ) (i v : ℕ) → i < length recs → f v ≡ f (getD recs i 0)
+    → (y : ℕ) → f (recOf n (set recs i v) y) ≡ f (recOf n recs y)
+stored-alike f n recs i v p e zero = ap f (recOf-zero n (set recs i v) ∙ sym (recOf-zero n recs))
+stored-alike f n recs i v p e (suc j) = go (decLt j n) (ℕ-discrete j i)
+  where
+    go : Dec (j < n) → Dec (j ≡ i) → f (recOf n (set recs i v) (suc j)) ≡ f (recOf n recs (suc j))
+    go (yes q) (yes h) =
+        ap f (rec-get n (set recs i v) j q ∙ ap (λ (m : ℕ). getD (set recs i v) m 0) h ∙ getD-set-same recs i v 0 p)
+        ∙ e ∙ ap f (ap (λ (m : ℕ). getD recs m 0) (sym h) ∙ sym (rec-get n recs j q))
+    go (yes q) (no h) = ap f (rec-get n (set recs i v) j q ∙ getD-set-other recs i j v 0 h ∙ sym (rec-get n recs j q))
+    go (no q) h = ap f (recOf-above n (set recs i v) (suc j) (omega (arith, q)) ∙ sym (recOf-above n recs (suc j) (omega (arith, q))))
+
 module _ (n : ℕ) (recs : List ℕ) (i v : ℕ) (p : 1 ≤ i) (q : i ≤ n) (l : n ≤ length recs) where
   pub recOf-set-same : recOf n (set recs (i - 1) v) i ≡ v
   recOf-set-same = recOf-get n (set recs (i - 1) v) i p q ∙ getD-set-same recs (i - 1) v 0 (omega arith)
@@ -52,12 +66,8 @@ module _ (n : ℕ) (recs : List ℕ) (i v : ℕ) (p : 1 ≤ i) (q : i ≤ n) (l 
       ap (λ (r : List ℕ). getD r j 0) (take-set-lt n recs (i - 1) v (omega arith)) ∙ getD-set-other (take n recs) (i - 1) j v 0 (λ z. e (omega arith))
 
   -- what the stored record has as the old one had, every object has
-  pub recOf-set-alike : {A : Type 0} (f : ℕ → A) → f v ≡ f (recOf n recs i) → (x : ℕ) → f (recOf n (set recs (i - 1) v) x) ≡ f (recOf n recs x)
-  recOf-set-alike f e x = go (ℕ-discrete x i)
-    where
-      go : Dec (x ≡ i) → f (recOf n (set recs (i - 1) v) x) ≡ f (recOf n recs x)
-      go (yes z) = rw z (ap f recOf-set-same ∙ e)
-      go (no z) = ap f (recOf-set-other x z)
+  recOf-set-alike : {A : Type 0} (f : ℕ → A) → f v ≡ f (recOf n recs i) → (x : ℕ) → f (recOf n (set recs (i - 1) v) x) ≡ f (recOf n recs x)
+  recOf-set-alike f e = stored-alike f n recs (i - 1) v (omega arith) (e ∙ ap f (recOf-get n recs i p q))
 
 -- ---- one record
 
@@ -66,26 +76,32 @@ module _ (r : ℕ) where
   sink-kept = flag-stays 2 (isSink r) (withWritten true r) (flag-put-other 1 true r 2 (eqb-false 1 2 refl))
 
   -- written, with a new out bit
-  pub laid-written-out : (o : Bool) → laidRecord (cluster r) o (isSink r) true r ≡ withOut o (withWritten true r)
-  unfolding laidRecord
-  laid-written-out o =
+  pub encoded-written-out : (o : Bool) → encodedRecord (cluster r) o (isSink r) true r ≡ withOut o (withWritten true r)
+  unfolding encodedRecord
+  encoded-written-out o =
       let s = withOut o (withWritten true r) in
       let e : cluster s ≡ cluster r = field-put-flag 3 o (withWritten true r) 16 12 refl ∙ field-put-flag 1 true r 16 12 refl in
       ap (λ (x : ℕ). withCluster (cluster r) (withOut o x)) sink-kept ∙ ap (λ (k : ℕ). withCluster k s) (sym e) ∙ put-same 16 12 s
 
   -- written, and loose
-  pub laid-written-loose : laidRecord 0 false (isSink r) true r ≡ loose (withWritten true r)
-  unfolding laidRecord loose
-  laid-written-loose = ap (λ (x : ℕ). withCluster 0 (withOut false x)) sink-kept
+  pub encoded-written-loose : encodedRecord 0 false (isSink r) true r ≡ loose (withWritten true r)
+  unfolding encodedRecord loose
+  encoded-written-loose = ap (λ (x : ℕ). withCluster 0 (withOut false x)) sink-kept
 
 -- a record after cluster c is dissolved
-pub laid-dissolved : (r c : ℕ) → laidRecord (keep (others c) cluster r) (others c (cluster r) && isOut r) (isSink r) (isWritten r) r ≡ cond (eqb (cluster r) c) (loose r) r
+pub encoded-dissolved : (r c : ℕ) → encodedRecord (keep (others c) cluster r) (others c (cluster r) && isOut r) (isSink r) (isWritten r) r ≡ cond (eqb (cluster r) c) (loose r) r
 unfolding keep others
-laid-dissolved r c = go (eqb (cluster r) c)
+encoded-dissolved r c = go (eqb (cluster r) c)
   where
-    go : (b : Bool) → laidRecord (cond (not b) (cluster r) 0) (not b && isOut r) (isSink r) (isWritten r) r ≡ cond b (loose r) r
-    go true = laid-loose r
-    go false = laid-same r
+    go : (b : Bool) → encodedRecord (cond (not b) (cluster r) 0) (not b && isOut r) (isSink r) (isWritten r) r ≡ cond b (loose r) r
+    go true = encoded-loose r
+    go false = encoded-same r
+
+-- a store leaves the number of objects
+pub store-size : (d : Bool) (n : ℕ) (recs slots : List ℕ) (i k t : ℕ) → storeBy d (view n recs slots) i k t .n ≡ n
+unfolding storeBy view
+store-size true n recs slots i k t = refl
+store-size false n recs slots i k t = refl
 
 -- ---- a write that leaves the clusters as they are
 
@@ -94,27 +110,26 @@ module _ (n : ℕ) (recs slots : List ℕ) (i k t : ℕ) (p : 1 ≤ i) (q : i �
   H = view n recs slots
 
   -- one record changes: written set, out exact
-  pub store-staying : laid (storeBy false H i k t) recs
+  pub store-staying : encoded (storeBy false H i k t) recs
       ≡ set recs (i - 1) (withOut (outBit (stored H i k t) (H .sink) (H .cluster) i) (withWritten true (recOf n recs i)))
-  unfolding laid eachRecord storeBy view
+  unfolding encoded eachRecord storeBy view
   store-staying =
-      pass-one 1 n f recs (i - 1) 0 (omega arith) l (λ m a d. other m a (λ z. d (omega arith)))
-      ∙ ap (set recs (i - 1)) here
+      each-set 1 n f recs (i - 1) _ 0 (omega arith) here (λ m a b d. other m a (λ z. d (omega arith)))
     where
       o : Bool
       o = outBit (stored H i k t) (H .sink) (H .cluster) i
 
       f : ℕ → ℕ → ℕ
-      f x r = laidRecord (cluster (recOf n recs x)) (upd (H .out) i o x) (isSink (recOf n recs x)) (upd (H .written) i true x) r
+      f x r = encodedRecord (cluster (recOf n recs x)) (upd (H .out) i o x) (isSink (recOf n recs x)) (upd (H .written) i true x) r
 
       other : (m : ℕ) → m < n → 1 + m ≢ i → f (1 + m) (getD recs m 0) ≡ getD recs m 0
       other m a d =
-          rw (upd-other (H .out) i (1 + m) o d, upd-other (H .written) i (1 + m) true d, ← recOf-place n recs m a) (laid-same (recOf n recs (1 + m)))
+          rw (upd-other (H .out) i (1 + m) o d, upd-other (H .written) i (1 + m) true d, ← recOf-place n recs m a) (encoded-same (recOf n recs (1 + m)))
 
       here : f (1 + (i - 1)) (getD recs (i - 1) 0) ≡ withOut o (withWritten true (recOf n recs i))
       here =
           let z : 1 + (i - 1) ≡ i = omega arith in
-          rw (z, ← recOf-get n recs i p q, upd-same (H .out) i o, upd-same (H .written) i true) (laid-written-out (recOf n recs i) o)
+          rw (z, ← recOf-get n recs i p q, upd-same (H .out) i o, upd-same (H .written) i true) (encoded-written-out (recOf n recs i) o)
 
   -- ---- a write that dissolves a cluster
 
@@ -122,9 +137,9 @@ module _ (n : ℕ) (recs slots : List ℕ) (i k t : ℕ) (p : 1 ≤ i) (q : i �
   c = cluster (recOf n recs i)
 
   -- written is set, then every member of the object's cluster becomes loose
-  pub store-dissolving : laid (storeBy true H i k t) recs
+  pub store-dissolving : encoded (storeBy true H i k t) recs
       ≡ eachRecord n (λ x r. cond (eqb (cluster r) (cluster (recOf n recs i))) (loose r) r) (set recs (i - 1) (withWritten true (recOf n recs i)))
-  unfolding laid eachRecord storeBy view keep others
+  unfolding encoded eachRecord storeBy view keep others
   store-dissolving =
       ext-getD 0 (eachFrom 1 n f recs) (eachFrom 1 n g new) (length-each 1 n f recs ∙ sym (length-each 1 n g new ∙ length-set recs (i - 1) v))
       (λ m a. at m (let b = length-each 1 n f recs in omega arith) (ℕ-discrete m (i - 1)) (decLt m n))
@@ -136,7 +151,7 @@ module _ (n : ℕ) (recs slots : List ℕ) (i k t : ℕ) (p : 1 ≤ i) (q : i �
       new = set recs (i - 1) v
 
       f : ℕ → ℕ → ℕ
-      f x r = laidRecord (keep (others c) (H .cluster) x) (others c (cluster (recOf n recs x)) && isOut (recOf n recs x)) (isSink (recOf n recs x)) (upd (H .written) i true x) r
+      f x r = encodedRecord (keep (others c) (H .cluster) x) (others c (cluster (recOf n recs x)) && isOut (recOf n recs x)) (isSink (recOf n recs x)) (upd (H .written) i true x) r
 
       g : ℕ → ℕ → ℕ
       g x r = cond (eqb (cluster r) c) (loose r) r
@@ -144,10 +159,10 @@ module _ (n : ℕ) (recs slots : List ℕ) (i k t : ℕ) (p : 1 ≤ i) (q : i �
       here : f i (recOf n recs i) ≡ g i v
       here =
           let e : cluster v ≡ c = field-put-flag 1 true (recOf n recs i) 16 12 refl in
-          rw (eq-eqb c c refl, upd-same (H .written) i true, e, eq-eqb c c refl) (laid-written-loose (recOf n recs i))
+          rw (eq-eqb c c refl, upd-same (H .written) i true, e, eq-eqb c c refl) (encoded-written-loose (recOf n recs i))
 
       other : (m : ℕ) → m < n → 1 + m ≢ i → f (1 + m) (getD recs m 0) ≡ g (1 + m) (getD recs m 0)
-      other m b d = rw (upd-other (H .written) i (1 + m) true d, ← recOf-place n recs m b) (laid-dissolved (recOf n recs (1 + m)) c)
+      other m b d = rw (upd-other (H .written) i (1 + m) true d, ← recOf-place n recs m b) (encoded-dissolved (recOf n recs (1 + m)) c)
 
       at : (m : ℕ) → m < length recs → Dec (m ≡ i - 1) → Dec (m < n) → getD (eachFrom 1 n f recs) m 0 ≡ getD (eachFrom 1 n g new) m 0
       at m a (yes e) b =
@@ -164,21 +179,14 @@ module _ (n : ℕ) (recs slots : List ℕ) (i k t : ℕ) (p : 1 ≤ i) (q : i �
 
 -- ---- the out bit after a store
 
-get-map : (n : ℕ) (l : List ℕ) (k : ℕ) → getD (map (target n) l) k 0 ≡ target n (getD l k 0)
-unfolding target
-get-map n [] k = rw (le-leb 0 n (omega arith)) refl
-get-map n (x ∷ l) zero = refl
-get-map n (x ∷ l) (suc k) = get-map n l k
-
 -- a word's target is in cluster c: the record of the word's number tells, also where it is no pointer
 target-in : (n : ℕ) (recs : List ℕ) (w c : ℕ) → c ≢ 0 → eqb (cluster (recOf n recs w)) c ≡ not (eqb (target n w) 0) && eqb (cluster (recOf n recs (target n w))) c
-unfolding target field
-target-in n recs w c h = go (decLe w n) (ℕ-discrete w 0)
+unfolding field
+target-in n recs w c h = ap (λ (r : ℕ). eqb (cluster r) c) (sym (rec-target n recs w)) ∙ go (target n w) (ℕ-discrete (target n w) 0)
   where
-    go : Dec (w ≤ n) → Dec (w ≡ 0) → eqb (cluster (recOf n recs w)) c ≡ not (eqb (target n w) 0) && eqb (cluster (recOf n recs (target n w))) c
-    go (yes a) (yes z) = rw (le-leb w n a, z, recOf-zero n recs) (ne-eqb 0 c (λ e. h (sym e)))
-    go (yes a) (no z) = rw (le-leb w n a, ne-eqb w 0 z) refl
-    go (no a) z = rw (lt-leb w n (omega (arith, a)), recOf-above n recs w (omega (arith, a))) (ne-eqb 0 c (λ e. h (sym e)))
+    go : (t : ℕ) → Dec (t ≡ 0) → eqb (cluster (recOf n recs t)) c ≡ not (eqb t 0) && eqb (cluster (recOf n recs t)) c
+    go t (yes z) = rw (z, recOf-zero n recs) (ne-eqb 0 c (λ e. h (sym e)))
+    go t (no z) = rw (ne-eqb t 0 z) refl
 
 module _ (n : ℕ) (recs slots : List ℕ) (i k : ℕ) (p : 1 ≤ i) (u : k < width (recOf n recs i)) (b : width (recOf n recs i) ≤ 8) where
   -- one word stored and written set: the out bit is that of the rule
@@ -233,5 +241,5 @@ module _ (n : ℕ) (recs slots : List ℕ) (i k : ℕ) (p : 1 ≤ i) (u : k < wi
   unfolding dissolves view
   dissolves-member t h =
       let o : getD (map (target n) (usedWords n recs slots i)) k 0 ≡ target n (getD slots (8 * (i - 1) + k) 0)
-      = get-map n (usedWords n recs slots i) k ∙ ap (target n) (used-get n recs slots i p b k u) in
+      = get-target n (usedWords n recs slots i) k ∙ ap (target n) (used-get n recs slots i p b k u) in
       rw (o, ne-eqb (cluster (recOf n recs i)) 0 h) (target-in n recs (getD slots (8 * (i - 1) + k) 0) (cluster (recOf n recs i)) h)

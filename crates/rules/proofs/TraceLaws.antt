@@ -1,38 +1,47 @@
 -- What both walks of a collection keep, in every well-formed heap; and with the invariant: what pointers reach, in the buffers and in the plain heap.
 -- Assumes nothing.
-use Prim.Native.Nat.{ℕ, _≤_}
+use Prim.Native.Nat.{ℕ, _*_, _≤_}
 use mathlib.Core.Path.{_≡_, refl, sym, ap, _∙_, fun-ext}
 use mathlib.Core.Bool.{Bool, true, false, cond, false≢true}
-use mathlib.Core.List.{List, [], _∷_, _++_, List·Memᴰ, List·Memᴰ·append-cases, List·Memᴰ·not-nil}
+use mathlib.Core.List.{List, [], _∷_, _++_, List·Memᴰ, List·Memᴰ·append-cases, List·Memᴰ·not-nil, Memᴰ·map}
 use mathlib.Core.Logic.{_≢_, _⊎_, inl, inr, _↔_}
 use native.Mathlib.Omega.{arith}
 use lib.Dec.{leb, eqb}
+use lib.ListN.{length}
 use borrow.Author.Tests.{le-leb}
+use Rattle.layout.specs.Limits.{objectMax, widthMax}
 use Rattle.layout.specs.Field.{field, flag}
 use Rattle.records.specs.Record.{inUse, isSink}
-use Rattle.graph.specs.Numbers.{Obj, gather, count}
+use Rattle.graph.specs.Numbers.{Obj, has, gather, count}
 use Rattle.graph.specs.Heap.{Heap, pointers, targets, withMembers, starts, Reach, start, along}
+use Rattle.graph.specs.Rounds.{rounds}
 use Rattle.graph.proofs.NumberLaws.{in-left}
+use Rattle.graph.proofs.RoundLaws.{rounds-reach}
 use Rattle.graph.proofs.MemberLaws.{word-pointer, pointer-word, pointer-nonzero, member-of, reach-member}
-use Rattle.graph.proofs.ReachLaws.{reach-all, reach-mono}
+use Rattle.graph.proofs.ReachLaws.{reach-all, reach-mono, starts-all}
 use Rattle.graph.proofs.TraceCorrect.{Sound, sound-starts, traced-correct, connected-same, plain-correct, same-test}
 use Rattle.rules.specs.Buffers.{usedWords}
 use Rattle.rules.specs.View.{view, target}
-use Rattle.rules.specs.Collect.{Kind, plainly, byClusters, Traced, trace}
-use Rattle.rules.specs.Plain.{has, plainWords, plainStarts, keptNumbers, rounds}
+use Rattle.rules.specs.WellFormed.{wellFormed}
+use Rattle.rules.specs.Collect.{Kind, plainly, byClusters, trace}
+use Rattle.rules.specs.Plain.{plainWords, plainStarts, keptNumbers}
 use Rattle.rules.specs.Steps.{State}
-use Rattle.rules.specs.Demands.{Led, KeptBy, heapOf, wordsOf, rec, rootsOf, startsOf}
+use Rattle.rules.specs.Demands.{Reachable, KeptBy, heapOf, wordsOf, recordIn, rootsOf, startsOf}
+use Rattle.rules.specs.PlainOf.{plainOf}
 use Rattle.rules.proofs.Invariant.{Inv, inv-formed}
-use Rattle.rules.proofs.Abstraction.{plainOf, cells-size, at-sink, at-words}
-use Rattle.rules.proofs.WellFormedLaws.{Names, Sane, Checked, sane, in-or-out}
-use Rattle.rules.proofs.SaneLaws.{view-closed, sane-exact, sane-targets, sane-roots}
-use Rattle.rules.proofs.ListLaws.{map-of, map-in}
-use Rattle.rules.proofs.PointerLaws.{gather-of}
-use Rattle.rules.proofs.RoundLaws.{rounds-reach}
+use Rattle.rules.proofs.Abstraction.{cells-size, at-sink, at-words}
+use Rattle.rules.proofs.WellFormedLaws.{Names, Sane, formed-of, sane}
+use Rattle.rules.proofs.SaneLaws.{sane-exact, sane-targets, sane-roots}
+use Rattle.rules.proofs.ListLaws.{map-of, recOf-range}
+use Rattle.rules.proofs.ViewLaws.{view-closed, view-used}
 
 -- what the tests of a collection let pass
-abbrev pub Fit : State → Type 0
-Fit s = Checked (s .control .n) (s .control .r) (s .records) (s .slots) (s .roots)
+pub record Fit (s : State) : Type 0 where
+  pub size : s .control .n ≤ objectMax
+  pub recs-long : s .control .n ≤ length (s .records)
+  pub slots-long : widthMax * s .control .n ≤ length (s .slots)
+  pub roots-long : s .control .r ≤ length (s .roots)
+  pub formed : wellFormed (s .control) (s .records) (s .slots) (s .roots) ≡ true
 
 pub inv-fit : (s : State) → Inv s → Fit s
 inv-fit s I =
@@ -46,20 +55,16 @@ module _ (s : State) (C : Fit s) where
   from = starts H (rootsOf s)
 
   pub rules : Sane (s .control .n) (s .control .r) (s .records) (s .slots) (s .roots)
-  rules = sane _ _ _ _ _ (C .formed)
+  rules = sane _ _ _ _ _ (formed-of _ _ _ _ (C .formed))
 
   abbrev Used : ℕ → Type 0
-  Used y = rec s y ≢ 0
+  Used y = recordIn s y ≢ 0
 
   pub obj-of : (x : ℕ) → Used x → Obj (s .control .n) x
-  obj-of x u = go (in-or-out (s .control .n) (s .records) x)
-    where
-      go : Obj (s .control .n) x ⊎ (rec s x ≡ 0) → Obj (s .control .n) x
-      go (inl b) = b
-      go (inr z) = absurd (u z)
+  obj-of x u = recOf-range (s .control .n) (s .records) x u
 
   -- an object in use has a record
-  in-use : (x : ℕ) → inUse (rec s x) ≡ true → Used x
+  in-use : (x : ℕ) → inUse (recordIn s x) ≡ true → Used x
   unfolding flag field
   in-use x u z = false≢true (sym (ap (λ (r : ℕ). flag 0 r) z) ∙ u)
 
@@ -68,23 +73,17 @@ module _ (s : State) (C : Fit s) where
 
   -- who has a cluster is in use
   pub member-used : (x : ℕ) → H .cluster x ≢ 0 → Used x
-  unfolding view field
-  member-used x nz z = nz (rw z refl)
+  member-used = view-used (s .control .n) (s .records) (s .slots)
 
   starts-used : (p : ℕ) → List·Memᴰ p (pointers from) → Used p
-  unfolding starts view
-  starts-used p m = go (List·Memᴰ·append-cases (rootsOf s) (pointer-word from p m)) (pointer-nonzero from p m)
+  unfolding view flag field
+  starts-used p m =
+      starts-all (λ q. q ≢ 0 → Used q) H (rootsOf s) (λ q i. root q (rules .rooted q i))
+      (λ q b e nz z. false≢true (sym (ap (λ (r : ℕ). isSink r) z) ∙ e)) p (pointer-word from p m) (pointer-nonzero from p m)
     where
-      root : (p ≡ 0) ⊎ Names (s .control .n) (s .records) p → p ≢ 0 → Used p
-      root (inl e) nz = absurd (nz e)
-      root (inr N) nz = in-use p (N .used)
-
-      sink : isSink (rec s p) ≡ true → Used p
-      sink e z = false≢true (unfold flag field in (sym (ap (λ (r : ℕ). isSink r) z)) ∙ e)
-
-      go : List·Memᴰ p (rootsOf s) ⊎ List·Memᴰ p (gather (s .control .n) (H .sink) (λ x. x ∷ [])) → p ≢ 0 → Used p
-      go (inl m) nz = root (rules .rooted p m) nz
-      go (inr m) nz = sink (unfold view in (gather-of (s .control .n) (H .sink) p m .2))
+      root : (q : ℕ) → (q ≡ 0) ⊎ Names (s .control .n) (s .records) q → q ≢ 0 → Used q
+      root q (inl e) nz = absurd (nz e)
+      root q (inr N) nz = in-use q (N .used)
 
   nonzero : (x : ℕ) → 1 ≤ x → x ≢ 0
   nonzero x p z = absurd (omega (arith, p, z))
@@ -107,41 +106,38 @@ module _ (s : State) (C : Fit s) where
   -- ---- what a walk tells
 
   -- kept are those of K, which has the starts and with an object its pointers
-  pub record Facts (t : Traced) (K : ℕ → Type 0) : Type 0 where
-    pub kept-is : (x : ℕ) → Obj (s .control .n) x → (t .kept x ≡ true) ↔ K x
-    pub heads-is : (x : ℕ) → H .cluster x ≢ 0 → t .heads (H .cluster x) ≡ t .kept (H .cluster x)
-    pub few : t .scanned ≤ count (s .control .n) (t .kept)
+  pub record Facts (kept heads : ℕ → Bool) (K : ℕ → Type 0) : Type 0 where
+    pub kept-is : (x : ℕ) → Obj (s .control .n) x → (kept x ≡ true) ↔ K x
+    pub heads-is : (x : ℕ) → H .cluster x ≢ 0 → heads (H .cluster x) ≡ kept (H .cluster x)
     pub used : (x : ℕ) → K x → Used x
     pub begins : (x : ℕ) → List·Memᴰ x (pointers from) → K x
     pub leads : (x y : ℕ) → K x → List·Memᴰ y (targets H x) → K y
 
   -- a walk that keeps what is reached in steps that pointers are among
-  reach-facts : (t : Traced) (next : ℕ → List ℕ) → ((x y : ℕ) → List·Memᴰ y (targets H x) → List·Memᴰ y (next x))
+  reach-facts : (kept heads : ℕ → Bool) (next : ℕ → List ℕ) → ((x y : ℕ) → List·Memᴰ y (targets H x) → List·Memᴰ y (next x))
       → ((x y : ℕ) → Used x → List·Memᴰ y (next x) → Used y)
-      → ((x : ℕ) → Obj (s .control .n) x → (t .kept x ≡ true) ↔ Reach next (pointers from) x)
-      → ((x : ℕ) → H .cluster x ≢ 0 → t .heads (H .cluster x) ≡ t .kept (H .cluster x))
-      → t .scanned ≤ count (s .control .n) (t .kept) → Facts t (λ x. Reach next (pointers from) x)
-  reach-facts t next more all kept heads few =
+      → ((x : ℕ) → Obj (s .control .n) x → (kept x ≡ true) ↔ Reach next (pointers from) x)
+      → ((x : ℕ) → H .cluster x ≢ 0 → heads (H .cluster x) ≡ kept (H .cluster x)) → Facts kept heads (λ x. Reach next (pointers from) x)
+  reach-facts kept heads next more all kept-is heads-is =
       record {
-        kept-is = kept;
-        heads-is = heads;
-        few = few;
+        kept-is = kept-is;
+        heads-is = heads-is;
         used = λ x r. reach-all next (pointers from) Used starts-used all r;
         begins = λ x m. start m;
         leads = λ x y r m. along r (more x y m);
       }
 
   -- each kind keeps what it is to keep
-  pub trace-facts : (kind : Kind) → Facts (trace kind H from) (KeptBy kind s)
+  pub trace-facts : (kind : Kind) → Facts (trace kind H from .kept) (trace kind H from .heads) (KeptBy kind s)
   unfolding trace view
   trace-facts plainly =
       let c = plain-correct H from (sound .starts-in) (sound .targets-in) in
-      reach-facts (trace plainly H from) (targets H) (λ x y m. m) (λ x y u m. targets-used x y m) (c .kept-is) (λ x nz. refl) (omega (arith, c .scans))
+      reach-facts _ _ (targets H) (λ x y m. m) (λ x y u m. targets-used x y m) (c .kept-is) (λ x nz. refl)
   trace-facts byClusters =
       let c = traced-correct H from sound in
-      reach-facts (trace byClusters H from) (withMembers H) (λ x y m. in-left y (targets H x) _ m)
+      reach-facts _ _ (withMembers H) (λ x y m. in-left y (targets H x) _ m)
       (λ x y u m. members x y u (List·Memᴰ·append-cases (targets H x) m)) (c .kept-is)
-      (λ x nz. let h = c .finished .head-kept (H .cluster x) (head-obj x nz) (head-own x nz) in same-test _ _ (h .1) (h .0)) (c .finished .scanned-le)
+      (λ x nz. let h = c .finished .head-kept (H .cluster x) (head-obj x nz) (head-own x nz) in same-test _ _ (h .1) (h .0))
     where
       members : (x y : ℕ) → Used x → List·Memᴰ y (targets H x) ⊎ List·Memᴰ y (gather (s .control .n) (λ z. eqb (H .cluster z) x) (λ z. z ∷ [])) → Used y
       members x y u (inl m) = targets-used x y m
@@ -149,7 +145,12 @@ module _ (s : State) (C : Fit s) where
           let e = member-of (s .control .n) (H .cluster) x y m .1 in
           member-used y (λ z. nonzero x (obj-of x u .0) (sym e ∙ z))
 
-  -- a plain collection scans what it keeps
+  -- it scans no more than it keeps, and a plain one all of that
+  pub trace-few : (kind : Kind) → trace kind H from .scanned ≤ count (s .control .n) (trace kind H from .kept)
+  unfolding trace view
+  trace-few plainly = omega (arith, plain-correct H from (sound .starts-in) (sound .targets-in) .scans)
+  trace-few byClusters = traced-correct H from sound .finished .scanned-le
+
   pub plain-few : trace plainly H from .scanned ≡ count (s .control .n) (trace plainly H from .kept)
   unfolding trace view
   plain-few = plain-correct H from (sound .starts-in) (sound .targets-in) .scans
@@ -174,7 +175,7 @@ module _ (s : State) (C : Fit s) where
       none : List·Memᴰ z [] → ⊥
       none q = List·Memᴰ·not-nil q
 
-  led-words : (x : ℕ) → Led s x → Reach words from x
+  led-words : (x : ℕ) → Reachable s x → Reach words from x
   unfolding view target
   led-words x r = reach-mono (targets H) words (pointers from) from (λ p m. pointer-word from p m) edge r
     where
@@ -191,15 +192,15 @@ module _ (s : State) (C : Fit s) where
   pub word-target : (x w : ℕ) → List·Memᴰ w (words x) → 1 ≤ w → w ≤ s .control .n → List·Memᴰ w (targets H x)
   unfolding view target
   word-target x w m p q =
-      let d : List·Memᴰ (target (s .control .n) w) (H .kids x) = map-in (target (s .control .n)) (words x) w m in
+      let d : List·Memᴰ (target (s .control .n) w) (H .kids x) = Memᴰ·map (target (s .control .n)) m in
       let e : target (s .control .n) w ≡ w = rw (le-leb w (s .control .n) q) refl in
       word-pointer (H .kids x) w (nonzero w p) (rw e at d)
 
-  words-led : {x : ℕ} → Reach words from x → Obj (s .control .n) x → Led s x
+  words-led : {x : ℕ} → Reach words from x → Obj (s .control .n) x → Reachable s x
   words-led (start {x = p} m) b = start (word-pointer from p (nonzero p (b .0)) m)
   words-led (along {x = p} {y = q} r m) b = along (words-led r (has-words p q m)) (word-target p q m (b .0) (b .1))
 
-  pub plain-kept : (x : ℕ) → Obj (s .control .n) x → (has x (keptNumbers (plainOf s)) ≡ true) ↔ Led s x
+  pub plain-kept : (x : ℕ) → Obj (s .control .n) x → (has x (keptNumbers (plainOf s)) ≡ true) ↔ Reachable s x
   plain-kept x b =
       let t = rounds-reach (s .control .n) words from has-words x b in
       (λ e. words-led (t .0 (sym (ap (has x) numbers-kept) ∙ e)) b, λ r. ap (has x) numbers-kept ∙ t .1 (led-words x r))
@@ -208,9 +209,9 @@ module _ (s : State) (C : Fit s) where
 
 module _ (s : State) (I : Inv s) where
   -- both kinds are to keep what pointers reach
-  pub kept-led : (kind : Kind) (x : ℕ) → KeptBy kind s x ↔ Led s x
+  pub kept-led : (kind : Kind) (x : ℕ) → KeptBy kind s x ↔ Reachable s x
   kept-led plainly x = (λ r. r, λ r. r)
   kept-led byClusters x = connected-same (heapOf s) (startsOf s) (I .good .zero-none) (I .good .conn) x
 
-  pub member-led : (x : ℕ) → heapOf s .cluster x ≢ 0 → Led s (heapOf s .cluster x) → Led s x
+  pub member-led : (x : ℕ) → heapOf s .cluster x ≢ 0 → Reachable s (heapOf s .cluster x) → Reachable s x
   member-led x nz r = reach-member (heapOf s) (heapOf s .cluster) (pointers (startsOf s)) (I .good .conn) (I .good .zero-none) x nz r

@@ -9,13 +9,7 @@ use Rattle.layout.specs.Word as LWord
 use Rattle.bitmap.specs.Bits as LBits
 use Rattle.layout.specs.ControlRecord as LControlRecord
 use Rattle.layout.specs.Refusal as LRefusal
-use Rattle.graph.specs.Numbers as GNumbers
-use Rattle.graph.specs.Heap as GHeap
-use Rattle.graph.specs.Run as GRun
-use Rattle.graph.specs.Clusters as GClusters
-use Rattle.graph.specs.Trace as GTrace
-use Rattle.graph.specs.Analysis as GAnalysis
-use Rattle.graph.specs.Writes as GWrites
+use Rattle.graph.proofs.Trials as GTrials
 use Rattle.rules.specs.Buffers as RBuffers
 use Rattle.rules.specs.View as RView
 use Rattle.rules.specs.WellFormed as RWellFormed
@@ -27,15 +21,35 @@ use Rattle.rules.specs.Write as RWrite
 use Rattle.rules.specs.SetRoot as RSetRoot
 use Rattle.rules.specs.DeclareSink as RDeclareSink
 use Rattle.rules.specs.Analyse as RAnalyse
+use Rattle.rules.specs.Sweep as RSweep
 use Rattle.rules.specs.Collect as RCollect
 use Rattle.rules.specs.Plain as RPlain
 use Rattle.rules.specs.Steps as RSteps
 use Rattle.rules.specs.Trials as Trials
 
-pub trials : map Trials.told Trials.table ≡ map Trials.expected Trials.table
-unfolding Trials.answered Trials.standing Trials.told Trials.expected Trials.new Trials.analysis Trials.clustered Trials.plain Trials.beforeH Trials.heapH Trials.onH Trials.wide Trials.fan Trials.marked Trials.given Trials.one Trials.two Trials.rec Trials.fresh Trials.ownRows Trials.small Trials.noBuffers Trials.badControls Trials.full Trials.lossy Trials.refused Trials.noWork Trials.refusals Trials.table Trials.createRefusals LLimits.slotsLen LLimits.workLen LLimits.mapLen LLimits.within LField.field LField.put LField.flag LField.digit LField.putFlag LRecord.loose LRecord.newRecord LRecord.free LRecord.clear LRecord.legal LRecord.damaged LWord.isNil LWord.isPointer LWord.isImmediate LWord.legalWord LWord.sortOf LBits.setBits LBits.numbersIn LBits.bitsOf LBits.wordOf LControlRecord.badSizes LControlRecord.badControl LControlRecord.badLimit LControlRecord.newControl LControlRecord.withLast LControlRecord.withWriteLoss LControlRecord.withAnalysis LRefusal.first LRefusal.by LRefusal.outcome GNumbers.upd GNumbers.sum GNumbers.count GNumbers.gather GNumbers.lowestOf GNumbers.lowest GHeap.pointers GHeap.starts GRun.run GRun.finish GClusters.size GClusters.keep GClusters.others GClusters.leaves GClusters.outCount GClusters.outBit GClusters.outsOf GTrace.sameFlag GTrace.setFlag GTrace.noFlags GTrace.scan GTrace.postpone GTrace.unpostpone GTrace.arrive GTrace.scanIf GTrace.scanOuts GTrace.visitBy GTrace.visit GTrace.takeBy GTrace.take GTrace.stepBy GTrace.step GTrace.begin GTrace.weight GTrace.needed GTrace.finish GTrace.traced GTrace.keeps GAnalysis.items GAnalysis.bars GAnalysis.pick GAnalysis.kind GAnalysis.visitsOfCluster GAnalysis.pushed GAnalysis.seenBy GAnalysis.clBy GAnalysis.act GAnalysis.visit GAnalysis.step GAnalysis.begin GAnalysis.needed GAnalysis.finish GAnalysis.walked GAnalysis.isNew GAnalysis.newHead GAnalysis.over GAnalysis.few GAnalysis.stays GAnalysis.outLossOf GAnalysis.leftClusters GAnalysis.analyse GWrites.dissolves GWrites.stored GWrites.storeBy GWrites.lossBy GWrites.store GWrites.lossOf GWrites.declare RBuffers.short RBuffers.recOf RBuffers.eight RBuffers.usedWords RBuffers.otherWords RBuffers.allOf RBuffers.allTo RBuffers.numbers RBuffers.eachFrom RBuffers.eachRecord RBuffers.eachSlot RBuffers.zeros RView.target RView.view RView.exactOut RView.laidRecord RView.laid RWellFormed.names RWellFormed.legalAt RWellFormed.emptyAt RWellFormed.wordsAt RWellFormed.headAt RWellFormed.outAt RWellFormed.rootsNamed RWellFormed.wellFormed RCreate.createTests RCreate.create RAllocate.candidates RAllocate.firstOf RAllocate.given RAllocate.allocateTests RAllocate.allocate RAllocate.allocateInPlace RRead.readTests RRead.read RShow.showTests RShow.show RWrite.lossAfter RWrite.writeTests RWrite.write RWrite.writeInPlace RSetRoot.setRootTests RSetRoot.setRoot RDeclareSink.declareTests RDeclareSink.declareSink RAnalyse.nextLimit RAnalyse.usedCount RAnalyse.analyseTests RAnalyse.limitAfter RAnalyse.analysed RAnalyse.analyse RCollect.trace RCollect.collectTests RCollect.freedBy RCollect.sweptRecord RCollect.sweep RCollect.collect RPlain.plainCreated RPlain.isFree RPlain.wordsIn RPlain.isSink RPlain.cellAt RPlain.has RPlain.anyOf RPlain.round RPlain.rounds RPlain.plainWords RPlain.plainStarts RPlain.keptNumbers RPlain.plainGiven RPlain.objectTests RPlain.slotTests RPlain.namesFree RPlain.withCell RPlain.plainSwept RPlain.plainFreed RPlain.plainMap RPlain.answer RPlain.plainStep RPlain.eightOf RPlain.plainSlots RSteps.created RSteps.step RSteps.answersOf RSteps.afterAll
-trials = refl
-
-pub create-refusals : Trials.createRefusals ≡ 1 ∷ 2 ∷ []
-unfolding Trials.createRefusals RCreate.create RCreate.createTests LControlRecord.badSizes LLimits.within LLimits.slotsLen LRefusal.first LRefusal.by LRefusal.outcome RBuffers.short
-create-refusals = refl
+pub trials : (map Trials.observed Trials.table ≡ map Trials.expected Trials.table) × (Trials.createRefusals ≡ 1 ∷ 2 ∷ [])
+unfolding GTrials.computed
+    Trials.answered Trials.standing Trials.observed Trials.expected Trials.new Trials.analysis Trials.clustered Trials.plain Trials.beforeH Trials.heapH Trials.onH Trials.wide Trials.fan Trials.marked Trials.stateWith Trials.one Trials.two Trials.recordWith Trials.fresh Trials.ownRows Trials.small Trials.noBuffers Trials.badControls Trials.full Trials.lossy Trials.refused Trials.noWork Trials.refusals Trials.table Trials.createRefusals
+    LLimits.slotsLen LLimits.workLen LLimits.mapLen LLimits.within
+    LField.field LField.put LField.flag LField.digit LField.putFlag
+    LRecord.loose LRecord.newRecord LRecord.free LRecord.clear LRecord.legal LRecord.damaged
+    LWord.isNil LWord.isPointer LWord.isImmediate LWord.legalWord LWord.sortOf
+    LBits.setBits LBits.numbersIn LBits.bitsOf LBits.wordOf
+    LControlRecord.badSizes LControlRecord.badControl LControlRecord.badLimit LControlRecord.newControl LControlRecord.withLast LControlRecord.withWriteLoss LControlRecord.withAnalysis
+    LRefusal.first LRefusal.by LRefusal.outcome
+    RBuffers.short RBuffers.recOf RBuffers.eight RBuffers.usedWords RBuffers.otherWords RBuffers.allOf RBuffers.allTo RBuffers.numbers RBuffers.eachFrom RBuffers.eachRecord RBuffers.eachSlot RBuffers.zeros
+    RView.target RView.view RView.exactOut RView.encodedRecord RView.encoded
+    RWellFormed.names RWellFormed.legalAt RWellFormed.emptyAt RWellFormed.wordsAt RWellFormed.headAt RWellFormed.outAt RWellFormed.rootsNamed RWellFormed.formed RWellFormed.wellFormed
+    RCreate.createTests RCreate.create
+    RAllocate.candidates RAllocate.firstOf RAllocate.given RAllocate.allocateTests RAllocate.allocate RAllocate.allocateInPlace
+    RRead.readTests RRead.read
+    RShow.showTests RShow.show
+    RWrite.lossAfter RWrite.writeTests RWrite.write RWrite.writeInPlace
+    RSetRoot.setRootTests RSetRoot.setRoot
+    RDeclareSink.declareTests RDeclareSink.declareSink
+    RAnalyse.sixteenth RAnalyse.half RAnalyse.clamped RAnalyse.nextLimit RAnalyse.usedCount RAnalyse.analyseTests RAnalyse.limitAfter RAnalyse.analysed RAnalyse.analyse
+    RSweep.freed RSweep.keptRecord RSweep.sweptRecord RSweep.sweep
+    RCollect.trace RCollect.collectTests RCollect.collect
+    RPlain.plainCreated RPlain.isFree RPlain.wordsIn RPlain.isSink RPlain.cellAt RPlain.plainWords RPlain.plainStarts RPlain.keptNumbers RPlain.plainGiven RPlain.objectTests RPlain.slotTests RPlain.namesFree RPlain.withCell RPlain.plainSwept RPlain.plainFreed RPlain.plainMap RPlain.answer RPlain.plainStep RPlain.eightOf RPlain.plainSlots
+    RSteps.created RSteps.step RSteps.answersOf RSteps.afterAll
+trials = (refl, refl)

@@ -21,6 +21,7 @@ use Rattle.rules.specs.Collect as Collect
 use Rattle.rules.specs.Calls.{Call, allocate, allocateInPlace, read, show, write, writeInPlace, setRoot, declareSink, collect, analyse}
 use Rattle.rules.specs.Steps.{State}
 use Rattle.rules.specs.Demands.{refusalOf}
+use Rattle.rules.proofs.BoolLaws.{or-split}
 use Rattle.rules.proofs.Invariant.{Inv, inv-control, inv-sane, inv-formed}
 use Rattle.rules.proofs.WriteLaws.{no-25}
 use Rattle.rules.proofs.Refused.{answered}
@@ -35,17 +36,9 @@ unfolding meets first
 unmet-first k [] e f = suc-ne-zero k (sym f)
 unmet-first k (t ∷ l) e f = go (t .1) refl f (λ r. unmet-first k l r)
   where
-    left : (a b : Bool) → (a || b) ≡ false → a ≡ false
-    left true b h = absurd (true≢false h)
-    left false b h = refl
-
-    right : (a b : Bool) → (a || b) ≡ false → b ≡ false
-    right true b h = absurd (true≢false h)
-    right false b h = h
-
     go : (b : Bool) → t .1 ≡ b → cond b (t .0) (first l) ≡ suc k → (meets (suc k) l ≡ false → first l ≢ suc k) → ⊥
-    go true h g r = true≢false (sym (rw (eq-eqb (suc k) (t .0) (sym g), h) refl) ∙ left (eqb (suc k) (t .0) && t .1) (meets (suc k) l) e)
-    go false h g r = r (right (eqb (suc k) (t .0) && t .1) (meets (suc k) l) e) g
+    go true h g r = true≢false (sym (rw (eq-eqb (suc k) (t .0) (sym g), h) refl) ∙ or-split (eqb (suc k) (t .0) && t .1) (meets (suc k) l) e .0)
+    go false h g r = r (or-split (eqb (suc k) (t .0) && t .1) (meets (suc k) l) e .1) g
 
 -- none of the three numbers is met
 abbrev Unmet : List Test → Type 0
@@ -86,10 +79,10 @@ module _ (s : State) (I : Inv s) where
   unfolding meets Analyse.analyseTests
   analyse-unmet work = (rw (inv-control s I) refl, rw (inv-formed s I) refl, refl)
 
-  collect-unmet : (kind : Collect.Kind) (work map : List ℕ)
-      → Unmet (Collect.collectTests kind (s .control) (s .records) (s .slots) (s .roots) work map)
+  collect-unmet : (work map : List ℕ)
+      → Unmet (Collect.collectTests (s .control) (s .records) (s .slots) (s .roots) work map)
   unfolding meets Collect.collectTests
-  collect-unmet kind work map = (rw (inv-control s I) refl, rw (inv-formed s I) refl, refl)
+  collect-unmet work map = (rw (inv-control s I) refl, rw (inv-formed s I) refl, refl)
 
   -- one name for both forms of allocate, and of write
   allocate-never : (width : ℕ) → Never (refusalOf (allocate width) s)
@@ -101,7 +94,7 @@ module _ (s : State) (I : Inv s) where
   write-never i k w = unrefused _ _ (answered _ _ _ (λ (o : Write.Outcome). o .answer .refusal) refl (λ k. refl)) (write-unmet i k w)
 
   pub unmet : (call : Call) → Never (refusalOf call s)
-  unfolding Allocate.allocateInPlace Read.read Show.show Write.writeInPlace SetRoot.setRoot DeclareSink.declareSink Analyse.analyse Collect.collect Collect.sweep
+  unfolding Allocate.allocateInPlace Read.read Show.show Write.writeInPlace SetRoot.setRoot DeclareSink.declareSink Analyse.analyse Collect.collect
   unmet (allocate width) = allocate-never width
   unmet (allocateInPlace width) = allocate-never width
   unmet (read i k) = unrefused _ _ (answered _ _ _ (λ (a : WordRead). a .refusal) refl (λ k. refl)) (read-unmet i k)
@@ -111,5 +104,5 @@ module _ (s : State) (I : Inv s) where
   unmet (setRoot j w) = unrefused _ _ (answered _ _ _ (λ (o : SetRoot.Outcome). o .answer .refusal) refl (λ k. refl)) (root-unmet j w)
   unmet (declareSink i) = unrefused _ _ (answered _ _ _ (λ (o : DeclareSink.Outcome). o .answer .refusal) refl (λ k. refl)) (declare-unmet i)
   unmet (collect kind work map) =
-      unrefused _ _ (answered _ _ _ (λ (o : Collect.Outcome). o .answer .refusal) refl (λ k. refl)) (collect-unmet kind work map)
+      unrefused _ _ (answered _ _ _ (λ (o : Collect.Outcome). o .answer .refusal) refl (λ k. refl)) (collect-unmet work map)
   unmet (analyse work) = unrefused _ _ (answered _ _ _ (λ (o : Analyse.Outcome). o .answer .refusal) refl (λ k. refl)) (analyse-unmet work)

@@ -5,16 +5,19 @@ use mathlib.Core.Path.{_≡_, refl, sym}
 use mathlib.Core.Bool.{Bool, true, false, cond}
 use mathlib.Core.List.{List, [], _∷_, map, List·Memᴰ}
 use mathlib.Core.Logic.{_≢_}
-use native.Mathlib.Decide.{decLe}
 use native.Mathlib.Omega.{arith}
 use lib.Dec.{leb}
-use lib.ListN.{getD}
+use lib.ListN.{length, getD, take, length-take, length-map}
 use borrow.Author.Tests.{leb-true, leb-false}
+use Rattle.layout.specs.Limits.{widthMax}
 use Rattle.layout.specs.Field.{field}
-use Rattle.graph.proofs.AnalysisInv.{Ready}
-use Rattle.rules.specs.Buffers.{recOf, usedWords}
+use Rattle.records.specs.Record.{width}
+use Rattle.graph.proofs.TraceSafe.{Ranged, words-ranged}
+use Rattle.rules.specs.Buffers.{recOf, eight, usedWords}
+use Rattle.graph.specs.Invariant.{Ready}
 use Rattle.rules.specs.View.{target, view}
-use Rattle.rules.proofs.ListLaws.{recOf-above, map-of}
+use Rattle.rules.proofs.BoolLaws.{cond-same}
+use Rattle.rules.proofs.ListLaws.{recOf-above, recOf-range, map-of, eight-most}
 
 -- ---- words as pointers
 
@@ -26,14 +29,22 @@ target-low n w = go (leb w n) refl
     go true e = leb-true w n e
     go false e = omega arith
 
+-- a target that is not 0 is the word
+pub target-word : (n w : ℕ) → target n w ≢ 0 → target n w ≡ w
+unfolding target
+target-word n w = go (leb w n)
+  where
+    go : (b : Bool) → cond b w 0 ≢ 0 → cond b w 0 ≡ w
+    go true z = refl
+    go false z = absurd (z refl)
+
+pub targets-low : (n : ℕ) (l : List ℕ) (y : ℕ) → List·Memᴰ y (map (target n) l) → y ≤ n
+targets-low n l y m = let a = map-of (target n) l y m in rw (a .2) (target-low n (a .0))
+
 -- the word of a slot, as a pointer
 pub get-target : (n : ℕ) (l : List ℕ) (k : ℕ) → getD (map (target n) l) k 0 ≡ target n (getD l k 0)
 unfolding target
-get-target n [] k = sym (none (leb 0 n))
-  where
-    none : (b : Bool) → _≡_ {A = ℕ} (cond b 0 0) 0
-    none true = refl
-    none false = refl
+get-target n [] k = sym (cond-same (leb 0 n) 0)
 get-target n (x ∷ l) zero = refl
 get-target n (x ∷ l) (suc k) = get-target n l k
 
@@ -51,16 +62,28 @@ rec-target n recs w = go (leb w n) refl
 module _ (n : ℕ) (recs slots : List ℕ) where
   pub view-closed : (x y : ℕ) → List·Memᴰ y (view n recs slots .kids x) → y ≤ n
   unfolding view
-  view-closed x y m = let a = map-of (target n) (usedWords n recs slots x) y m in rw (a .2) (target-low n (a .0))
+  view-closed x y m = targets-low n (usedWords n recs slots x) y m
+
+  pub view-ranged : Ranged (view n recs slots)
+  unfolding view
+  view-ranged = words-ranged (view n recs slots) view-closed
+
+  -- an object has at most eight words
+  pub view-kids : (x : ℕ) → length (view n recs slots .kids x) ≤ widthMax
+  unfolding view usedWords
+  view-kids x =
+      let a = length-map (take (width (recOf n recs x)) (eight slots x)) (target n) in
+      let b = length-take (width (recOf n recs x)) (eight slots x) in
+      let c = eight-most slots x in
+      omega arith
+
+  -- a member has a record, and is an object
+  pub view-used : (x : ℕ) → view n recs slots .cluster x ≢ 0 → recOf n recs x ≢ 0
+  unfolding view field
+  view-used x p e = p (rw e refl)
 
   pub view-range : (x : ℕ) → view n recs slots .cluster x ≢ 0 → (1 ≤ x) × (x ≤ n)
-  unfolding view field recOf
-  view-range zero p = absurd (p refl)
-  view-range (suc i) p = (omega arith, go (decLe (suc i) n))
-    where
-      go : Dec (suc i ≤ n) → suc i ≤ n
-      go (yes l) = l
-      go (no l) = absurd (p (rw (recOf-above n recs (suc i) (omega (arith, l))) refl))
+  view-range x p = recOf-range n recs x (view-used x p)
 
   pub view-ready : ((x : ℕ) → view n recs slots .cluster x ≢ 0 → view n recs slots .cluster (view n recs slots .cluster x)
       ≡ view n recs slots .cluster x)

@@ -1,38 +1,27 @@
 -- What the rules of a well-formed heap say of each object, and the rules of all objects taken together.
 -- Assumes nothing.
-use Prim.Native.Nat.{ℕ, zero, suc, _*_, _≤_, _^_}
+use Prim.Native.Nat.{ℕ, zero, suc, _≤_, _^_}
 use mathlib.Core.Path.{_≡_, refl, sym, ap, _∙_}
-use mathlib.Core.Bool.{Bool, true, false, not, _&&_, _||_, Bool·beq, true≢false, false≢true}
+use mathlib.Core.Bool.{Bool, true, false, _&&_, _||_, Bool·beq, false≢true}
 use mathlib.Core.List.{List, [], List·Memᴰ, List·Memᴰ·not-nil}
 use mathlib.Core.Logic.{_≢_, _⊎_, inl, inr}
 use native.Mathlib.Decide.{decLe}
 use native.Mathlib.Omega.{arith}
 use lib.Dec.{eqb}
-use lib.ListN.{length, take}
-use borrow.Author.Tests.{ltb-false, leb-true, eqb-true}
-use Rattle.layout.specs.Limits.{objectMax, widthMax, slotsLen}
+use lib.ListN.{take}
+use borrow.Author.Tests.{leb-true, eqb-true}
+use Rattle.layout.specs.declared.answers.Control.{Control}
 use Rattle.layout.specs.Field.{field, flag}
 use Rattle.records.specs.Record.{inUse, isOut, cluster, free, legal}
 use Rattle.layout.specs.Word.{isNil, isPointer, isImmediate}
 use Rattle.records.proofs.RecordLaws.{Legal, legal-facts}
 use Rattle.layout.proofs.LimitLaws.{in-within}
 use Rattle.graph.specs.Numbers.{Obj}
-use Rattle.rules.specs.Buffers.{short, recOf, usedWords, otherWords, allTo}
+use Rattle.rules.specs.Buffers.{recOf, usedWords, otherWords, allTo}
 use Rattle.rules.specs.View.{view, exactOut}
-use Rattle.rules.specs.WellFormed.{names, legalAt, emptyAt, wordsAt, headAt, outAt, rootsNamed, wellFormed, checked}
-use Rattle.rules.proofs.ListLaws.{recOf-above, allOf-at, allTo-at}
-
-and-split : (a b : Bool) → (a && b) ≡ true → (a ≡ true) × (b ≡ true)
-and-split true b e = (refl, e)
-and-split false b e = absurd (false≢true e)
-
-or-cases : (a b : Bool) → (a || b) ≡ true → (a ≡ true) ⊎ (b ≡ true)
-or-cases true b e = inl refl
-or-cases false b e = inr e
-
-or-none : (a b : Bool) → (a || b) ≡ false → (a ≡ false) × (b ≡ false)
-or-none true b e = absurd (true≢false e)
-or-none false b e = (refl, e)
+use Rattle.rules.specs.WellFormed.{names, legalAt, emptyAt, wordsAt, headAt, outAt, rootsNamed, formed, wellFormed}
+use Rattle.rules.proofs.BoolLaws.{and-false, is-false, or-cases, and-split}
+use Rattle.rules.proofs.ListLaws.{recOf-above, allOf-at, allTo-at, recOf-range}
 
 beq-true : (a b : Bool) → Bool·beq a b ≡ true → a ≡ b
 beq-true true true e = refl
@@ -57,11 +46,7 @@ allTo-and (suc n) s t =
 
 -- a number that fails
 pub allTo-fails : (n : ℕ) (t : ℕ → Bool) (x : ℕ) → 1 ≤ x → x ≤ n → t x ≡ false → allTo n t ≡ false
-allTo-fails n t x p q e = go (allTo n t) refl
-  where
-    go : (b : Bool) → allTo n t ≡ b → b ≡ false
-    go true h = sym (allTo-at n t h x p q) ∙ e
-    go false h = refl
+allTo-fails n t x p q e = is-false (allTo n t) (λ h. false≢true (sym e ∙ allTo-at n t h x p q))
 
 -- one more number
 pub allTo-more : (i : ℕ) (t : ℕ → Bool) → allTo i t ≡ true → t (suc i) ≡ true → allTo (suc i) t ≡ true
@@ -72,15 +57,8 @@ allTo-more i t a b = rw (a, b) refl
 
 -- a record in use is that of an object
 pub used-range : (n : ℕ) (recs : List ℕ) (x : ℕ) → inUse (recOf n recs x) ≡ true → (1 ≤ x) × (x ≤ n)
-used-range n recs x e = go x e (decLe x n)
-  where
-    unused : flag 0 0 ≡ false
-    unused = unfold flag field in refl
-
-    go : (x : ℕ) → inUse (recOf n recs x) ≡ true → Dec (x ≤ n) → (1 ≤ x) × (x ≤ n)
-    go zero u d = absurd (false≢true (sym unused ∙ (unfold recOf in u)))
-    go (suc i) u (yes l) = (omega arith, l)
-    go (suc i) u (no l) = absurd (false≢true (sym unused ∙ sym (ap inUse (recOf-above n recs (suc i) (omega (arith, l)))) ∙ u))
+unfolding flag field
+used-range n recs x e = recOf-range n recs x (λ z. false≢true (sym (ap inUse z) ∙ e))
 
 pub names-used : (n : ℕ) (recs : List ℕ) (w : ℕ) → names n recs w ≡ inUse (recOf n recs w)
 unfolding names isPointer
@@ -88,11 +66,7 @@ names-used n recs w = go (inUse (recOf n recs w)) refl
   where
     go : (b : Bool) → inUse (recOf n recs w) ≡ b → (Rattle.layout.specs.Limits.within 1 n w && b) ≡ b
     go true e = let l = used-range n recs w e in rw (in-within 1 n w (l .0) (l .1)) refl
-    go false e = right (Rattle.layout.specs.Limits.within 1 n w)
-      where
-        right : (a : Bool) → (a && false) ≡ false
-        right true = refl
-        right false = refl
+    go false e = and-false (Rattle.layout.specs.Limits.within 1 n w)
 
 -- ---- a well-formed heap, object by object
 
@@ -139,9 +113,14 @@ named-by n recs w e =
     let l = used-range n recs w u in
     record { low = l .0; high = l .1; used = u }
 
+-- the rules of n objects and r roots, from those of the control record
+pub formed-of : (c : Control) (recs slots roots : List ℕ) → wellFormed c recs slots roots ≡ true → formed (c .n) (c .r) recs slots roots ≡ true
+unfolding wellFormed
+formed-of c recs slots roots e = e
+
 module _ (n r : ℕ) (recs slots roots : List ℕ) where
-  pub sane : wellFormed n r recs slots roots ≡ true → Sane n r recs slots roots
-  unfolding wellFormed
+  pub sane : formed n r recs slots roots ≡ true → Sane n r recs slots roots
+  unfolding formed
   sane e =
       let f = and-split _ _ e in
       let g = and-split _ _ (f .0) in
@@ -207,30 +186,3 @@ module _ (n r : ℕ) (recs slots roots : List ℕ) where
           go : (isNil w ≡ true) ⊎ (names n recs w ≡ true) → (w ≡ 0) ⊎ Names n recs w
           go (inl z) = inl (unfold isNil in (eqb-true w 0 z))
           go (inr z) = inr (named-by n recs w z)
-
-  -- what the check's answer says besides
-  pub record Checked : Type 0 where
-    pub size : n ≤ objectMax
-    pub recs-long : n ≤ length recs
-    pub slots-long : widthMax * n ≤ length slots
-    pub roots-long : r ≤ length roots
-    pub formed : wellFormed n r recs slots roots ≡ true
-
-  pub checked-facts : checked n r recs slots roots ≡ true → Checked
-  unfolding checked short slotsLen
-  checked-facts e =
-      let f = and-split _ _ e in
-      let g = and-split _ _ (f .0) in
-      let h = or-none _ _ (not-true′ _ (g .1)) in
-      let k = or-none _ _ (h .0) in
-      record {
-        size = leb-true n objectMax (g .0);
-        recs-long = ltb-false _ _ (k .0);
-        slots-long = ltb-false _ _ (k .1);
-        roots-long = ltb-false _ _ (h .1);
-        formed = f .1;
-      }
-    where
-      not-true′ : (b : Bool) → not b ≡ true → b ≡ false
-      not-true′ true z = absurd (false≢true z)
-      not-true′ false z = refl

@@ -1,11 +1,9 @@
 -- What an accepted write does to the clusters, in any heap.
 -- Assumes nothing.
-use Prim.Native.Nat.{ℕ, zero, suc, _+_, _≤_, _<_, _^_}
+use Prim.Native.Nat.{ℕ, _+_, _<_, _^_}
 use mathlib.Core.Path.{_≡_, refl, sym, ap, _∙_}
 use mathlib.Core.Bool.{Bool, true, false, not, cond, _&&_}
-use mathlib.Core.List.{List}
 use native.Mathlib.Nat.{suc-ne-zero}
-use native.Mathlib.Decide.{decLe}
 use native.Mathlib.Omega.{arith}
 use lib.Dec.{eqb}
 use lib.ListN.{getD}
@@ -18,19 +16,19 @@ use Rattle.graph.specs.Heap.{Heap}
 use Rattle.graph.specs.Clusters.{size, keep, others}
 use Rattle.graph.specs.Writes.{dissolves, storeBy, store, lossBy, lossOf}
 use Rattle.rules.specs.Buffers.{recOf}
-use Rattle.rules.specs.View.{target, view, laid}
+use Rattle.rules.specs.View.{target, view, encoded}
 use Rattle.rules.specs.Write.{lossAfter}
 use Rattle.rules.specs.Write as Write
 use Rattle.rules.specs.Calls.{write}
 use Rattle.rules.specs.Plain.{answer}
 use Rattle.rules.specs.Steps.{State, step}
-use Rattle.rules.specs.Demands.{rec, heapOf, refusalOf, PointsIn, Writes, wordsOf}
-use Rattle.rules.proofs.BoolLaws.{and-split}
-use Rattle.rules.proofs.Answers.{laid-at, write-named}
+use Rattle.rules.specs.Demands.{recordIn, heapOf, refusalOf, PointsIn, Writes, wordsOf}
+use Rattle.rules.proofs.BoolLaws.{is-false, and-split, cond-same, cond-not}
+use Rattle.rules.proofs.Answers.{write-named}
 use Rattle.rules.proofs.Frames.{Named}
-use Rattle.rules.proofs.LaidRecord.{laid-cluster}
-use Rattle.rules.proofs.ListLaws.{recOf-above}
-use Rattle.rules.proofs.StoreLaws.{recOf-zero}
+use Rattle.rules.proofs.EncodedRecord.{encoded-cluster}
+use Rattle.rules.proofs.StoreLaws.{store-size}
+use Rattle.rules.proofs.EncodedLaws.{read-at}
 use Rattle.rules.proofs.Simulation.{all-by}
 use Rattle.rules.proofs.ViewLaws.{get-target, rec-target}
 
@@ -46,9 +44,9 @@ module _ (s : State) (i k t : ℕ) where
   unfolding view
   old-kid = get-target (s .control .n) (wordsOf s i) k
 
-  old-cluster : H .cluster (getD (H .kids i) k 0) ≡ cluster (rec s old)
+  old-cluster : H .cluster (getD (H .kids i) k 0) ≡ cluster (recordIn s old)
   unfolding view
-  old-cluster = ap (λ (x : ℕ). cluster (rec s x)) old-kid ∙ ap cluster (rec-target (s .control .n) (s .records) old)
+  old-cluster = ap (λ (x : ℕ). cluster (recordIn s x)) old-kid ∙ ap cluster (rec-target (s .control .n) (s .records) old)
 
   no-cluster : H .cluster 0 ≡ 0
   unfolding view recOf field
@@ -79,49 +77,32 @@ module _ (s : State) (i k w : ℕ) (accepted : refusalOf (write i k w) s ≡ 0) 
   -- the clusters that are stored fit their field, and an object without a record has none
   fits : (d : Bool) (x : ℕ) → storeBy d (heapOf s) i k t .cluster x < 2 ^ 12
   unfolding storeBy view
-  fits false x = field-lt 16 12 (rec s x)
-  fits true x = unfold keep in (go (others (cluster (rec s i)) (cluster (rec s x))))
+  fits false x = field-lt 16 12 (recordIn s x)
+  fits true x = unfold keep in (go (others (cluster (recordIn s i)) (cluster (recordIn s x))))
     where
-      go : (b : Bool) → cond b (cluster (rec s x)) 0 < 2 ^ 12
-      go true = field-lt 16 12 (rec s x)
+      go : (b : Bool) → cond b (cluster (recordIn s x)) 0 < 2 ^ 12
+      go true = field-lt 16 12 (recordIn s x)
       go false = omega arith
 
-  none : (d : Bool) (x : ℕ) → rec s x ≡ 0 → storeBy d (heapOf s) i k t .cluster x ≡ 0
+  none : (d : Bool) (x : ℕ) → recordIn s x ≡ 0 → storeBy d (heapOf s) i k t .cluster x ≡ 0
   unfolding storeBy view field
   none false x e = rw e refl
-  none true x e = unfold keep in (rw e (go (others (cluster (rec s i)) 0)))
-    where
-      go : (b : Bool) → _≡_ {A = ℕ} (cond b 0 0) 0
-      go true = refl
-      go false = refl
+  none true x e = unfold keep in (rw e (cond-same (others (cluster (recordIn s i)) 0) 0))
 
-  free-cluster : cluster 0 ≡ 0
+  encoded-clusters : Named (s .control) i (s .records) (s .slots) → (d : Bool) (x : ℕ)
+      → cluster (recOf (s .control .n) (encoded (storeBy d (heapOf s) i k t) (s .records)) x) ≡ storeBy d (heapOf s) i k t .cluster x
   unfolding field
-  free-cluster = refl
+  encoded-clusters N d =
+      read-at (s .control .n) (storeBy d (heapOf s) i k t) (store-size d (s .control .n) (s .records) (s .slots) i k t) (s .records) (N .wide) cluster _
+      (λ x e. sym (none d x e)) (λ x. encoded-cluster _ _ _ _ _ (fits d x))
 
-  abbrev laid-recs : Bool → List ℕ
-  laid-recs d = laid (storeBy d (heapOf s) i k t) (s .records)
-
-  laid-clusters : Named (s .control) i (s .records) (s .slots) → (d : Bool) (x : ℕ)
-      → cluster (recOf (s .control .n) (laid-recs d) x) ≡ storeBy d (heapOf s) i k t .cluster x
-  laid-clusters N d zero = ap cluster (recOf-zero (s .control .n) (laid-recs d)) ∙ free-cluster ∙ sym (none d zero (recOf-zero (s .control .n) (s .records)))
-  laid-clusters N d (suc x) = go (decLe (suc x) (s .control .n))
-    where
-      go : Dec (suc x ≤ s .control .n) → cluster (recOf (s .control .n) (laid-recs d) (suc x)) ≡ storeBy d (heapOf s) i k t .cluster (suc x)
-      go (yes l) =
-          ap cluster (laid-at (s .control .n) (s .records) (s .slots) i k t (N .low) (N .high) (N .wide) d (suc x) (omega arith) l)
-          ∙ laid-cluster _ _ _ _ (rec s (suc x)) (fits d (suc x))
-      go (no l) =
-          ap cluster (recOf-above (s .control .n) (laid-recs d) (suc x) (omega (arith, l))) ∙ free-cluster
-          ∙ sym (none d (suc x) (recOf-above (s .control .n) (s .records) (suc x) (omega (arith, l))))
-
-  after : (x : ℕ) → cluster (rec (step (write i k w) s .after) x) ≡ store (heapOf s) i k t .cluster x
+  after : (x : ℕ) → cluster (recordIn (step (write i k w) s .after) x) ≡ store (heapOf s) i k t .cluster x
   unfolding step Write.write answer withWriteLoss store
   after x =
       all-by
       (λ (o : Write.Outcome). o .answer .refusal ≡ 0 → cluster (recOf (o .answer .control .n) (o .records) x)
       ≡ storeBy (dissolves (heapOf s) i k t) (heapOf s) i k t .cluster x) _ _ _
-      (λ z e. laid-clusters (write-named (s .control) i k w (s .records) (s .slots) z) (dissolves (heapOf s) i k t) x) (λ m e. absurd (suc-ne-zero m e)) accepted
+      (λ z e. encoded-clusters (write-named (s .control) i k w (s .records) (s .slots) z) (dissolves (heapOf s) i k t) x) (λ m e. absurd (suc-ne-zero m e)) accepted
 
   loss : step (write i k w) s .after .control .«write_loss» ≡ lossAfter (s .control) i k w (s .records) (s .slots)
   unfolding step Write.write answer withWriteLoss
@@ -139,16 +120,8 @@ module _ (s : State) (i k w : ℕ) (accepted : refusalOf (write i k w) s ≡ 0) 
   }
     where
       stays : (PointsIn s i k → ⊥) → dissolves (heapOf s) i k t ≡ false
-      stays p = go (dissolves (heapOf s) i k t) refl
-        where
-          go : (b : Bool) → dissolves (heapOf s) i k t ≡ b → dissolves (heapOf s) i k t ≡ false
-          go true e = absurd (p (dissolves-points s i k t e))
-          go false e = e
+      stays p = is-false (dissolves (heapOf s) i k t) (λ e. p (dissolves-points s i k t e))
 
       member : (x : ℕ) → keep (others (heapOf s .cluster i)) (heapOf s .cluster) x
-          ≡ cond (eqb (cluster (rec s x)) (cluster (rec s i))) 0 (cluster (rec s x))
-      member x = unfold keep others view in (go (eqb (cluster (rec s x)) (cluster (rec s i))))
-        where
-          go : (b : Bool) → cond (not b) (cluster (rec s x)) 0 ≡ cond b 0 (cluster (rec s x))
-          go true = refl
-          go false = refl
+          ≡ cond (eqb (cluster (recordIn s x)) (cluster (recordIn s i))) 0 (cluster (recordIn s x))
+      member x = unfold keep others view in (cond-not (eqb (cluster (recordIn s x)) (cluster (recordIn s i))) (cluster (recordIn s x)) 0)

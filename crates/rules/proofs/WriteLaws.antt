@@ -30,22 +30,24 @@ use Rattle.graph.proofs.Paths.{keep-zero}
 use Rattle.graph.proofs.State.{Good}
 use Rattle.graph.proofs.WritesLaws.{dissolving, staying, still-connected, points-clustered, write-fits}
 use Rattle.rules.specs.Buffers.{usedWords, otherWords, eight, allOf}
-use Rattle.rules.specs.View.{view, target, laid}
+use Rattle.rules.specs.View.{view, target, encoded}
 use Rattle.rules.specs.Calls.{write, writeInPlace, did}
 use Rattle.rules.specs.Write.{lossAfter}
 use Rattle.rules.specs.Write as Write
-use Rattle.rules.specs.Plain.{Plain, Played, Cell, free, object, cellAt, isSink, plainWords, objectTests, slotTests, namesFree, withCell, answer, plainStep}
+use Rattle.rules.specs.Plain.{Plain, Played, Cell, vacant, object, cellAt, isSink, plainWords, objectTests, slotTests, namesFree, withCell, answer, plainStep}
 use Rattle.rules.specs.Steps.{State, step}
-use Rattle.rules.specs.Demands.{heapOf, wordsOf, rec, rootsOf}
+use Rattle.rules.specs.Demands.{heapOf, wordsOf, recordIn, rootsOf}
+use Rattle.rules.specs.PlainOf.{plainOf, cellOf, cellsOf}
 use Rattle.rules.proofs.ListLaws.{map-set, eight-set, eight-set-other, set-numbers}
 use Rattle.rules.proofs.Invariant.{Inv, SlotWord, inv-control, inv-sane, inv-illegal, enough}
-use Rattle.rules.proofs.Abstraction.{plainOf, cellOf, cellsOf, cells-size, at-free, at-words, at-sink}
+use Rattle.rules.proofs.Abstraction.{cells-size, at-free, at-words, at-sink}
 use Rattle.rules.proofs.Simulation.{Same, same-by, all-by, pointer-facts, is-named, used-length, widths}
 use Rattle.rules.proofs.ViewLaws.{target-low}
-use Rattle.rules.proofs.LaidLaws.{heap′, recs′, view-laid, laid-cell, laid-inv, state′}
+use Rattle.rules.proofs.EncodedState.{good-fits, encoded-cell, encoded-inv, encoded-view}
+use Rattle.rules.proofs.EncodedLaws.{Fits}
 
--- the slots and the plain heap's cells after a store, for any heap that is laid into the records with it
-module _ (s : State) (I : Inv s) (i k w : ℕ) (k-fits : k < width (rec s (suc i))) (there : rec s (suc i) ≢ 0)
+-- the slots and the plain heap's cells after a store, for any heap that is encoded into the records with it
+module _ (s : State) (I : Inv s) (i k w : ℕ) (k-fits : k < width (recordIn s (suc i))) (there : recordIn s (suc i) ≢ 0)
     (word : SlotWord (s .control .n) (s .records) w) where
   abbrev n : ℕ
   n = s .control .n
@@ -62,12 +64,12 @@ module _ (s : State) (I : Inv s) (i k w : ℕ) (k-fits : k < width (rec s (suc i
   used-after : usedWords n (s .records) slots′ (suc i) ≡ set (wordsOf s (suc i)) k w
   unfolding usedWords
   used-after =
-      ap (take (width (rec s (suc i)))) (eight-set (s .slots) i k w k8)
-      ∙ take-set-lt (width (rec s (suc i))) (eight (s .slots) (suc i)) k w k-fits
+      ap (take (width (recordIn s (suc i)))) (eight-set (s .slots) i k w k8)
+      ∙ take-set-lt (width (recordIn s (suc i))) (eight (s .slots) (suc i)) k w k-fits
 
   used-other : (x : ℕ) → x ≢ suc i → usedWords n (s .records) slots′ x ≡ wordsOf s x
   unfolding usedWords
-  used-other x e = ap (take (width (rec s x))) (eight-set-other (s .slots) i k w x k8 e)
+  used-other x e = ap (take (width (recordIn s x))) (eight-set-other (s .slots) i k w x k8 e)
 
   same-kids : (x : ℕ) → map (target n) (usedWords n (s .records) slots′ x) ≡ stored H (suc i) k (target n w) x
   unfolding stored view
@@ -84,11 +86,11 @@ module _ (s : State) (I : Inv s) (i k w : ℕ) (k-fits : k < width (rec s (suc i
   unfolding otherWords
   other-after x = go (ℕ-discrete x (suc i))
     where
-      go : Dec (x ≡ suc i) → drop (width (rec s x)) (eight slots′ x) ≡ drop (width (rec s x)) (eight (s .slots) x)
+      go : Dec (x ≡ suc i) → drop (width (recordIn s x)) (eight slots′ x) ≡ drop (width (recordIn s x)) (eight (s .slots) x)
       go (yes e) =
-          rw e (ap (drop (width (rec s (suc i)))) (eight-set (s .slots) i k w k8)
-          ∙ drop-set-lt (width (rec s (suc i))) (eight (s .slots) (suc i)) k w k-fits)
-      go (no e) = ap (drop (width (rec s x))) (eight-set-other (s .slots) i k w x k8 e)
+          rw e (ap (drop (width (recordIn s (suc i)))) (eight-set (s .slots) i k w k8)
+          ∙ drop-set-lt (width (recordIn s (suc i))) (eight (s .slots) (suc i)) k w k-fits)
+      go (no e) = ap (drop (width (recordIn s x))) (eight-set-other (s .slots) i k w x k8 e)
 
   named-after : (x v : ℕ) → List·Memᴰ v (usedWords n (s .records) slots′ x) → SlotWord n (s .records) v
   named-after x v m = go (ℕ-discrete x (suc i))
@@ -101,52 +103,50 @@ module _ (s : State) (I : Inv s) (i k w : ℕ) (k-fits : k < width (rec s (suc i
       go (yes e) = at (mem-of-set (wordsOf s (suc i)) k w v (rw (e, used-after) at m))
       go (no e) = I .named x v (rw (used-other x e) at m)
 
-  module _ (out′ : ℕ → Bool) (cl′ : ℕ → ℕ) (loss′ : ℕ)
-      (G : Good (heap′ s I (stored H (suc i) k (target n w)) (H .sink) (upd (H .written) (suc i) true) out′ cl′ loss′) loss′)
-      (blank-cl : (x : ℕ) → rec s x ≡ 0 → cl′ x ≡ 0) (fits : loss′ ≤ n) where
-    blank : (x : ℕ) → rec s x ≡ 0 → (upd (H .written) (suc i) true x ≡ false) × (H .sink x ≡ false) × (cl′ x ≡ 0)
-    unfolding view flag field
-    blank x e = (upd-other (H .written) (suc i) x true (λ j. there (ap (rec s) (sym j) ∙ e)) ∙ rw e refl, rw e refl, blank-cl x e)
+  module _ (out′ : ℕ → Bool) (cl′ : ℕ → ℕ) where
+    abbrev heap′ : Heap
+    heap′ = record { n = n; kids = stored H (suc i) k (target n w); sink = H .sink; written = upd (H .written) (suc i) true; cluster = cl′; out = out′ }
 
-    store-inv : Inv (state′ s I (stored H (suc i) k (target n w)) (H .sink) (upd (H .written) (suc i) true) out′ cl′ loss′ G blank slots′ same-kids (s .control .last) (s .control .limit) (s .control .«out_loss»))
-    unfolding withWriteLoss
-    store-inv =
-        laid-inv s I (stored H (suc i) k (target n w)) (H .sink) (upd (H .written) (suc i) true) out′ cl′ loss′ G blank slots′ same-kids
-        (s .control .last) (s .control .limit) (s .control .«out_loss»)
-        (writes-sound (s .control) (I .sound) loss′ fits)
-        (let a = length-set (s .slots) (8 * i + k) w in let b = I .slots-long in omega arith)
-        (λ x p q. ap (allOf isNil) (other-after x) ∙ I .empty x p q)
-        named-after
+    abbrev recs′ : List ℕ
+    recs′ = encoded heap′ (s .records)
 
-    store-view : view n (recs′ s I (stored H (suc i) k (target n w)) (H .sink) (upd (H .written) (suc i) true) out′ cl′ loss′) slots′
-        ≡ heap′ s I (stored H (suc i) k (target n w)) (H .sink) (upd (H .written) (suc i) true) out′ cl′ loss′
-    store-view = view-laid s I (stored H (suc i) k (target n w)) (H .sink) (upd (H .written) (suc i) true) out′ cl′ loss′ G blank slots′ same-kids
+    module _ (loss′ : ℕ) (G : Good heap′ loss′) (blank-cl : (x : ℕ) → recordIn s x ≡ 0 → cl′ x ≡ 0) (fits : loss′ ≤ n) where
+      F : Fits n (s .records) (H .sink) (upd (H .written) (suc i) true) out′ cl′
+      unfolding view flag field
+      F = good-fits G (λ x e. (rw e refl, upd-other (H .written) (suc i) x true (λ j. there (ap (recordIn s) (sym j) ∙ e)) ∙ rw e refl, blank-cl x e))
 
-    store-cells : cellsOf n (recs′ s I (stored H (suc i) k (target n w)) (H .sink) (upd (H .written) (suc i) true) out′ cl′ loss′) slots′
-        ≡ set (cellsOf n (s .records) (s .slots)) i
-        (object (set (wordsOf s (suc i)) k w) (flag 2 (rec s (suc i))))
-    unfolding cellsOf
-    store-cells = set-numbers (cellOf n (s .records) (s .slots)) (cellOf n _ slots′) 1 n i _ at other
-      where
-        cell : (x : ℕ) → cellOf n (recs′ s I (stored H (suc i) k (target n w)) (H .sink) (upd (H .written) (suc i) true) out′ cl′ loss′) slots′ x
-            ≡ cond (R.free (rec s x)) free (object (usedWords n (s .records) slots′ x) (H .sink x))
-        cell x = laid-cell s I (stored H (suc i) k (target n w)) (H .sink) (upd (H .written) (suc i) true) out′ cl′ loss′ G blank slots′ same-kids x
+      store-inv : Inv (record { control = withWriteLoss loss′ (s .control); records = recs′; slots = slots′; roots = s .roots })
+      unfolding withWriteLoss
+      store-inv =
+          encoded-inv s I (stored H (suc i) k (target n w)) F slots′ same-kids (s .control .last) (s .control .limit) loss′ (s .control .«out_loss») G
+          (writes-sound (s .control) (I .sound) loss′ fits)
+          (let a = length-set (s .slots) (8 * i + k) w in let b = I .slots-long in omega arith)
+          (λ x p q. ap (allOf isNil) (other-after x) ∙ I .empty x p q)
+          named-after
 
-        not-free : R.free (rec s (suc i)) ≡ false
-        not-free = unfold R.free in (borrow.Author.Tests.ne-eqb (rec s (suc i)) 0 there)
+      store-view : view n recs′ slots′ ≡ heap′
+      store-view = encoded-view s I (stored H (suc i) k (target n w)) F slots′ same-kids
 
-        at : cellOf n (recs′ s I (stored H (suc i) k (target n w)) (H .sink) (upd (H .written) (suc i) true) out′ cl′ loss′) slots′ (1 + i)
-            ≡ object (set (wordsOf s (suc i)) k w) (flag 2 (rec s (suc i)))
-        at =
-            let e : 1 + i ≡ suc i = omega arith in
-            rw e (cell (suc i) ∙ rw (not-free, used-after) (unfold view flag field in refl))
+      store-cells : cellsOf n recs′ slots′
+          ≡ set (cellsOf n (s .records) (s .slots)) i (object (set (wordsOf s (suc i)) k w) (flag 2 (recordIn s (suc i))))
+      unfolding cellsOf
+      store-cells = set-numbers (cellOf n (s .records) (s .slots)) (cellOf n recs′ slots′) 1 n i _ at other
+        where
+          cell : (x : ℕ) → cellOf n recs′ slots′ x ≡ cond (R.free (recordIn s x)) vacant (object (usedWords n (s .records) slots′ x) (H .sink x))
+          cell = encoded-cell s I (stored H (suc i) k (target n w)) F slots′
 
-        other : (x : ℕ) → 1 ≤ x → x < 1 + n → x ≢ 1 + i
-            → cellOf n (recs′ s I (stored H (suc i) k (target n w)) (H .sink) (upd (H .written) (suc i) true) out′ cl′ loss′) slots′ x
-            ≡ cellOf n (s .records) (s .slots) x
-        other x p q d =
-            let e : x ≢ suc i = omega (arith, d) in
-            cell x ∙ (rw (used-other x e) (unfold cellOf view flag field in refl))
+          not-free : R.free (recordIn s (suc i)) ≡ false
+          not-free = unfold R.free in (borrow.Author.Tests.ne-eqb (recordIn s (suc i)) 0 there)
+
+          at : cellOf n recs′ slots′ (1 + i) ≡ object (set (wordsOf s (suc i)) k w) (flag 2 (recordIn s (suc i)))
+          at =
+              let e : 1 + i ≡ suc i = omega arith in
+              rw e (cell (suc i) ∙ rw (not-free, used-after) (unfold view flag field in refl))
+
+          other : (x : ℕ) → 1 ≤ x → x < 1 + n → x ≢ 1 + i → cellOf n recs′ slots′ x ≡ cellOf n (s .records) (s .slots) x
+          other x p q d =
+              let e : x ≢ suc i = omega (arith, d) in
+              cell x ∙ (rw (used-other x e) (unfold cellOf view flag field in refl))
 
 module _ (s : State) (I : Inv s) where
   -- no write meets 25
@@ -182,8 +182,8 @@ module _ (s : State) (I : Inv s) where
   -- what the tests leave
   record Passed (i k w : ℕ) : Type 0 where
     range : (1 ≤ i) × (i ≤ s .control .n)
-    there : rec s i ≢ 0
-    narrow : k < width (rec s i)
+    there : recordIn s i ≢ 0
+    narrow : k < width (recordIn s i)
     word : SlotWord (s .control .n) (s .records) w
 
   facts : (i k w : ℕ) → first (Write.writeTests (s .control) i k w (s .records) (s .slots)) ≡ 0 → Passed i k w
@@ -205,7 +205,7 @@ module _ (s : State) (I : Inv s) where
       }
     where
       word : (a b c : Bool) → isNil w ≡ a → isPointer (s .control .n) w ≡ b → isImmediate w ≡ c → (a || b || c) ≡ true
-          → (b && not (R.legal (s .control .n) (rec s w))) ≡ false → SlotWord (s .control .n) (s .records) w
+          → (b && not (R.legal (s .control .n) (recordIn s w))) ≡ false → SlotWord (s .control .n) (s .records) w
       word true b c ea eb ec e f = rw ea refl
       word false true true ea eb ec e f = rw (ea, ec) refl
       word false true false ea eb ec e f = rw (ea, ec) (is-named s I w eb (sym (inv-illegal s I w) ∙ f))
@@ -216,7 +216,7 @@ module _ (s : State) (I : Inv s) where
   stateBy i k w d =
       record {
         control = withWriteLoss (s .control .«write_loss» + lossBy d (heapOf s) i) (s .control);
-        records = laid (storeBy d (heapOf s) i k (target (s .control .n) w)) (s .records);
+        records = encoded (storeBy d (heapOf s) i k (target (s .control .n) w)) (s .records);
         slots = set (s .slots) (8 * (i - 1) + k) w;
         roots = s .roots;
       }
@@ -225,7 +225,7 @@ module _ (s : State) (I : Inv s) where
   done : (i k w : ℕ) → Passed i k w → (d : Bool) → dissolves (heapOf s) i k (target (s .control .n) w) ≡ d
       → Inv (stateBy i k w d)
       × (cellsOf (s .control .n) (stateBy i k w d .records) (stateBy i k w d .slots)
-      ≡ set (cellsOf (s .control .n) (s .records) (s .slots)) (i - 1) (object (set (wordsOf s i) k w) (flag 2 (rec s i))))
+      ≡ set (cellsOf (s .control .n) (s .records) (s .slots)) (i - 1) (object (set (wordsOf s i) k w) (flag 2 (recordIn s i))))
       × (view (s .control .n) (stateBy i k w d .records) (stateBy i k w d .slots)
       ≡ storeBy d (heapOf s) i k (target (s .control .n) w))
   unfolding storeBy withWriteLoss view flag field
@@ -236,7 +236,7 @@ module _ (s : State) (I : Inv s) where
       let t = target (s .control .n) w in
       let l = target-low (s .control .n) w in
       let G = dissolving H (s .control .«write_loss») (suc i) k t (I .good) l (points-clustered H (suc i) k t e) in
-      let b : (x : ℕ) → rec s x ≡ 0 → keep (others (H .cluster (suc i))) (H .cluster) x ≡ 0
+      let b : (x : ℕ) → recordIn s x ≡ 0 → keep (others (H .cluster (suc i))) (H .cluster) x ≡ 0
       = λ x q. keep-zero (others (H .cluster (suc i))) (H .cluster) x (rw q refl) in
       let f = fits-25 (suc i) k t l true e in
       rw z (
@@ -250,7 +250,7 @@ module _ (s : State) (I : Inv s) where
       let t = target (s .control .n) w in
       let l = target-low (s .control .n) w in
       let G = staying H (s .control .«write_loss») (suc i) k t (I .good) l (still-connected H (s .control .«write_loss») (suc i) k t (I .good) l e) in
-      let b : (x : ℕ) → rec s x ≡ 0 → H .cluster x ≡ 0 = λ x q. rw q refl in
+      let b : (x : ℕ) → recordIn s x ≡ 0 → H .cluster x ≡ 0 = λ x q. rw q refl in
       let f = fits-25 (suc i) k t l false e in
       rw z (
         store-inv s I i k w (F .narrow) (F .there) (F .word) _ _ _ G b f,

@@ -14,7 +14,7 @@ use Rattle.graph.specs.Numbers.{count}
 use Rattle.graph.specs.Analysis.{Rule}
 use Rattle.graph.specs.Analysis as Graph
 use Rattle.rules.specs.Buffers.{short, recOf, zeros}
-use Rattle.rules.specs.View.{view, laid}
+use Rattle.rules.specs.View.{view, encoded}
 use Rattle.rules.specs.WellFormed.{wellFormed}
 
 -- a new cluster with fewer members is deleted
@@ -29,11 +29,22 @@ outPerTen = 25
 abbrev pub rule : Rule
 rule = record { outPerTen = outPerTen; least = least }
 
--- the next size limit: a sixteenth of the objects in use the first time, later the last limit halved or doubled, and always held to its range
+-- a sixteenth of x, rounded down
+unfoldable pub sixteenth : ℕ → ℕ
+sixteenth x = x / 16
+
+-- half of x, rounded down
+unfoldable pub half : ℕ → ℕ
+half x = x / 2
+
+-- x, clamped to the range of size limits
+unfoldable pub clamped : ℕ → ℕ
+clamped x = max limitMin (min limitMax x)
+
+-- the next size limit: a sixteenth of the objects in use the first time, later the last limit halved or doubled, and always clamped
 unfoldable pub nextLimit : Control → ℕ → ℕ
 nextLimit c used =
-    max limitMin
-    (min limitMax (cond (eqb (c .limit) 0) (used / 16) (cond (ltb (c .«out_loss») (c .«write_loss»)) (c .limit / 2) (2 * c .limit))))
+    clamped (cond (eqb (c .limit) 0) (sixteenth used) (cond (ltb (c .«out_loss») (c .«write_loss»)) (half (c .limit)) (2 * c .limit)))
 
 -- the objects in use, reachable or not ("Analysis")
 unfoldable pub usedCount : ℕ → List ℕ → ℕ
@@ -59,7 +70,7 @@ module _ (c : Control) (recs slots roots work : List ℕ) where
   analyseTests =
       (20, badControl c)
       ∷ (2, short (c .n) recs || short (slotsLen (c .n)) slots || short (c .r) roots || short (workLen (c .n)) work)
-      ∷ (21, not (wellFormed (c .n) (c .r) recs slots roots)) ∷ []
+      ∷ (21, not (wellFormed c recs slots roots)) ∷ []
 
   -- the walk starts from the roots and from the sinks, which `Graph.analyse` adds
   unfoldable pub analysed : Graph.Analysed
@@ -71,6 +82,6 @@ module _ (c : Control) (recs slots roots work : List ℕ) where
       outcome analyseTests
       (let a = analysed in
       gives (record { refusal = 0; clusters = a .clusters; members = a .members; control = withAnalysis (limitAfter c recs) (a .outLoss) c })
-      (laid (a .heap) recs)
+      (encoded (a .heap) recs)
       (zeros (workLen (c .n)) work))
       (λ m. gives (record { refusal = m; clusters = 0; members = 0; control = c }) recs work)

@@ -11,7 +11,7 @@ use Rattle.layout.specs.ControlRecord.{badControl}
 use Rattle.layout.specs.Refusal.{Test, outcome}
 use Rattle.graph.specs.Writes.{declare}
 use Rattle.rules.specs.Buffers.{short, recOf}
-use Rattle.rules.specs.View.{view, laid}
+use Rattle.rules.specs.View.{view, encoded}
 use Rattle.rules.specs.WellFormed.{wellFormed}
 
 -- what declare sink answers and leaves
@@ -28,11 +28,11 @@ module _ (c : Control) (i : ℕ) (recs slots roots : List ℕ) where
   unfoldable pub declareTests : List Test
   declareTests =
       (20, badControl c) ∷ (2, short (c .n) recs || short (slotsLen (c .n)) slots || short (c .r) roots) ∷ (4, not (isPointer (c .n) i))
-      ∷ (21, not (wellFormed (c .n) (c .r) recs slots roots)) ∷ (22, free (recOf (c .n) recs i)) ∷ []
+      ∷ (21, not (wellFormed c recs slots roots)) ∷ (22, free (recOf (c .n) recs i)) ∷ []
 
   -- the outcome ("Writes and sinks")
   unfoldable pub declareSink : Outcome
   declareSink =
       outcome declareTests
-      (gives (record { refusal = 0; control = c }) (cond (isSink (recOf (c .n) recs i)) recs (laid (declare (view (c .n) recs slots) i) recs)))
+      (gives (record { refusal = 0; control = c }) (cond (isSink (recOf (c .n) recs i)) recs (encoded (declare (view (c .n) recs slots) i) recs)))
       (λ m. gives (record { refusal = m; control = c }) recs)

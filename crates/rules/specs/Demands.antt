@@ -14,8 +14,8 @@ use Rattle.layout.specs.Refusal.{Test}
 use Rattle.layout.specs.declared.answers.Control.{Control}
 use Rattle.layout.specs.declared.answers.WordRead.{WordRead}
 use Rattle.layout.specs.declared.answers.Collected.{Collected}
-use Rattle.graph.specs.Numbers.{Obj, count, sum}
-use Rattle.graph.specs.Heap.{Heap, pointers, targets, withMembers, starts, Reach}
+use Rattle.graph.specs.Numbers.{Obj, has, count, sum}
+use Rattle.graph.specs.Heap.{Heap, pointers, targets, withMembers, Reach}
 use Rattle.graph.specs.Clusters.{size, outsOf}
 use Rattle.graph.specs.Trace.{postponed, Walk, traced, unclustered}
 use Rattle.graph.specs.Analysis.{begin, finish, walked}
@@ -23,7 +23,7 @@ use Rattle.graph.specs.Analysis as Graph
 use Rattle.graph.specs.DepthFirst.{Forms}
 use Rattle.graph.specs.Writes.{store, declare}
 use Rattle.rules.specs.Buffers.{recOf, eight, usedWords}
-use Rattle.rules.specs.View.{target, view}
+use Rattle.rules.specs.View.{target, view, startsIn}
 use Rattle.rules.specs.WellFormed.{wellFormed}
 use Rattle.rules.specs.Create as Create
 use Rattle.rules.specs.Allocate as Allocate
@@ -37,7 +37,7 @@ use Rattle.rules.specs.Analyse as Analyse
 use Rattle.rules.specs.Collect.{Kind, plainly, byClusters}
 use Rattle.rules.specs.Collect as Collect
 use Rattle.rules.specs.Calls.{Call, allocate, allocateInPlace, read, show, write, writeInPlace, setRoot, declareSink, collect, analyse}
-use Rattle.rules.specs.Plain.{Plain, has, plainSize, plainWords, plainStarts, keptNumbers, plainCreated, plainStep, plainSlots}
+use Rattle.rules.specs.Plain.{Plain, plainSize, plainWords, plainStarts, keptNumbers, plainCreated, plainStep, plainSlots}
 use Rattle.rules.specs.Steps.{State, created, step, answersOf, afterAll}
 
 -- ==== demand 1: every input, and no hypothesis
@@ -56,7 +56,7 @@ inOrder (k ∷ l) (t ∷ T) = inOrder l (cond (eqb k (t .0)) T (t ∷ T))
 -- the test of number k holds, and none before it in the list does
 pub data Refuses (k : ℕ) : List Test → Type 0 where
   here : {t : Test} {l : List Test} → t .0 ≡ k → t .1 ≡ true → Refuses k (t ∷ l)
-  later : {t : Test} {l : List Test} → t .1 ≡ false → Refuses k l → Refuses k (t ∷ l)
+  there : {t : Test} {l : List Test} → t .1 ≡ false → Refuses k l → Refuses k (t ∷ l)
 
 -- a call's tests are in order; its outcome has the refusal k, for k above 0, exactly where they refuse with k; refused, it is what is given for that
 pub record Decided {A : Type 0} (tests : List Test) (outcome : A) (refusal : A → ℕ) (refused : ℕ → A) : Type 0 where
@@ -154,14 +154,14 @@ pub record Demand1 : Type 0 where
   -- of either kind
   pub collected : (kind : Kind) (c : Control) (recs slots roots work map : List ℕ)
       → let o = Collect.collect kind c recs slots roots work map in
-      Decided (Collect.collectTests kind c recs slots roots work map) o (λ o. o .answer .refusal)
+      Decided (Collect.collectTests c recs slots roots work map) o (λ o. o .answer .refusal)
       (λ k. Collect.gives (record { refusal = k; freed = 0; kept = 0; scanned = 0; control = c }) recs slots work map)
       × Within (c .n) recs (o .records) × Within (slotsLen (c .n)) slots (o .slots) × Within (workLen (c .n)) work (o .work)
       × Within (mapLen (c .n)) map (o .map) × (o .answer .refusal ≡ 0 → Cleared (workLen (c .n)) (o .work)) × (o .answer .control ≡ c)
   -- in every well-formed heap the walks of both collections and of the analysis, which make a number of steps, are then at their end
-  pub ends : (n r : ℕ) (recs slots roots : List ℕ) → wellFormed n r recs slots roots ≡ true
-      → let H = view n recs slots in
-      let from = starts H (take r roots) in
+  pub ends : (c : Control) (recs slots roots : List ℕ) → wellFormed c recs slots roots ≡ true
+      → let H = view (c .n) recs slots in
+      let from = startsIn (c .n) (c .r) recs slots roots in
       Ended H (traced H from) × Ended H (traced (unclustered H) from) × ((limit : ℕ) → 1 ≤ limit → finish H limit (begin H from) .todo ≡ [])
 
 -- ==== demand 2: what the calls do to objects and clusters, in every heap that they made and, where it is said, in any heap
@@ -173,12 +173,12 @@ pub data Made : State → Type 0 where
   called : {s t : State} (call : Call) → Made s → t ≡ step call s .after → Made t
 
 -- the record of object x
-abbrev pub rec : State → ℕ → ℕ
-rec s x = recOf (s .control .n) (s .records) x
+abbrev pub recordIn : State → ℕ → ℕ
+recordIn s x = recOf (s .control .n) (s .records) x
 
 -- the same after a call
-abbrev pub recAfter : Call → State → ℕ → ℕ
-recAfter call s x = rec (step call s .after) x
+abbrev pub recordAfter : Call → State → ℕ → ℕ
+recordAfter call s x = recordIn (step call s .after) x
 
 -- the heap that the buffers hold: pointers, sinks, written bits, clusters, out bits
 abbrev pub heapOf : State → Heap
@@ -194,11 +194,11 @@ rootsOf s = take (s .control .r) (s .roots)
 
 -- where walks start: the roots, then the sinks
 abbrev pub startsOf : State → List ℕ
-startsOf s = starts (heapOf s) (rootsOf s)
+startsOf s = startsIn (s .control .n) (s .control .r) (s .records) (s .slots) (s .roots)
 
 -- x is reached by pointers from a root or a sink
-abbrev pub Led : State → ℕ → Type 0
-Led s x = Reach (targets (heapOf s)) (pointers (startsOf s)) x
+abbrev pub Reachable : State → ℕ → Type 0
+Reachable s x = Reach (targets (heapOf s)) (pointers (startsOf s)) x
 
 -- ---- collections
 
@@ -208,7 +208,7 @@ collected s kind work map = Collect.collect kind (s .control) (s .records) (s .s
 
 -- the objects that a collection is to keep: those that a path leads to; by clusters a path may also go from a head to a member
 abbrev pub KeptBy : Kind → State → ℕ → Type 0
-KeptBy plainly s x = Led s x
+KeptBy plainly s x = Reachable s x
 KeptBy byClusters s x = Reach (withMembers (heapOf s)) (pointers (startsOf s)) x
 
 -- the objects that it scans: all that a plain one keeps; by clusters no more, and as many as the walk over the clusters scans
@@ -219,27 +219,27 @@ Scans s byClusters a = (a .scanned ≤ a .kept) × (a .scanned ≡ traced (heapO
 -- what an accepted collection with the outcome o does, if t is the state after it
 pub record Sweeps (s t : State) (kind : Kind) (o : Collect.Outcome) : Type 0 where
   -- an object in use is freed exactly if it is not to be kept
-  pub frees : (x : ℕ) → Obj (s .control .n) x → inUse (rec s x) ≡ true → (rec t x ≡ 0) ↔ (KeptBy kind s x → ⊥)
+  pub frees : (x : ℕ) → Obj (s .control .n) x → inUse (recordIn s x) ≡ true → (recordIn t x ≡ 0) ↔ (KeptBy kind s x → ⊥)
   -- the freed map holds the freed and no other number, and the count of freed is that of its ones
   pub maps : (x : ℕ) → (holds x (take (mapLen (s .control .n)) (o .map)) ≡ true)
-      ↔ (Obj (s .control .n) x × (inUse (rec s x) ≡ true) × (rec t x ≡ 0))
+      ↔ (Obj (s .control .n) x × (inUse (recordIn s x) ≡ true) × (recordIn t x ≡ 0))
   pub freed : o .answer .freed ≡ length (numbersIn 0 (take (mapLen (s .control .n)) (o .map)))
   -- kept are the objects in use after it
-  pub kept : o .answer .kept ≡ count (s .control .n) (λ x. inUse (rec t x))
+  pub kept : o .answer .kept ≡ count (s .control .n) (λ x. inUse (recordIn t x))
   pub scanned : Scans s kind (o .answer)
   -- who is left was in use with the same words, width, written and sink bit; its cluster is as it was if the head is left too, and else none
-  pub leaves : (x : ℕ) → rec t x ≢ 0 → (inUse (rec t x) ≡ inUse (rec s x)) × (wordsOf t x ≡ wordsOf s x) × (width (rec t x) ≡ width (rec s x))
-      × (isWritten (rec t x) ≡ isWritten (rec s x)) × (isSink (rec t x) ≡ isSink (rec s x))
-  pub stays : (x : ℕ) → rec t x ≢ 0 → rec t (cluster (rec s x)) ≢ 0 → cluster (rec t x) ≡ cluster (rec s x)
-  pub goes : (x : ℕ) → rec t (cluster (rec s x)) ≡ 0 → cluster (rec t x) ≡ 0
-  pub formed : wellFormed (t .control .n) (t .control .r) (t .records) (t .slots) (t .roots) ≡ true
+  pub leaves : (x : ℕ) → recordIn t x ≢ 0 → (inUse (recordIn t x) ≡ inUse (recordIn s x)) × (wordsOf t x ≡ wordsOf s x) × (width (recordIn t x) ≡ width (recordIn s x))
+      × (isWritten (recordIn t x) ≡ isWritten (recordIn s x)) × (isSink (recordIn t x) ≡ isSink (recordIn s x))
+  pub stays : (x : ℕ) → recordIn t x ≢ 0 → recordIn t (cluster (recordIn s x)) ≢ 0 → cluster (recordIn t x) ≡ cluster (recordIn s x)
+  pub goes : (x : ℕ) → recordIn t (cluster (recordIn s x)) ≡ 0 → cluster (recordIn t x) ≡ 0
+  pub formed : wellFormed (t .control) (t .records) (t .slots) (t .roots) ≡ true
 
 -- and what it does in a heap that the calls made: either kind frees all that no path leads to, and no member of a cluster whose head it keeps
 pub record Collects (s : State) (kind : Kind) (work map : List ℕ) : Type 0 where
   pub accepted : collected s kind work map .answer .refusal ≡ 0
-  pub frees : (x : ℕ) → Obj (s .control .n) x → inUse (rec s x) ≡ true → (recAfter (collect kind work map) s x ≡ 0) ↔ (Led s x → ⊥)
-  pub stays : (x : ℕ) → recAfter (collect kind work map) s (cluster (rec s x)) ≢ 0
-      → cluster (recAfter (collect kind work map) s x) ≡ cluster (rec s x)
+  pub frees : (x : ℕ) → Obj (s .control .n) x → inUse (recordIn s x) ≡ true → (recordAfter (collect kind work map) s x ≡ 0) ↔ (Reachable s x → ⊥)
+  pub stays : (x : ℕ) → recordAfter (collect kind work map) s (cluster (recordIn s x)) ≢ 0
+      → cluster (recordAfter (collect kind work map) s x) ≡ cluster (recordIn s x)
 
 -- both kinds leave the same records, slots and map
 pub record SameEnd (s : State) (work map : List ℕ) : Type 0 where
@@ -285,57 +285,57 @@ pub record Analyses (s : State) (work : List ℕ) : Type 0 where
   pub depthFirst : Forms (heapOf s) (limitIn s work) (rootsOf s) (walkedIn s work)
   pub oneEnd : (cl : ℕ → ℕ) → Forms (heapOf s) (limitIn s work) (rootsOf s) cl → cl ≡ walkedIn s work
   -- a reached object is put into a new cluster, unless it was in one, is written or is a sink
-  pub formed : (x : ℕ) → Led s x → cluster (rec s x) ≡ 0 → isWritten (rec s x) ≡ false → isSink (rec s x) ≡ false
-      → (walkedIn s work x ≢ 0) × (cluster (rec s (walkedIn s work x)) ≡ 0)
-  pub sizes : (c : ℕ) → c ≢ 0 → cluster (rec s c) ≡ 0 → membersIn s work c ≤ limitIn s work
+  pub formed : (x : ℕ) → Reachable s x → cluster (recordIn s x) ≡ 0 → isWritten (recordIn s x) ≡ false → isSink (recordIn s x) ≡ false
+      → (walkedIn s work x ≢ 0) × (cluster (recordIn s (walkedIn s work x)) ≡ 0)
+  pub sizes : (c : ℕ) → c ≢ 0 → cluster (recordIn s c) ≡ 0 → membersIn s work c ≤ limitIn s work
   -- a new cluster is deleted exactly where it has too many out pointers (2p > 5s) or too few members (s < 4)
-  pub deleted : (x : ℕ) → walkedIn s work x ≢ 0 → cluster (rec s (walkedIn s work x)) ≡ 0
+  pub deleted : (x : ℕ) → walkedIn s work x ≢ 0 → cluster (recordIn s (walkedIn s work x)) ≡ 0
       → let c = walkedIn s work x in
-      cluster (recAfter (analyse work) s x)
+      cluster (recordAfter (analyse work) s x)
       ≡ cond (ltb (5 * membersIn s work c) (2 * outsIn s work c) || ltb (membersIn s work c) 4) 0 c
-  pub unwritten : (x : ℕ) → isWritten (recAfter (analyse work) s x) ≡ false
+  pub unwritten : (x : ℕ) → isWritten (recordAfter (analyse work) s x) ≡ false
   -- an older cluster keeps its members and their out bits, and gets no other member
-  pub older : (x : ℕ) → cluster (rec s x) ≢ 0
-      → (cluster (recAfter (analyse work) s x) ≡ cluster (rec s x)) × (isOut (recAfter (analyse work) s x) ≡ isOut (rec s x))
-  pub closed : (x : ℕ) → cluster (rec s x) ≡ 0 → cluster (recAfter (analyse work) s x) ≢ 0
-      → cluster (rec s (cluster (recAfter (analyse work) s x))) ≡ 0
+  pub older : (x : ℕ) → cluster (recordIn s x) ≢ 0
+      → (cluster (recordAfter (analyse work) s x) ≡ cluster (recordIn s x)) × (isOut (recordAfter (analyse work) s x) ≡ isOut (recordIn s x))
+  pub closed : (x : ℕ) → cluster (recordIn s x) ≡ 0 → cluster (recordAfter (analyse work) s x) ≢ 0
+      → cluster (recordIn s (cluster (recordAfter (analyse work) s x))) ≡ 0
   -- answered are the objects that head a new cluster after it, and those that are in one
   pub clusters : analysed s work .answer .clusters
-      ≡ count (s .control .n) (λ h. eqb (cluster (rec s h)) 0 && eqb (cluster (recAfter (analyse work) s h)) h)
+      ≡ count (s .control .n) (λ h. eqb (cluster (recordIn s h)) 0 && eqb (cluster (recordAfter (analyse work) s h)) h)
   pub members : analysed s work .answer .members
-      ≡ count (s .control .n) (λ x. eqb (cluster (rec s x)) 0 && not (eqb (cluster (recAfter (analyse work) s x)) 0))
+      ≡ count (s .control .n) (λ x. eqb (cluster (recordIn s x)) 0 && not (eqb (cluster (recordAfter (analyse work) s x)) 0))
 
 -- the control record that an accepted analysis of any buffers answers
 pub record Adjusts (s : State) (work : List ℕ) : Type 0 where
   pub same : let c = analysed s work .answer .control in (c .n ≡ s .control .n) × (c .r ≡ s .control .r) × (c .last ≡ s .control .last)
   -- the limit is first a sixteenth of the objects in use, later half or twice what it was, and always at least 8 and at most 4,095
-  pub first : s .control .limit ≡ 0 → limitIn s work ≡ max 8 (min 4095 (count (s .control .n) (λ x. inUse (rec s x)) / 16))
+  pub first : s .control .limit ≡ 0 → limitIn s work ≡ max 8 (min 4095 (count (s .control .n) (λ x. inUse (recordIn s x)) / 16))
   pub halved : s .control .limit ≢ 0 → s .control .«out_loss» < s .control .«write_loss» → limitIn s work ≡ max 8 (min 4095 (s .control .limit / 2))
   pub doubled : s .control .limit ≢ 0 → s .control .«write_loss» ≤ s .control .«out_loss» → limitIn s work ≡ max 8 (min 4095 (2 * s .control .limit))
   pub writeLoss : analysed s work .answer .control .«write_loss» ≡ 0
   -- the members of the new clusters with 2p > 5s
   pub outLoss : analysed s work .answer .control .«out_loss»
-      ≡ sum (s .control .n) (λ h. cond (eqb (cluster (rec s h)) 0 && eqb (walkedIn s work h) h && ltb (5 * membersIn s work h) (2 * outsIn s work h)) (membersIn s work h) 0)
+      ≡ sum (s .control .n) (λ h. cond (eqb (cluster (recordIn s h)) 0 && eqb (walkedIn s work h) h && ltb (5 * membersIn s work h) (2 * outsIn s work h)) (membersIn s work h) 0)
 
 -- the word in slot k of object i points into the cluster of i
 abbrev pub PointsIn : State → ℕ → ℕ → Type 0
-PointsIn s i k = (cluster (rec s i) ≢ 0) × (cluster (rec s (getD (wordsOf s i) k 0)) ≡ cluster (rec s i))
+PointsIn s i k = (cluster (recordIn s i) ≢ 0) × (cluster (recordIn s (getD (wordsOf s i) k 0)) ≡ cluster (recordIn s i))
 
 -- what an accepted write does to the clusters and to the write loss: if the old word pointed into the cluster, all members lose it; else nothing
 pub record Writes (s : State) (i k w : ℕ) : Type 0 where
   pub dissolved : PointsIn s i k → (x : ℕ)
-      → cluster (recAfter (write i k w) s x) ≡ cond (eqb (cluster (rec s x)) (cluster (rec s i))) 0 (cluster (rec s x))
+      → cluster (recordAfter (write i k w) s x) ≡ cond (eqb (cluster (recordIn s x)) (cluster (recordIn s i))) 0 (cluster (recordIn s x))
   pub lost : PointsIn s i k
       → step (write i k w) s .after .control .«write_loss»
-      ≡ s .control .«write_loss» + count (s .control .n) (λ x. eqb (cluster (rec s x)) (cluster (rec s i)))
-  pub kept : (PointsIn s i k → ⊥) → (x : ℕ) → cluster (recAfter (write i k w) s x) ≡ cluster (rec s x)
+      ≡ s .control .«write_loss» + count (s .control .n) (λ x. eqb (cluster (recordIn s x)) (cluster (recordIn s i)))
+  pub kept : (PointsIn s i k → ⊥) → (x : ℕ) → cluster (recordAfter (write i k w) s x) ≡ cluster (recordIn s x)
   pub unlost : (PointsIn s i k → ⊥) → step (write i k w) s .after .control .«write_loss» ≡ s .control .«write_loss»
 
 -- what an accepted declaration does: the object becomes a sink, and the members of its cluster lose it
 pub record Declares (s : State) (i : ℕ) : Type 0 where
-  pub sinks : (x : ℕ) → isSink (recAfter (declareSink i) s x) ≡ cond (eqb x i) true (isSink (rec s x))
+  pub sinks : (x : ℕ) → isSink (recordAfter (declareSink i) s x) ≡ cond (eqb x i) true (isSink (recordIn s x))
   pub dissolved : (x : ℕ)
-      → cluster (recAfter (declareSink i) s x) ≡ cond (eqb (cluster (rec s x)) (cluster (rec s i))) 0 (cluster (rec s x))
+      → cluster (recordAfter (declareSink i) s x) ≡ cond (eqb (cluster (recordIn s x)) (cluster (recordIn s i))) 0 (cluster (recordIn s x))
 
 -- ---- refusals
 
@@ -368,7 +368,7 @@ pub record Demand2 : Type 0 where
   pub writes : (s : State) (i k w : ℕ) → refusalOf (write i k w) s ≡ 0 → Writes s i k w
   -- every accepted declaration, in any heap; a second one, accepted or refused, leaves all as it was
   pub declares : (s : State) (i : ℕ) → refusalOf (declareSink i) s ≡ 0 → Declares s i
-  pub again : (s : State) (i : ℕ) → isSink (rec s i) ≡ true → step (declareSink i) s .after ≡ s
+  pub again : (s : State) (i : ℕ) → isSink (recordIn s i) ≡ true → step (declareSink i) s .after ≡ s
   -- an analysis that is lent enough work is accepted
   pub accepts : (s : State) → Made s → (work : List ℕ) → workLen (s .control .n) ≤ length work → refusalOf (analyse work) s ≡ 0
   -- the three buffers, handed on from call to call, are never too short

@@ -11,11 +11,13 @@ pub mod Write
 pub mod SetRoot
 pub mod DeclareSink
 pub mod Analyse
+pub mod Sweep
 pub mod Collect
 -- ---- the plain heap and lists of calls
 pub mod Calls
 pub mod Plain
 pub mod Steps
+pub mod PlainOf
 -- ---- the demands
 pub mod Demands
 -- ---- what is computed from them

@@ -8,13 +8,14 @@ use Rattle.layout.specs.Limits.{widthMax, mapLen}
 use Rattle.layout.specs.Word.{isNil, isPointer, legalWord}
 use Rattle.bitmap.specs.Bits.{wordOf}
 use Rattle.layout.specs.Refusal.{Test, outcome}
-use Rattle.graph.specs.Numbers.{count, gather, lowest}
+use Rattle.graph.specs.Numbers.{has, count, gather, lowest}
+use Rattle.graph.specs.Rounds.{rounds}
 use Rattle.rules.specs.Buffers.{eachFrom, numbers}
 use Rattle.rules.specs.Calls.{Call, allocate, allocateInPlace, read, show, write, writeInPlace, setRoot, declareSink, collect, analyse, Answer, gave, gotWord, gotWords, did, swept}
 
 -- free, or an object: its words, as many as its width, and whether it is a sink
 pub data Cell : Type 0 where
-  free : Cell
+  vacant : Cell
   object : (words : List ℕ) (sink : Bool) → Cell
 
 -- number i is in place i - 1 of the n cells
@@ -25,50 +26,31 @@ pub record Plain : Type 0 where
 
 -- the plain heap at first
 unfoldable pub plainCreated : ℕ → ℕ → Plain
-plainCreated n r = record { last = 0; roots = replicate r 0; cells = replicate n free }
+plainCreated n r = record { last = 0; roots = replicate r 0; cells = replicate n vacant }
 
 -- the number is free
 unfoldable pub isFree : Cell → Bool
-isFree free = true
+isFree vacant = true
 isFree (object words sink) = false
 
 -- the words of its object, none for a free number
 unfoldable pub wordsIn : Cell → List ℕ
-wordsIn free = []
+wordsIn vacant = []
 wordsIn (object words sink) = words
 
 -- its object is a sink
 unfoldable pub isSink : Cell → Bool
-isSink free = false
+isSink vacant = false
 isSink (object words sink) = sink
 
 -- the cell of number i; 0 and numbers past the end are free
 unfoldable pub cellAt : List Cell → ℕ → Cell
-cellAt cells zero = free
-cellAt cells (suc i) = getD cells i free
-
--- ---- what can be reached along pointers
-
--- whether the list has the number
-unfoldable pub has : ℕ → List ℕ → Bool
-has x [] = false
-has x (y ∷ l) = eqb x y || has x l
-
--- whether one of the list passes
-unfoldable pub anyOf : (ℕ → Bool) → List ℕ → Bool
-anyOf t [] = false
-anyOf t (y ∷ l) = t y || anyOf t l
-
--- the numbers from 1 to n in the list, and those that one in the list points at
-unfoldable pub round : ℕ → (ℕ → List ℕ) → List ℕ → List ℕ
-round n words l = gather n (λ x. has x l || anyOf (λ y. has x (words y)) l) (λ x. x ∷ [])
-
--- k rounds
-unfoldable pub rounds : ℕ → (ℕ → List ℕ) → ℕ → List ℕ → List ℕ
-rounds n words zero l = l
-rounds n words (suc k) l = rounds n words k (round n words l)
+cellAt cells zero = vacant
+cellAt cells (suc i) = getD cells i vacant
 
 module _ (P : Plain) where
+  -- ---- what can be reached along pointers
+
   -- n
   abbrev pub plainSize : ℕ
   plainSize = length (P .cells)
@@ -113,7 +95,7 @@ module _ (P : Plain) where
 
   -- the cells with all but the listed numbers free
   unfoldable pub plainSwept : List ℕ → List Cell
-  plainSwept l = eachFrom 1 plainSize (λ x cell. cond (has x l) cell free) (P .cells)
+  plainSwept l = eachFrom 1 plainSize (λ x cell. cond (has x l) cell vacant) (P .cells)
 
   -- the objects that are then freed
   unfoldable pub plainFreed : List ℕ → ℕ → Bool

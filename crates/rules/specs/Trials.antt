@@ -1,9 +1,8 @@
 -- The trials ("Trials"): calls from create on, or on buffers as they are given, and what comes of the last one, by computation.
 use Prim.Native.Nat.{ℕ, zero, suc, _+_, _*_}
-use mathlib.Core.Path.{_≡_, refl}
 use mathlib.Core.List.{List, [], _∷_, _++_, map}
 use lib.ListN.{getD, replicate}
-use Rattle.layout.specs.declared.answers.Control.{Control}
+use Rattle.layout.specs.ControlRecord.{newControl, controlWith}
 use Rattle.records.specs.Record.{cluster}
 use Rattle.rules.specs.Buffers.{recOf, numbers}
 use Rattle.rules.specs.Create as Create
@@ -59,8 +58,8 @@ pub record Trial : Type 0 where
   pub stands : List ℕ
 
 -- what comes of a trial
-unfoldable pub told : Trial → List (List ℕ)
-told t =
+unfoldable pub observed : Trial → List (List ℕ)
+observed t =
     let s = afterAll step (t .before) (t .from) in
     answered (t .call) s ∷ standing (step (t .call) s .after) ∷ []
 
@@ -159,10 +158,10 @@ marked =
 -- ---- heaps given as they are
 
 -- records, slots and one root, with nothing past their lengths
-unfoldable pub given : ℕ → ℕ → ℕ → List ℕ → List ℕ → ℕ → State
-given n limit loss recs slots root =
+unfoldable pub stateWith : ℕ → ℕ → ℕ → List ℕ → List ℕ → ℕ → State
+stateWith n limit loss recs slots root =
     record {
-      control = record { n = n; r = 1; last = n; limit = limit; «write_loss» = loss; «out_loss» = 0 };
+      control = controlWith n limit loss 0 (newControl n 1);
       records = recs;
       slots = slots;
       roots = root ∷ [];
@@ -177,8 +176,8 @@ unfoldable pub two : ℕ → ℕ → List ℕ
 two a b = a ∷ b ∷ replicate 6 0
 
 -- the record of an object of this width with these flags (written 2, sink 4, out 8) and this cluster
-unfoldable pub rec : ℕ → ℕ → ℕ → ℕ
-rec width flags c = 1 + flags + 256 * width + 65536 * c
+unfoldable pub recordWith : ℕ → ℕ → ℕ → ℕ
+recordWith width flags c = 1 + flags + 256 * width + 65536 * c
 
 -- a trial of one call
 unfoldable pub fresh : State → Call → List ℕ → List ℕ → Trial
@@ -191,17 +190,17 @@ unfoldable pub ownRows : List Trial
 ownRows =
     -- a chain of nine at limit 8: eight join, the ninth heads a cluster of its own, which is too small
     fresh
-    (given 9 17 1 (replicate 9 (rec 1 0 0)) (one 2 ++ one 3 ++ one 4 ++ one 5 ++ one 6 ++ one 7 ++ one 8 ++ one 9 ++ one 0) 1)
+    (stateWith 9 17 1 (replicate 9 (recordWith 1 0 0)) (one 2 ++ one 3 ++ one 4 ++ one 5 ++ one 6 ++ one 7 ++ one 8 ++ one 9 ++ one 0) 1)
     (analysis 9)
     (0 ∷ 1 ∷ 8 ∷ 8 ∷ 0 ∷ [])
     (0 ∷ 1 ∷ 1 ∷ 1 ∷ 1 ∷ 1 ∷ 1 ∷ 1 ∷ 1 ∷ 0 ∷ [])
     -- slot 0 first, and all that it leads to: with slot 1 first 5 to 8 would be the second cluster
     ∷ fresh
-    (given
+    (stateWith
     12
     17
     1
-    (rec 2 0 0 ∷ replicate 11 (rec 1 0 0))
+    (recordWith 2 0 0 ∷ replicate 11 (recordWith 1 0 0))
     (two 2 9 ++ one 3 ++ one 4 ++ one 5 ++ one 6 ++ one 7 ++ one 8 ++ one 0 ++ one 10 ++ one 11 ++ one 12 ++ one 0)
     1)
     (analysis 12)
@@ -209,11 +208,11 @@ ownRows =
     (0 ∷ 1 ∷ 1 ∷ 1 ∷ 1 ∷ 1 ∷ 1 ∷ 1 ∷ 1 ∷ 9 ∷ 9 ∷ 9 ∷ 9 ∷ [])
     -- the root leads to a member of an older cluster that is no head: the pointers of its out member are visited
     ∷ fresh
-    (given
+    (stateWith
     8
     8
     0
-    (rec 1 0 1 ∷ rec 1 0 1 ∷ rec 2 8 1 ∷ rec 1 0 1 ∷ replicate 4 (rec 1 0 0))
+    (recordWith 1 0 1 ∷ recordWith 1 0 1 ∷ recordWith 2 8 1 ∷ recordWith 1 0 1 ∷ replicate 4 (recordWith 1 0 0))
     (one 2 ++ one 3 ++ two 4 5 ++ one 0 ++ one 6 ++ one 7 ++ one 8 ++ one 0)
     2)
     (analysis 8)
@@ -221,11 +220,11 @@ ownRows =
     (0 ∷ 1 ∷ 1 ∷ 1 ∷ 1 ∷ 5 ∷ 5 ∷ 5 ∷ 5 ∷ [])
     -- a written object and a sink among the children join nothing, and pass on no cluster
     ∷ fresh
-    (given
+    (stateWith
     8
     8
     0
-    (rec 3 0 0 ∷ rec 1 2 0 ∷ rec 1 4 0 ∷ replicate 5 (rec 1 0 0))
+    (recordWith 3 0 0 ∷ recordWith 1 2 0 ∷ recordWith 1 4 0 ∷ replicate 5 (recordWith 1 0 0))
     ((2 ∷ 3 ∷ 4 ∷ replicate 5 0) ++ one 5 ++ one 6 ++ one 7 ++ one 0 ++ one 0 ++ one 8 ++ one 0)
     1)
     (analysis 8)
@@ -252,7 +251,7 @@ ownRows =
       answers = 0 ∷ 3 ∷ [];
       stands = 0 ∷ 0 ∷ 0 ∷ 0 ∷ [];
     }
-    ∷ fresh (given 3 0 0 (0 ∷ replicate 2 (rec 1 0 0)) (one 0 ++ one 3 ++ one 0) 2) (allocate 1) (0 ∷ 1 ∷ []) (0 ∷ 0 ∷ [])
+    ∷ fresh (stateWith 3 0 0 (0 ∷ replicate 2 (recordWith 1 0 0)) (one 0 ++ one 3 ++ one 0) 2) (allocate 1) (0 ∷ 1 ∷ []) (0 ∷ 0 ∷ [])
     ∷ onH [] (read 1 1) (0 ∷ 3 ∷ []) (0 ∷ 1 ∷ 1 ∷ 1 ∷ 1 ∷ 1 ∷ 1 ∷ [])
     ∷ onH [] (show 1) (0 ∷ 2 ∷ 3 ∷ 0 ∷ []) (0 ∷ 1 ∷ 1 ∷ 1 ∷ 1 ∷ 1 ∷ 1 ∷ [])
     -- in place: 7 and 8 are given one after the other; a pointer inside the cluster is cleared
@@ -264,23 +263,23 @@ ownRows =
 
 -- two objects with these records, where 1 points at 2
 unfoldable pub small : ℕ → ℕ → State
-small a b = given 2 0 0 (a ∷ b ∷ []) (one 2 ++ one 0) 1
+small a b = stateWith 2 0 0 (a ∷ b ∷ []) (one 2 ++ one 0) 1
 
 -- a sound control record, and no buffers
 unfoldable pub noBuffers : State
-noBuffers = given 2 0 0 [] [] 0
+noBuffers = stateWith 2 0 0 [] [] 0
 
 -- a control record out of range, and no buffers
 unfoldable pub badControls : State
-badControls = given 4096 0 0 [] [] 0
+badControls = stateWith 4096 0 0 [] [] 0
 
 -- objects 1 and 2 are a cluster, 1 points at 2, and the write loss is n already
 unfoldable pub full : State
-full = given 2 8 2 (rec 1 0 1 ∷ rec 1 0 1 ∷ []) (one 2 ++ one 0) 1
+full = stateWith 2 8 2 (recordWith 1 0 1 ∷ recordWith 1 0 1 ∷ []) (one 2 ++ one 0) 1
 
 -- 1 and 2 are such a cluster, and 3 is free
 unfoldable pub lossy : State
-lossy = given 3 8 2 (rec 1 0 1 ∷ rec 1 0 1 ∷ 0 ∷ []) (one 2 ++ one 0 ++ one 0) 1
+lossy = stateWith 3 8 2 (recordWith 1 0 1 ∷ recordWith 1 0 1 ∷ 0 ∷ []) (one 2 ++ one 0 ++ one 0) 1
 
 -- a call that is refused and changes nothing
 unfoldable pub refused : State → Call → List ℕ → Trial

@@ -1,10 +1,11 @@
--- The heap that the buffers hold, as the rules of `graph` see it, and such a heap laid back into the records.
+-- The heap that the buffers hold, as the rules of `graph` see it, and such a heap encoded into the records.
 use Prim.Native.Nat.{ℕ}
 use mathlib.Core.Bool.{Bool, cond}
 use mathlib.Core.List.{List, map}
 use lib.Dec.{leb}
+use lib.ListN.{take}
 use Rattle.records.specs.Record.{isWritten, isSink, isOut, cluster, withWritten, withSink, withOut, withCluster}
-use Rattle.graph.specs.Heap.{Heap}
+use Rattle.graph.specs.Heap.{Heap, starts}
 use Rattle.graph.specs.Clusters.{outBit}
 use Rattle.rules.specs.Buffers.{recOf, usedWords, eachRecord}
 
@@ -24,14 +25,18 @@ view n recs slots =
       out = λ x. isOut (recOf n recs x);
     }
 
+-- where every walk over these buffers begins ("Analysis", "Collection"): what the roots name, and the sinks
+abbrev pub startsIn : ℕ → ℕ → List ℕ → List ℕ → List ℕ → List ℕ
+startsIn n r recs slots roots = starts (view n recs slots) (take r roots)
+
 -- the out bit that object x should have ("The heap", "Writes and sinks")
 unfoldable pub exactOut : Heap → ℕ → Bool
 exactOut H x = outBit (H .kids) (H .sink) (H .cluster) x
 
 -- a record with these: cluster, out, sink, written; all other bits stay
-unfoldable pub laidRecord : ℕ → Bool → Bool → Bool → ℕ → ℕ
-laidRecord c o s w r = withCluster c (withOut o (withSink s (withWritten w r)))
+unfoldable pub encodedRecord : ℕ → Bool → Bool → Bool → ℕ → ℕ
+encodedRecord c o s w r = withCluster c (withOut o (withSink s (withWritten w r)))
 
 -- every record with what the heap says of its object
-unfoldable pub laid : Heap → List ℕ → List ℕ
-laid H recs = eachRecord (H .n) (λ x r. laidRecord (H .cluster x) (H .out x) (H .sink x) (H .written x) r) recs
+unfoldable pub encoded : Heap → List ℕ → List ℕ
+encoded H recs = eachRecord (H .n) (λ x r. encodedRecord (H .cluster x) (H .out x) (H .sink x) (H .written x) r) recs

@@ -4,6 +4,7 @@ use mathlib.Core.Bool.{Bool, not, _&&_, _||_, Bool·beq}
 use mathlib.Core.List.{List}
 use lib.Dec.{eqb, leb}
 use lib.ListN.{take}
+use Rattle.layout.specs.declared.answers.Control.{Control}
 use Rattle.layout.specs.Limits.{objectMax, slotsLen}
 use Rattle.records.specs.Record.{inUse, cluster, free, legal}
 use Rattle.layout.specs.Word.{isNil, isPointer, isImmediate}
@@ -39,13 +40,17 @@ module _ (n : ℕ) (recs slots : List ℕ) where
 unfoldable pub rootsNamed : ℕ → ℕ → List ℕ → List ℕ → Bool
 rootsNamed n r recs roots = allOf (λ w. isNil w || names n recs w) (take r roots)
 
--- all rules together
-unfoldable pub wellFormed : ℕ → ℕ → List ℕ → List ℕ → List ℕ → Bool
-wellFormed n r recs slots roots =
+-- all rules together, of n objects and r roots
+unfoldable pub formed : ℕ → ℕ → List ℕ → List ℕ → List ℕ → Bool
+formed n r recs slots roots =
     allTo n (legalAt n recs) && allTo n (emptyAt n recs slots) && allTo n (wordsAt n recs slots)
     && allTo n (headAt n recs) && allTo n (outAt n recs slots) && rootsNamed n r recs roots
 
+-- what the heap of a control record has to be
+unfoldable pub wellFormed : Control → List ℕ → List ℕ → List ℕ → Bool
+wellFormed c recs slots roots = formed (c .n) (c .r) recs slots roots
+
 -- what the check answers for any slices: none is too short, n is a size, and the heap is well formed
-unfoldable pub checked : ℕ → ℕ → List ℕ → List ℕ → List ℕ → Bool
-checked n r recs slots roots =
-    leb n objectMax && not (short n recs || short (slotsLen n) slots || short r roots) && wellFormed n r recs slots roots
+unfoldable pub checked : Control → List ℕ → List ℕ → List ℕ → Bool
+checked c recs slots roots =
+    leb (c .n) objectMax && not (short (c .n) recs || short (slotsLen (c .n)) slots || short (c .r) roots) && wellFormed c recs slots roots

@@ -14,7 +14,7 @@ use Rattle.layout.specs.Refusal.{Test, outcome}
 use Rattle.graph.specs.Heap.{Heap}
 use Rattle.graph.specs.Writes.{store, lossOf}
 use Rattle.rules.specs.Buffers.{short, recOf}
-use Rattle.rules.specs.View.{target, view, laid}
+use Rattle.rules.specs.View.{target, view, encoded}
 
 -- what write answers and leaves
 pub record Outcome : Type 0 where
@@ -58,7 +58,7 @@ module _ (c : Control) (i k w : ℕ) (recs slots : List ℕ) where
   write =
       outcome writeTests
       (gives (record { refusal = 0; control = withWriteLoss lossAfter c })
-      (laid (store before i k (target (c .n) w)) recs)
+      (encoded (store before i k (target (c .n) w)) recs)
       (set slots (widthMax * (i - 1) + k) w))
       (λ m. gives (record { refusal = m; control = c }) recs slots)
 

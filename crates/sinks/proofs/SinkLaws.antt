@@ -1,18 +1,18 @@
 -- Declare sink: what its tests answer at each end, and that its three steps leave the records of the rule. Assumes nothing.
 use Prim.Native.Nat.{ℕ, zero, suc, _+_, _-_, _≤_, _<_}
 use mathlib.Core.Path.{_≡_, refl, sym, ap, ap₂, _∙_, fun-ext}
-use mathlib.Core.Bool.{Bool, true, false, not, cond, _||_, true≢false}
+use mathlib.Core.Bool.{Bool, true, false, not, cond}
 use mathlib.Core.Logic.{_≢_}
 use mathlib.Core.List.{List, map}
 use native.Mathlib.Decide.{ℕ-discrete, decLt, decLe}
 use native.Mathlib.Omega.{arith}
 use native.Mathlib.Numerals.{add-one}
-use lib.Dec.{eqb, ltb}
+use lib.Dec.{eqb}
 use lib.ListN.{length, getD, take, set, length-set}
-use lib.Seq.{getD-set-same, getD-set-other, ext-getD}
-use borrow.Author.Tests.{le-leb, lt-ltb, le-ltb, ltb-false, eq-eqb, ne-eqb, not-false}
+use lib.Seq.{getD-set-other, ext-getD}
+use borrow.Author.Tests.{eq-eqb, ne-eqb, not-false}
 use Rattle.layout.specs.Field.{put, putFlag, digit}
-use Rattle.layout.specs.Limits.{objectMax, slotsLen, within}
+use Rattle.layout.specs.Limits.{within}
 use Rattle.records.specs.Record.{isSink, isWritten, width, cluster, free, loose, withOut, withSink, withCluster}
 use Rattle.layout.specs.ControlRecord.{badControl}
 use Rattle.layout.specs.Refusal.{first}
@@ -26,16 +26,18 @@ use Rattle.layout.proofs.RefusalLaws.{first-passed, outcome-zero, outcome-numbe
 use Rattle.graph.specs.Numbers.{upd}
 use Rattle.graph.specs.Clusters.{keep, others, outBit}
 use Rattle.graph.specs.Writes.{declare}
-use Rattle.rules.specs.Buffers.{short, recOf, eight, usedWords, eachFrom, eachRecord}
-use Rattle.rules.specs.View.{target, view, exactOut, laid, laidRecord}
+use Rattle.rules.specs.Buffers.{recOf, eight, usedWords, eachFrom, eachRecord}
+use Rattle.rules.specs.View.{target, view, exactOut, encoded, encodedRecord}
 use Rattle.rules.specs.WellFormed.{wellFormed, checked}
 use Rattle.rules.specs.DeclareSink.{gives, declareTests, declareSink}
 use Rattle.rules.proofs.ListLaws.{length-each, get-each, recOf-above, recOf-each}
 use Rattle.rules.proofs.PassLaws.{passFrom, pass-begin, pass-turn, pass-end, pass-past, get-past}
 use Rattle.rules.proofs.BufferLaws.{recOf-get}
 use Rattle.rules.proofs.WellFormedLaws.{exact-none}
-use Rattle.rules.proofs.StoreLaws.{recOf-zero, recOf-place, recOf-set-same, recOf-set-other}
+use Rattle.rules.proofs.StoreLaws.{recOf-zero, recOf-place, stored-alike, recOf-set-same, recOf-set-other}
+use Rattle.table.specs.Check.{heapShort}
 use Rattle.table.specs.Clusters.{dissolved, dissolvedRecord}
+use Rattle.table.proofs.CheckLaws.{heap-long, checked-is}
 use Rattle.sinks.specs.Sinks.{madeExact}
 
 -- ---- the tests
@@ -48,44 +50,32 @@ module _ (c : Control) (i : ℕ) (recs slots roots : List ℕ) where
   unfolding declareTests first
   bad-control b = rw b refl
 
-  module _ (b : badControl c ≡ false) where
-    pub few-records : length recs < c .n → 2 ≡ answer
-    unfolding declareTests first short
-    few-records p = rw (b, lt-ltb (length recs) (c .n) p) refl
+  module _ (b : badControl c ≡ false) (h : Bool) (eh : h ≡ heapShort (c .n) (c .r) recs slots roots) where
+    pub few-words : h ≡ true → 2 ≡ answer
+    unfolding declareTests first heapShort
+    few-words t = rw (b, sym eh ∙ t) refl
 
-    module _ (p : c .n ≤ length recs) (s : ℕ) (e : s ≡ slotsLen (c .n)) where
-      pub few-slots : ltb (length slots) s ≡ true → 2 ≡ answer
-      unfolding declareTests first short
-      few-slots q = rw (b, le-ltb (length recs) (c .n) p, ← e, q) refl
+    module _ (t : h ≡ false) where
+      pub no-object : within 1 (c .n) i ≡ false → 4 ≡ answer
+      unfolding declareTests first heapShort isPointer
+      no-object w = rw (b, sym eh ∙ t, w) refl
 
-      module _ (q : ltb (length slots) s ≡ false) where
-        pub few-roots : ltb (length roots) (c .r) ≡ true → 2 ≡ answer
-        unfolding declareTests first short
-        few-roots k = rw (b, le-ltb (length recs) (c .n) p, ← e, q, k) refl
+      module _ (w : within 1 (c .n) i ≡ true) (f : Bool) (ef : f ≡ checked c recs slots roots) where
+        formed-is : wellFormed c recs slots roots ≡ f
+        formed-is = sym (ef ∙ checked-is c recs slots roots (control-facts c b .sizes .most) h eh t)
 
-        module _ (k : ltb (length roots) (c .r) ≡ false) where
-          pub no-object : within 1 (c .n) i ≡ false → 4 ≡ answer
-          unfolding declareTests first short isPointer
-          no-object w = rw (b, le-ltb (length recs) (c .n) p, ← e, q, k, w) refl
+        pub is-damaged : f ≡ false → 21 ≡ answer
+        unfolding declareTests first heapShort isPointer
+        is-damaged z = rw (b, sym eh ∙ t, w, formed-is, z) refl
 
-          module _ (w : within 1 (c .n) i ≡ true) (f : Bool) (ef : f ≡ checked (c .n) (c .r) recs slots roots) where
-            formed-is : wellFormed (c .n) (c .r) recs slots roots ≡ f
-            unfolding checked short
-            formed-is =
-                sym (ef ∙ rw (le-leb (c .n) objectMax (control-facts c b .sizes .most), le-ltb (length recs) (c .n) p, ← e, q, k) refl)
+        module _ (z : f ≡ true) (x : ℕ) (ex : x ≡ recOf (c .n) recs i) where
+          pub is-free : x ≡ 0 → 22 ≡ answer
+          unfolding declareTests first heapShort isPointer free
+          is-free e = rw (b, sym eh ∙ t, w, formed-is, z, ← ex, eq-eqb x 0 e) refl
 
-            pub is-damaged : f ≡ false → 21 ≡ answer
-            unfolding declareTests first short isPointer
-            is-damaged z = rw (b, le-ltb (length recs) (c .n) p, ← e, q, k, w, formed-is, z) refl
-
-            module _ (z : f ≡ true) (x : ℕ) (ex : x ≡ recOf (c .n) recs i) where
-              pub is-free : x ≡ 0 → 22 ≡ answer
-              unfolding declareTests first short isPointer free
-              is-free h = rw (b, le-ltb (length recs) (c .n) p, ← e, q, k, w, formed-is, z, ← ex, eq-eqb x 0 h) refl
-
-              pub is-given : x ≢ 0 → 0 ≡ answer
-              unfolding declareTests first short isPointer free
-              is-given h = rw (b, le-ltb (length recs) (c .n) p, ← e, q, k, w, formed-is, z, ← ex, ne-eqb x 0 h) refl
+          pub is-given : x ≢ 0 → 0 ≡ answer
+          unfolding declareTests first heapShort isPointer free
+          is-given e = rw (b, sym eh ∙ t, w, formed-is, z, ← ex, ne-eqb x 0 e) refl
 
   -- 0 says that the object has a record
   pub record Named : Type 0 where
@@ -95,20 +85,13 @@ module _ (c : Control) (i : ℕ) (recs slots roots : List ℕ) where
     pub in-slice : i - 1 < length recs
 
   pub named : answer ≡ 0 → Named
-  unfolding declareTests short isPointer
+  unfolding declareTests heapShort isPointer
   named z =
       let t = first-passed 19 _ _ z in
       let u = first-passed 1 _ _ (t .1) in
-      let v = first-passed 3 _ _ (u .1) in
-      let w = within-true 1 (c .n) i (not-false _ (v .0)) in
-      let a = w .0 in
-      let b = w .1 in
-      let l : c .n ≤ length recs = ltb-false _ _ (left _ _ (left _ _ (u .0))) in
-      record { low = a; high = b; long = l; in-slice = omega arith }
-    where
-      left : (x y : Bool) → (x || y) ≡ false → x ≡ false
-      left true y h = absurd (true≢false h)
-      left false y h = refl
+      let w = within-true 1 (c .n) i (not-false _ (first-passed 3 _ _ (u .1) .0)) in
+      let l = heap-long (c .n) (c .r) recs slots roots (u .0) .0 in
+      record { low = w .0; high = w .1; long = l; in-slice = omega (arith, w .0, w .1) }
 
 -- ---- the out bits, from what the records say of width, sink and cluster
 
@@ -130,25 +113,6 @@ module _ (n : ℕ) (recs recs′ slots : List ℕ) where
   exact-alike hw hs hc x = exact-by (λ y. isSink (recOf n recs y)) (λ y. cluster (recOf n recs y)) hw hs hc x
 
 -- ---- the pass that makes them exact
-
--- a store of a record that a reader does not tell from the old one
-stored-alike : {A : Type 0} (f : ℕ → A) (n : ℕ) (recs : List ℕ) (i v : ℕ) → i < length recs → f v ≡ f (getD recs i 0)
-    → (y : ℕ) → f (recOf n (set recs i v) y) ≡ f (recOf n recs y)
-stored-alike f n recs i v p e zero = ap f (recOf-zero n (set recs i v) ∙ sym (recOf-zero n recs))
-stored-alike f n recs i v p e (suc j) = go (decLt j n) (ℕ-discrete j i)
-  where
-    one : 1 + j ≡ suc j
-    one = omega arith
-
-    place : (l : List ℕ) → j < n → recOf n l (suc j) ≡ getD l j 0
-    place l q = ap (recOf n l) (sym one) ∙ recOf-place n l j q
-
-    go : Dec (j < n) → Dec (j ≡ i) → f (recOf n (set recs i v) (suc j)) ≡ f (recOf n recs (suc j))
-    go (yes q) (yes h) =
-        ap f (place (set recs i v) q ∙ ap (λ (m : ℕ). getD (set recs i v) m 0) h ∙ getD-set-same recs i v 0 p)
-        ∙ e ∙ ap f (ap (λ (m : ℕ). getD recs m 0) (sym h) ∙ sym (place recs q))
-    go (yes q) (no h) = ap f (place (set recs i v) q ∙ getD-set-other recs i j v 0 h ∙ sym (place recs q))
-    go (no q) h = ap f (recOf-above n (set recs i v) (suc j) (omega (arith, q)) ∙ sym (recOf-above n recs (suc j) (omega (arith, q))))
 
 module _ (n : ℕ) (slots base : List ℕ) where
   -- what the pass makes of a record, by the out bits of the heap before it
@@ -226,10 +190,10 @@ module _ (i k x r : ℕ) where
       go false = width-put-flag 2 (cond (eqb x i) true (isSink r)) r refl
 
   -- with its out bit, which is clear in no cluster: what the rule lays into it
-  stepped-laid : (o : Bool) → (cond (not (eqb (cluster r) k)) (cluster r) 0 ≡ 0 → o ≡ false)
-      → withOut o (stepped i k x r) ≡ laidRecord (cond (not (eqb (cluster r) k)) (cluster r) 0) o (cond (eqb x i) true (isSink r)) (isWritten r) r
-  unfolding dissolvedRecord laidRecord
-  stepped-laid o h = rw (flag-same 1 r, sunk-cluster) (go (eqb (cluster r) k) h)
+  stepped-encoded : (o : Bool) → (cond (not (eqb (cluster r) k)) (cluster r) 0 ≡ 0 → o ≡ false)
+      → withOut o (stepped i k x r) ≡ encodedRecord (cond (not (eqb (cluster r) k)) (cluster r) 0) o (cond (eqb x i) true (isSink r)) (isWritten r) r
+  unfolding dissolvedRecord encodedRecord
+  stepped-encoded o h = rw (flag-same 1 r, sunk-cluster) (go (eqb (cluster r) k) h)
     where
       go : (b : Bool) → (cond (not b) (cluster r) 0 ≡ 0 → o ≡ false)
           → withOut o (cond b (loose (withSink (cond (eqb x i) true (isSink r)) r)) (withSink (cond (eqb x i) true (isSink r)) r))
@@ -309,25 +273,25 @@ module _ (n i : ℕ) (recs slots : List ℕ) (p : 1 ≤ i) (q : i ≤ n) (l : n 
       (λ y. unfold keep others view in (rw same-number (ap cluster (split-at y) ∙ stepped-cluster i number y (recOf n recs y))))
       x
 
-  laid-at : (x : ℕ) → withOut (exactOut (view n split slots) x) (stepped i number x (recOf n recs x))
-      ≡ laidRecord (declare (view n recs slots) i .cluster x) (declare (view n recs slots) i .out x) (declare (view n recs slots) i .sink x)
+  encoded-at : (x : ℕ) → withOut (exactOut (view n split slots) x) (stepped i number x (recOf n recs x))
+      ≡ encodedRecord (declare (view n recs slots) i .cluster x) (declare (view n recs slots) i .out x) (declare (view n recs slots) i .sink x)
       (declare (view n recs slots) i .written x) (recOf n recs x)
-  laid-at x =
-      stepped-laid i number x (recOf n recs x) (exactOut (view n split slots) x)
+  encoded-at x =
+      stepped-encoded i number x (recOf n recs x) (exactOut (view n split slots) x)
       (λ z. exact-none n split slots x (ap cluster (split-at x) ∙ stepped-cluster i number x (recOf n recs x) ∙ z))
-      ∙ ap (λ (o : Bool). laidRecord (cond (not (eqb (cluster (recOf n recs x)) number)) (cluster (recOf n recs x)) 0) o (cond (eqb x i) true (isSink (recOf n recs x))) (isWritten (recOf n recs x)) (recOf n recs x))
+      ∙ ap (λ (o : Bool). encodedRecord (cond (not (eqb (cluster (recOf n recs x)) number)) (cluster (recOf n recs x)) 0) o (cond (eqb x i) true (isSink (recOf n recs x))) (isWritten (recOf n recs x)) (recOf n recs x))
       (exact-at x)
       ∙ fields
     where
-      fields : laidRecord (cond (not (eqb (cluster (recOf n recs x)) number)) (cluster (recOf n recs x)) 0) (declare (view n recs slots) i .out x) (cond (eqb x i) true (isSink (recOf n recs x))) (isWritten (recOf n recs x)) (recOf n recs x)
-          ≡ laidRecord (declare (view n recs slots) i .cluster x) (declare (view n recs slots) i .out x) (declare (view n recs slots) i .sink x)
+      fields : encodedRecord (cond (not (eqb (cluster (recOf n recs x)) number)) (cluster (recOf n recs x)) 0) (declare (view n recs slots) i .out x) (cond (eqb x i) true (isSink (recOf n recs x))) (isWritten (recOf n recs x)) (recOf n recs x)
+          ≡ encodedRecord (declare (view n recs slots) i .cluster x) (declare (view n recs slots) i .out x) (declare (view n recs slots) i .sink x)
           (declare (view n recs slots) i .written x) (recOf n recs x)
       fields = unfold declare view upd keep others in (rw same-number refl)
 
   -- what the rule lays into the record of x, and what the last step makes of it
   abbrev lays : ℕ → ℕ → ℕ
   lays x r =
-      laidRecord (declare (view n recs slots) i .cluster x) (declare (view n recs slots) i .out x) (declare (view n recs slots) i .sink x)
+      encodedRecord (declare (view n recs slots) i .cluster x) (declare (view n recs slots) i .out x) (declare (view n recs slots) i .sink x)
       (declare (view n recs slots) i .written x) r
 
   abbrev makes : ℕ → ℕ → ℕ
@@ -344,10 +308,10 @@ module _ (n i : ℕ) (recs slots : List ℕ) (p : 1 ≤ i) (q : i ≤ n) (l : n 
       ∙ getD-set-other recs (i - 1) m (withSink true (getD recs (i - 1) 0)) 0 (λ (z : m ≡ i - 1). omega arith)
 
   -- the three steps leave what the rule lays
-  pub sunk : madeExact n slots split ≡ laid (declare (view n recs slots) i) recs
+  pub sunk : madeExact n slots split ≡ encoded (declare (view n recs slots) i) recs
   sunk =
       let a : madeExact n slots split ≡ eachFrom 1 n makes split = unfold madeExact eachRecord in refl in
-      let b : laid (declare (view n recs slots) i) recs ≡ eachFrom 1 n lays recs = unfold laid eachRecord declare view in refl in
+      let b : encoded (declare (view n recs slots) i) recs ≡ eachFrom 1 n lays recs = unfold encoded eachRecord declare view in refl in
       a
       ∙ ext-getD 0 (eachFrom 1 n makes split) (eachFrom 1 n lays recs) (length-each 1 n makes split ∙ split-long ∙ sym (length-each 1 n lays recs))
       (λ m h. go m (decLt m n))
@@ -355,7 +319,7 @@ module _ (n i : ℕ) (recs slots : List ℕ) (p : 1 ≤ i) (q : i ≤ n) (l : n 
     where
       go : (m : ℕ) → Dec (m < n) → getD (eachFrom 1 n makes split) m 0 ≡ getD (eachFrom 1 n lays recs) m 0
       go m (yes h) =
-          get-each 1 n makes split m 0 h (rw split-long (omega arith)) ∙ ap (makes (1 + m)) (sym (recOf-place n split m h) ∙ split-at (1 + m)) ∙ laid-at (1 + m)
+          get-each 1 n makes split m 0 h (rw split-long (omega arith)) ∙ ap (makes (1 + m)) (sym (recOf-place n split m h) ∙ split-at (1 + m)) ∙ encoded-at (1 + m)
           ∙ ap (lays (1 + m)) (recOf-place n recs m h)
           ∙ sym (get-each 1 n lays recs m 0 h (omega arith))
       go m (no h) =
@@ -369,7 +333,7 @@ module _ (c : Control) (i : ℕ) (recs slots roots : List ℕ) (k : ℕ) (e : k 
   refused z = sym (outcome-number _ _ (declareTests c i recs slots roots) k (sym e) z)
 
   module _ (z : k ≡ 0) where
-    accepted : (recs′ : List ℕ) → recs′ ≡ cond (isSink (recOf (c .n) recs i)) recs (laid (declare (view (c .n) recs slots) i) recs)
+    accepted : (recs′ : List ℕ) → recs′ ≡ cond (isSink (recOf (c .n) recs i)) recs (encoded (declare (view (c .n) recs slots) i) recs)
         → gives (record { refusal = 0; control = c }) recs′ ≡ declareSink c i recs slots roots
     unfolding declareSink
     accepted recs′ h =

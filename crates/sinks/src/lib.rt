@@ -6,7 +6,6 @@ ghost use Rattle.rules.specs.DeclareSink as DeclareSink;
 ghost use Rattle.sinks.specs.Sinks.{madeExact};
 use layout::answers::Control;
 use layout::answers::Done;
-use layout::limits::slots_len;
 use layout::limits::within;
 use layout::refusals::BAD_CONTROL;
 use layout::refusals::DAMAGED;
@@ -18,6 +17,7 @@ use records::cluster_of;
 use records::is_sink;
 use records::with_out;
 use records::with_sink;
+use table::check::short_heap;
 use table::check::well_formed;
 use table::clusters::dissolve;
 use table::clusters::exact_out;
@@ -30,13 +30,13 @@ fn declare_refusal(c: Control, object: u32, records: &[u32], slots: &[u32], root
     if bad_control(c) {
         return BAD_CONTROL;
     }
-    if records.len() < c.n as usize || slots.len() < slots_len(c.n) || roots.len() < c.r as usize {
+    if short_heap(c.n, c.r, records, slots, roots) {
         return TOO_SHORT;
     }
     if !within(1, c.n, object) {
         return NO_OBJECT;
     }
-    if !well_formed(c.n, c.r, records, slots, roots) {
+    if !well_formed(c, records, slots, roots) {
         return DAMAGED;
     }
     if record_of(c.n, object, records) == 0 {

@@ -13,26 +13,32 @@ use lib.ListN.{length, getD, take, drop, set, drop-of-length-le}
 use lib.Seq.{set-out, drop-cons}
 use Rattle.layout.specs.Limits.{mapLen, slotsLen}
 use Rattle.records.specs.Record.{inUse, isMarked}
-use Rattle.bitmap.specs.Bits.{setBits, numbersIn, bitsOf, wordOf}
+use Rattle.graph.specs.Numbers.{bit}
+use Rattle.bitmap.specs.Bits.{setBits, numbersIn, bitsOf}
 use Rattle.bitmap.proofs.BitLaws.{bitsOf-lt, setBits-step, setBits-none}
-use Rattle.rules.specs.Buffers.{recOf, eachFrom, zeros}
+use Rattle.rules.specs.Buffers.{recOf, zeros}
+use Rattle.rules.specs.Sweep.{freed}
 use Rattle.rules.proofs.PassLaws.{passFrom}
 use Rattle.rules.proofs.BufferLaws.{zeros-from}
 use Rattle.table.specs.Cleared.{cleared}
-use Rattle.sweep.specs.Sweep.{freedAt, freedMap, inTurn, clearRecord, clearSlots}
+use Rattle.sweep.specs.Sweep.{markedAt, freedAt, inTurn, clearRecord, clearSlots}
 
 -- ---- the test
 
 module _ (n x r : ℕ) (recs : List ℕ) (e : r ≡ recOf n recs x) where
   pub freed-used : (u m : Bool) → u ≡ inUse r → m ≡ isMarked r → u ≡ true → not m ≡ freedAt n recs x
-  unfolding freedAt
+  unfolding freed markedAt
   freed-used u m a b t = rw (← e, ← a, t, b) refl
 
   pub freed-none : (u : Bool) → u ≡ inUse r → u ≡ false → u ≡ freedAt n recs x
-  unfolding freedAt
+  unfolding freed markedAt
   freed-none u a t = rw (← e, ← a, t) refl
 
 -- ---- a word of the map, from its highest bit down
+
+bit-is : (b : Bool) → bit b ≡ cond b 1 0
+bit-is true = refl
+bit-is false = refl
 
 module _ (t : ℕ → Bool) (base b word : ℕ) (p : 0 < b) (q : b ≤ 64) (e : word ≡ bitsOf t (base + b) (64 - b)) where
   pub bits-room : word < 2 ^ 63
@@ -41,22 +47,14 @@ module _ (t : ℕ → Bool) (base b word : ℕ) (p : 0 < b) (q : b ≤ 64) (e : 
       let m : 2 ^ (64 - b) ≤ 2 ^ 63 = pow-mono {i = 64 - b} {j = 63} (omega arith) in
       omega (arith, e, l, m)
 
-  pub bits-down : word * 2 + cond (t (base + (b - 1))) 1 0 ≡ bitsOf t (base + (b - 1)) (64 - (b - 1))
+  pub bits-down : word * 2 + bit (t (base + (b - 1))) ≡ bitsOf t (base + (b - 1)) (64 - (b - 1))
   unfolding bitsOf
   bits-down =
       let s : 64 - (b - 1) ≡ suc (64 - b) = omega arith in
       let n : suc (base + (b - 1)) ≡ base + b = omega arith in
-      rw (s, n, ← e) (omega arith)
-
-pub one-most : (b : Bool) → cond b 1 0 ≤ 1
-one-most true = omega arith
-one-most false = omega arith
+      rw (s, n, ← e, bit-is (t (base + (b - 1)))) (omega arith)
 
 -- ---- the map
-
-pub map-start : (n : ℕ) (recs map : List ℕ) → eachFrom 0 (mapLen n) (λ j w. wordOf (freedAt n recs) j) map ≡ freedMap n recs map
-unfolding freedMap
-map-start n recs map = refl
 
 pub map-most : (n : ℕ) → n ≤ 4095 → mapLen n ≤ 64
 unfolding mapLen

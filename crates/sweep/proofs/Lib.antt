@@ -4,6 +4,6 @@ pub mod PassingLaws
 pub mod MarkLaws
 -- ---- the freed map and the freed objects
 pub mod FreedLaws
+-- ---- the whole sweep
+pub mod UnflaggedLaws
 pub mod SweptLaws
--- ---- the sweep of the rules
-pub mod SweepLaws

@@ -12,13 +12,14 @@ use borrow.Author.Tests.{eq-eqb, ne-eqb}
 use Rattle.layout.specs.Field.{field, flag}
 use Rattle.records.specs.Record.{isMarked, isReached, withMarked, withPostponed, withReached, cluster, loose}
 use Rattle.layout.proofs.FieldLaws.{flag-put-other, flag-put-same, flag-put-put}
-use Rattle.records.proofs.RecordLaws.{loose-flag, cluster-put-flag}
+use Rattle.records.proofs.RecordLaws.{loose-flag}
 use Rattle.graph.specs.Numbers.{Obj, bit, sum, count}
 use Rattle.rules.specs.Buffers.{recOf, eachFrom, eachRecord}
+use Rattle.rules.specs.Sweep.{keptRecord}
 use Rattle.rules.proofs.ListLaws.{recOf-each, each-same}
 use Rattle.rules.proofs.BufferLaws.{recOf-get}
 use Rattle.rules.proofs.StoreLaws.{recOf-past}
-use Rattle.sweep.specs.Sweep.{markedAt, markedCount, memberMarked, membersMarked, headKept, bareWord, bare}
+use Rattle.sweep.specs.Sweep.{markedAt, markedCount, memberMarked, membersMarked, unflaggedRecord, unflagged}
 use Rattle.rules.proofs.ListLaws.{each-each}
 use Rattle.sweep.proofs.PassingLaws.{Keeps}
 
@@ -74,17 +75,17 @@ module _ (n r c : ℕ) (recs : List ℕ) (e : c ≡ cluster r) where
     unfolding memberMarked
     member-left t = rw (← e, ne-eqb c 0 h, ← d, t) refl
 
-  pub head-none : c ≡ 0 → r ≡ headKept n recs r
-  unfolding headKept
+  pub head-none : c ≡ 0 → r ≡ keptRecord (markedAt n recs) r
+  unfolding keptRecord markedAt
   head-none z = rw (← e, eq-eqb c 0 z) refl
 
   module _ (h : c ≢ 0) (a : Bool) (d : a ≡ isMarked (recOf n recs c)) where
-    pub head-marked : a ≡ true → r ≡ headKept n recs r
-    unfolding headKept
+    pub head-marked : a ≡ true → r ≡ keptRecord (markedAt n recs) r
+    unfolding keptRecord markedAt
     head-marked t = rw (← e, ne-eqb c 0 h, ← d, t) refl
 
-    pub head-freed : a ≡ false → loose r ≡ headKept n recs r
-    unfolding headKept
+    pub head-freed : a ≡ false → loose r ≡ keptRecord (markedAt n recs) r
+    unfolding keptRecord markedAt
     head-freed t = rw (← e, ne-eqb c 0 h, ← d, t) refl
 
 -- ---- neither changes what it reads
@@ -94,8 +95,8 @@ module _ (n r : ℕ) (recs₀ recs : List ℕ) where
   unfolding memberMarked
   member-same h = rw (h (cluster r)) refl
 
-  pub head-same : Keeps isMarked n recs₀ recs → headKept n recs r ≡ headKept n recs₀ r
-  unfolding headKept
+  pub head-same : Keeps isMarked n recs₀ recs → keptRecord (markedAt n recs) r ≡ keptRecord (markedAt n recs₀) r
+  unfolding keptRecord markedAt
   head-same h = rw (h (cluster r)) refl
 
 module _ (n r : ℕ) (recs : List ℕ) where
@@ -107,8 +108,8 @@ module _ (n r : ℕ) (recs : List ℕ) where
       go true = flag-put-other 4 true r 6 (λ (q : 4 ≡ 6). omega arith)
       go false = refl
 
-  pub head-mark : isMarked (headKept n recs r) ≡ isMarked r
-  unfolding headKept
+  pub head-mark : isMarked (keptRecord (markedAt n recs) r) ≡ isMarked r
+  unfolding keptRecord markedAt
   head-mark = go (eqb (cluster r) 0 || isMarked (recOf n recs (cluster r)))
     where
       go : (b : Bool) → isMarked (cond b r (loose r)) ≡ isMarked r
@@ -121,29 +122,29 @@ pub members-all : (n : ℕ) (recs₀ recs : List ℕ) → recs ≡ eachRecord n 
 unfolding membersMarked
 members-all n recs₀ recs e = e
 
-pub bare-start : (n : ℕ) (recs : List ℕ) → eachFrom 1 n (λ x r. bareWord r) recs ≡ bare n recs
-unfolding bare eachRecord
-bare-start n recs = refl
+pub unflagged-start : (n : ℕ) (recs : List ℕ) → eachFrom 1 n (λ x r. unflaggedRecord r) recs ≡ unflagged n recs
+unfolding unflagged eachRecord
+unflagged-start n recs = refl
 
-pub bare-by : (r a b c : ℕ) → a ≡ withMarked false r → b ≡ withPostponed false a → c ≡ withReached false b → c ≡ bareWord r
-unfolding bareWord
-bare-by r a b c p q s = s ∙ ap (withReached false) (q ∙ ap (withPostponed false) p)
+pub unflagged-by : (r a b c : ℕ) → a ≡ withMarked false r → b ≡ withPostponed false a → c ≡ withReached false b → c ≡ unflaggedRecord r
+unfolding unflaggedRecord
+unflagged-by r a b c p q s = s ∙ ap (withReached false) (q ∙ ap (withPostponed false) p)
 
 -- ---- what is read after the members are marked
 
 module _ (n : ℕ) (recs : List ℕ) where
-  pub bare-members : bare n (membersMarked n recs) ≡ bare n recs
-  unfolding bare membersMarked eachRecord
-  bare-members =
-      each-each 1 n (λ x r. memberMarked n recs r) (λ x r. bareWord r) recs
-      ∙ each-same 1 n (λ x r. bareWord (memberMarked n recs r)) (λ x r. bareWord r) recs (λ x r p q. bare-member r)
+  pub unflagged-members : unflagged n (membersMarked n recs) ≡ unflagged n recs
+  unfolding unflagged membersMarked eachRecord
+  unflagged-members =
+      each-each 1 n (λ x r. memberMarked n recs r) (λ x r. unflaggedRecord r) recs
+      ∙ each-same 1 n (λ x r. unflaggedRecord (memberMarked n recs r)) (λ x r. unflaggedRecord r) recs (λ x r p q. unflagged-member r)
     where
-      go : (b : Bool) (r : ℕ) → bareWord (cond b (withMarked true r) r) ≡ bareWord r
-      go true r = unfold bareWord in ap (λ (s : ℕ). withReached false (withPostponed false s)) (flag-put-put 4 true false r)
+      go : (b : Bool) (r : ℕ) → unflaggedRecord (cond b (withMarked true r) r) ≡ unflaggedRecord r
+      go true r = unfold unflaggedRecord in ap (λ (s : ℕ). withReached false (withPostponed false s)) (flag-put-put 4 true false r)
       go false r = refl
 
-      bare-member : (r : ℕ) → bareWord (memberMarked n recs r) ≡ bareWord r
-      bare-member r = unfold memberMarked in go (not (eqb (cluster r) 0) && isReached (recOf n recs (cluster r))) r
+      unflagged-member : (r : ℕ) → unflaggedRecord (memberMarked n recs r) ≡ unflaggedRecord r
+      unflagged-member r = unfold memberMarked in go (not (eqb (cluster r) 0) && isReached (recOf n recs (cluster r))) r
 
   module _ (long : n ≤ length recs) (x : ℕ) (o : Obj n x) where
     -- marked before, or a member of a cluster whose head is reached
@@ -165,13 +166,3 @@ module _ (n : ℕ) (recs : List ℕ) where
             none : (d : Bool) → d ≡ d || false
             none true = refl
             none false = refl
-
-    pub members-cluster : cluster (recOf n (membersMarked n recs) x) ≡ cluster (recOf n recs x)
-    unfolding membersMarked memberMarked
-    members-cluster =
-        ap cluster (recOf-each n (λ y r. memberMarked n recs r) recs x (o .0) (o .1) long)
-        ∙ go (not (eqb (cluster (recOf n recs x)) 0) && isReached (recOf n recs (cluster (recOf n recs x)))) (recOf n recs x)
-      where
-        go : (b : Bool) (r : ℕ) → cluster (cond b (withMarked true r) r) ≡ cluster r
-        go true r = cluster-put-flag 4 true r refl
-        go false r = refl

@@ -2,12 +2,12 @@
 use Prim.Native.Nat.{ℕ, zero, suc, _+_, _-_, _≤_, _<_}
 use mathlib.Core.Path.{_≡_, refl, sym, ap, _∙_}
 use mathlib.Core.Bool.{Bool}
-use mathlib.Core.List.{List, [], _∷_, _++_, append-nil}
+use mathlib.Core.List.{List}
 use native.Mathlib.Numerals.{add-one}
 use native.Mathlib.Decide.{ℕ-discrete}
 use native.Mathlib.Omega.{arith}
-use lib.ListN.{length, getD, take, set, length-set, length-take, drop-of-length-le}
-use lib.Seq.{take-all, take-set-lt, getD-take, getD-set-same, getD-set-other}
+use lib.ListN.{length, getD, take, set, length-set, length-take}
+use lib.Seq.{take-set-lt, getD-take, getD-set-same, getD-set-other}
 use Rattle.rules.specs.Buffers.{recOf, eachFrom, eachRecord}
 use Rattle.rules.proofs.PassLaws.{passFrom, pass-begin, pass-turn, pass-end, pass-past}
 

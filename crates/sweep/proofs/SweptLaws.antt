@@ -1,23 +1,27 @@
 -- The pieces of the sweep, one after the other, are the sweep of the definitions. Assumes nothing.
 use Prim.Native.Nat.{ℕ, zero, suc, _+_, _-_, _*_, _/_, _≤_, _<_}
-use mathlib.Core.Path.{_≡_, refl, sym, ap, ap₂, _∙_}
-use mathlib.Core.Bool.{Bool, true, false, cond}
+use mathlib.Core.Path.{_≡_, refl, sym, ap, ap₂, _∙_, fun-ext}
+use mathlib.Core.Bool.{Bool, true, false, not, cond, _&&_}
 use mathlib.Core.List.{List, [], _∷_, _++_, append-nil}
 use native.Mathlib.Omega.{arith}
 use lib.ListN.{length, getD, take, drop, set, length-set, length-append, length-take, take-append-drop}
 use lib.Seq.{length-take-le, take-all}
 use borrow.Author.Tests.{le-leb, lt-leb, lt-ltb, le-ltb}
 use Rattle.layout.specs.Limits.{slotsLen, mapLen}
-use Rattle.layout.specs.Field.{field, flag, putFlag, put, digit}
+use Rattle.layout.specs.Field.{field, flag}
+use Rattle.records.specs.Record.{inUse}
 use Rattle.bitmap.specs.Bits.{numbersIn, wordOf, mapMax}
 use Rattle.bitmap.proofs.BitLaws.{passers, passers-add, numbersIn-words}
 use Rattle.graph.specs.Numbers.{bit, sum, count}
 use Rattle.rules.specs.Buffers.{short, recOf, eachFrom, eachRecord, eachSlot}
+use Rattle.rules.specs.Sweep.{Swept, freed, keptRecord, sweptRecord, sweep}
+use Rattle.rules.proofs.SweepLaws.{sweep-alike}
 use Rattle.rules.proofs.ListLaws.{length-each, get-each, take-each, each-same, each-id, recOf-above}
 use Rattle.rules.proofs.PassLaws.{passFrom, pass-begin, pass-turn, pass-skip, pass-end}
 use Rattle.rules.proofs.StoreLaws.{recOf-zero}
 use Rattle.table.specs.Cleared.{cleared}
-use Rattle.sweep.specs.Sweep.{bareWord, bare, freedAt, freedCount, headKept, keptRecord, sweptRecords, sweptSlots, freedMap, fits, Swept, inTurn, clearRecord, clearSlots}
+use Rattle.sweep.specs.Sweep.{unflaggedRecord, unflagged, markedAt, markedCount, freedAt, byMarks, fits, AfterSweep, Marked, inTurn, clearRecord, clearSlots}
+use Rattle.sweep.proofs.UnflaggedLaws.{unflagged-used, unflagged-freed, unflagged-kept, rec-unflagged}
 use Rattle.sweep.proofs.FreedLaws.{eight-pass}
 use Rattle.rules.proofs.ListLaws.{each-each}
 
@@ -143,11 +147,11 @@ part-whole n map part p e = take-all 64 part (let a = length-take (n / 64 + 1) m
 
 module _ (n : ℕ) (recs : List ℕ) where
   unused : (x : ℕ) → recOf n recs x ≡ 0 → freedAt n recs x ≡ false
-  unfolding freedAt flag field
+  unfolding freed flag field
   unused x e = rw e refl
 
-  freed-numbers : (map : List ℕ) → mapLen n ≤ length map → numbersIn 0 (take (mapLen n) (freedMap n recs map)) ≡ passers (freedAt n recs) 1 n
-  unfolding freedMap
+  freed-numbers : (map : List ℕ) → mapLen n ≤ length map
+      → numbersIn 0 (take (mapLen n) (eachFrom 0 (mapLen n) (λ j w. wordOf (freedAt n recs) j) map)) ≡ passers (freedAt n recs) 1 n
   freed-numbers map p =
       let k = mapLen n in
       let f : ℕ → ℕ → ℕ = λ j w. wordOf (freedAt n recs) j in
@@ -160,31 +164,38 @@ module _ (n : ℕ) (recs : List ℕ) where
       numbersIn-words (freedAt n recs) ws 0 word ∙ ap (λ (m : ℕ). passers (freedAt n recs) 0 (64 * m)) size
       ∙ within-n (freedAt n recs) n (64 * k) (unused 0 (recOf-zero n recs)) (λ x q. unused x (recOf-above n recs x q)) (more n)
 
-  bare-freed : (d : Bool) (r : ℕ) → bareWord (cond d 0 r) ≡ cond d 0 (bareWord r)
-  unfolding bareWord putFlag put digit
-  bare-freed true r = refl
-  bare-freed false r = refl
+  module _ (long : n ≤ length recs) where
+    abbrev m : ℕ → Bool
+    m = markedAt n recs
 
-  pub swept-records : n ≤ length recs
-      → bare n (inTurn clearRecord (passers (freedAt n recs) 1 n) (eachRecord n (λ x r. headKept n recs r) recs)) ≡ sweptRecords n recs
-  unfolding bare eachRecord sweptRecords keptRecord
-  swept-records p =
-      let t = freedAt n recs in
-      let kept = eachFrom 1 n (λ x r. headKept n recs r) recs in
-      let l = length-each 1 n (λ x r. headKept n recs r) recs in
-      ap (eachFrom 1 n (λ x r. bareWord r)) (records-cleared t n 0 kept (omega (arith, l)) ∙ pass-begin 1 n (λ x r. cond (t x) 0 r) kept)
-      ∙ each-each 1 n (λ x r. cond (t x) 0 r) (λ x r. bareWord r) kept
-      ∙ each-each 1 n (λ x r. headKept n recs r) (λ x r. bareWord (cond (t x) 0 r)) recs
-      ∙ each-same 1 n (λ x r. bareWord (cond (t x) 0 (headKept n recs r))) (λ x r. cond (t x) 0 (bareWord (headKept n recs r))) recs (λ x r a b. bare-freed (t x) (headKept n recs r))
+    -- the flags say nothing of who is in use
+    pub freed-same : freedAt n recs ≡ freed n (unflagged n recs) m
+    unfolding freed
+    freed-same = fun-ext (λ x. ap (λ (u : Bool). u && not (m x)) (sym (ap inUse (rec-unflagged n recs long x) ∙ unflagged-used (recOf n recs x))))
 
-  pub swept-slots : (slots : List ℕ) → slotsLen n ≤ length slots → inTurn clearSlots (passers (freedAt n recs) 1 n) slots ≡ sweptSlots n recs slots
-  unfolding slotsLen sweptSlots eachSlot
+    pub swept-records : unflagged n (inTurn clearRecord (passers (freedAt n recs) 1 n) (eachRecord n (λ x r. keptRecord m r) recs))
+        ≡ eachRecord n (sweptRecord n (unflagged n recs) m m) (unflagged n recs)
+    unfolding unflagged eachRecord sweptRecord
+    swept-records =
+        let t = freedAt n recs in
+        let kept = eachFrom 1 n (λ x r. keptRecord m r) recs in
+        let l = length-each 1 n (λ x r. keptRecord m r) recs in
+        ap (eachFrom 1 n (λ x r. unflaggedRecord r)) (records-cleared t n 0 kept (omega (arith, l)) ∙ pass-begin 1 n (λ x r. cond (t x) 0 r) kept)
+        ∙ each-each 1 n (λ x r. cond (t x) 0 r) (λ x r. unflaggedRecord r) kept
+        ∙ each-each 1 n (λ x r. keptRecord m r) (λ x r. unflaggedRecord (cond (t x) 0 r)) recs
+        ∙ each-same 1 n (λ x r. unflaggedRecord (cond (t x) 0 (keptRecord m r))) (λ x r. cond (freed n (unflagged n recs) m x) 0 (keptRecord m (unflaggedRecord r))) recs
+        (λ x r a b. unflagged-freed (t x) (keptRecord m r) ∙ (λ i. cond (freed-same i x) 0 (unflagged-kept m r i)))
+        ∙ sym (each-each 1 n (λ x r. unflaggedRecord r) (λ x r. cond (freed n (unflagged n recs) m x) 0 (keptRecord m r)) recs)
+
+  pub swept-slots : (slots : List ℕ) → slotsLen n ≤ length slots
+      → inTurn clearSlots (passers (freedAt n recs) 1 n) slots ≡ eachSlot n (λ x w. cond (freedAt n recs x) 0 w) slots
+  unfolding slotsLen eachSlot
   swept-slots slots p = slots-cleared (freedAt n recs) n 0 slots (omega arith) ∙ pass-begin 0 (8 * n) (clearedAt (freedAt n recs)) slots
 
 -- ---- where the slices are long enough, and where one is not
 
 module _ (n : ℕ) (recs slots map : List ℕ) where
-  pub refused : fits n recs slots map ≡ false → Swept n recs slots map recs slots map 0
+  pub refused : fits n recs slots map ≡ false → AfterSweep n recs slots map recs slots map 0
   refused e = record { records = rw e refl; slotWords = rw e refl; mapWords = rw e refl; freed = rw e refl }
 
   pub too-many : 4095 < n → fits n recs slots map ≡ false
@@ -214,21 +225,44 @@ module _ (n : ℕ) (recs slots map : List ℕ) where
               rw
               (le-leb n 4095 most, le-ltb (length recs) n long, le-ltb (length slots) (slotsLen n) wide, le-ltb (length map) (mapLen n) room) refl
 
-          pub swept : (recs₁ recs₂ recs₃ slots₁ map₁ part : List ℕ) (k : ℕ) → map₁ ≡ freedMap n recs map → part ≡ take (mapLen n) map₁
-              → k ≡ length (numbersIn 0 (take mapMax part)) → recs₁ ≡ eachRecord n (λ x r. headKept n recs r) recs
+          pub swept : (recs₁ recs₂ recs₃ slots₁ map₁ part : List ℕ) (k : ℕ)
+              → map₁ ≡ eachFrom 0 (mapLen n) (λ j w. wordOf (freedAt n recs) j) map → part ≡ take (mapLen n) map₁
+              → k ≡ length (numbersIn 0 (take mapMax part)) → recs₁ ≡ eachRecord n (λ x r. keptRecord (markedAt n recs) r) recs
               → recs₂ ≡ inTurn clearRecord (numbersIn 0 part) recs₁ → slots₁ ≡ inTurn clearSlots (numbersIn 0 part) slots
-              → recs₃ ≡ bare n recs₂ → Swept n recs slots map recs₃ slots₁ map₁ k
+              → recs₃ ≡ unflagged n recs₂ → AfterSweep n recs slots map recs₃ slots₁ map₁ k
+          unfolding sweep
           swept recs₁ recs₂ recs₃ slots₁ map₁ part k em ep ek e₁ e₂ es e₃ =
               let t = freedAt n recs in
               let nums : numbersIn 0 part ≡ passers t 1 n = ap (numbersIn 0) (ep ∙ ap (take (mapLen n)) em) ∙ freed-numbers n recs map room in
               let whole : take mapMax part ≡ part = part-whole n map₁ part most ep in
+              let f = freed-same n recs long in
               record {
-                records =
-                    rw all-fit (e₃ ∙ ap (bare n) (e₂ ∙ ap₂ (inTurn clearRecord) nums e₁) ∙ swept-records n recs long);
-                slotWords = rw all-fit (es ∙ ap (λ l. inTurn clearSlots l slots) nums ∙ swept-slots n recs slots wide);
-                mapWords = rw all-fit em;
-                freed = rw all-fit (ek ∙ ap (λ l. length (numbersIn 0 l)) whole ∙ ap length nums ∙ counted);
+                records = rw all-fit (e₃ ∙ ap (unflagged n) (e₂ ∙ ap₂ (inTurn clearRecord) nums e₁) ∙ swept-records n recs long);
+                slotWords = rw all-fit (es ∙ ap (λ l. inTurn clearSlots l slots) nums ∙ swept-slots n recs slots wide
+                    ∙ ap (λ (d : ℕ → Bool). eachSlot n (λ x w. cond (d x) 0 w) slots) f);
+                mapWords = rw all-fit (em ∙ ap (λ (d : ℕ → Bool). eachFrom 0 (mapLen n) (λ j w. wordOf d j) map) f);
+                freed = rw all-fit (ek ∙ ap (λ l. length (numbersIn 0 l)) whole ∙ ap length nums ∙ passers-count t n ∙ ap (count n) f);
               }
-            where
-              counted : length (passers (freedAt n recs) 1 n) ≡ freedCount n recs
-              counted = unfold freedCount in passers-count (freedAt n recs) n
+
+-- ---- where the marks say who is kept and whose head is reached, it is the sweep of the rules by that
+
+module _ (n : ℕ) (recs₀ recs slots map : List ℕ) (kept heads : ℕ → Bool) (h : Marked n recs₀ recs kept heads) where
+  marked-sweep : byMarks n recs slots map ≡ sweep n recs₀ slots map kept heads
+  marked-sweep =
+      ap (λ (l : List ℕ). sweep n l slots map (markedAt n recs) (markedAt n recs)) (h .same)
+      ∙ sym (sweep-alike n recs₀ slots map kept heads (markedAt n recs) (markedAt n recs) (h .kept-is) (h .heads-is))
+
+  pub kept-ruled : markedCount n recs ≡ sweep n recs₀ slots map kept heads .kept
+  unfolding markedCount sweep
+  kept-ruled = ap (λ (s : Swept). s .kept) marked-sweep
+
+  pub sweep-ruled : n ≤ 4095 → n ≤ length recs → slotsLen n ≤ length slots → mapLen n ≤ length map → (recs′ slots′ map′ : List ℕ) (k : ℕ)
+      → AfterSweep n recs slots map recs′ slots′ map′ k
+      → let s = sweep n recs₀ slots map kept heads in (recs′ ≡ s .records) × (slots′ ≡ s .slots) × (map′ ≡ s .map) × (k ≡ s .freed)
+  sweep-ruled most long wide room recs′ slots′ map′ k l =
+      let f = all-fit n recs slots map most long wide room in (
+        (rw f at (l .records)) ∙ ap (λ (s : Swept). s .records) marked-sweep,
+        (rw f at (l .slotWords)) ∙ ap (λ (s : Swept). s .slots) marked-sweep,
+        (rw f at (l .mapWords)) ∙ ap (λ (s : Swept). s .map) marked-sweep,
+        (rw f at (l .freed)) ∙ ap (λ (s : Swept). s .freed) marked-sweep,
+      )

@@ -1,10 +1,10 @@
 // The freed map, and the freeing by it.
 ghost use mathlib.Core.Path.{_≡_};
-ghost use mathlib.Core.Bool.{cond};
 ghost use Prim.Native.Nat.{_≤_};
 ghost use lib.ListN.{length};
 ghost use Rattle.layout.specs.Limits.{objectMax, mapLen};
 ghost use Rattle.bitmap.specs.Bits.{wordOf, setBits, numbersIn};
+ghost use Rattle.rules.specs.Buffers.{eachFrom};
 ghost use Rattle.sweep.specs.Sweep as S;
 use bitmap::lowest_bit;
 use bitmap::without_lowest;
@@ -23,12 +23,6 @@ fn is_freed(n: u32, x: u32, records: &[u32]) -> bool
     in_use(r) && !is_marked(r)
 }
 
-fn one_if(b: bool) -> u64
-    ensures { λ k. ⌜ k ≡ cond b 1 0 ⌝ }
-{
-    if b { 1 } else { 0 }
-}
-
 // Word j of the freed map, from its highest bit down.
 fn freed_word(n: u32, j: u32, records: &[u32]) -> u64
     requires { ⌜ j ≤ 64 ⌝ }
@@ -38,7 +32,7 @@ fn freed_word(n: u32, j: u32, records: &[u32]) -> u64
     let mut b: u32 = 64;
     while 0 < b {
         b -= 1;
-        word = word * 2 + one_if(is_freed(n, 64 * j + b, records));
+        word = word * 2 + is_freed(n, 64 * j + b, records) as u64;
     }
     word
 }
@@ -47,7 +41,7 @@ fn freed_word(n: u32, j: u32, records: &[u32]) -> u64
 pub(crate) fn fill_map(n: u32, records: &[u32], map: &mut [u64])
     requires { ⌜ n ≤ objectMax ⌝ }
     requires { ⌜ mapLen n ≤ length (now map) ⌝ }
-    ensures { λ _. ⌜ now (map .exit) ≡ S.freedMap n (now (records .entry)) (now (map .entry)) ⌝ }
+    ensures { λ _. ⌜ now (map .exit) ≡ eachFrom 0 (mapLen n) (λ j w. wordOf (S.freedAt n (now (records .entry))) j) (now (map .entry)) ⌝ }
 {
     let k = map_len(n);
     let mut j: usize = 0;

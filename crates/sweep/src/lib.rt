@@ -1,6 +1,7 @@
 // The sweep of every collection. After a walk the mark of a record says that its object is kept; the sweep needs nothing else of the walk.
 ghost use mathlib.Core.Path.{_≡_};
 ghost use Rattle.rules.specs.Buffers.{eachRecord};
+ghost use Rattle.rules.specs.Sweep.{keptRecord};
 ghost use Rattle.sweep.specs.Sweep as S;
 use bitmap::ones;
 use layout::limits::OBJECT_MAX;
@@ -67,20 +68,20 @@ pub fn mark_members(n: u32, records: &mut [u32])
 }
 
 // The record r without the three flags of a walk.
-fn bare(r: u32) -> u32
-    ensures { λ s. ⌜ s ≡ S.bareWord r ⌝ }
+fn unflagged_record(r: u32) -> u32
+    ensures { λ s. ⌜ s ≡ S.unflaggedRecord r ⌝ }
 {
     with_reached(with_postponed(with_marked(r, false), false), false)
 }
 
 // Takes the three flags off the first n records.
 fn clear_marks(n: u32, records: &mut [u32])
-    ensures { λ _. ⌜ now (records .exit) ≡ S.bare n (now (records .entry)) ⌝ }
+    ensures { λ _. ⌜ now (records .exit) ≡ S.unflagged n (now (records .entry)) ⌝ }
 {
     let m = n as usize;
     let mut i: usize = 0;
     while i < m && i < records.len() {
-        records[i] = bare(records[i]);
+        records[i] = unflagged_record(records[i]);
         i += 1;
     }
 }
@@ -89,7 +90,7 @@ fn clear_marks(n: u32, records: &mut [u32])
 
 // The record r, loose where its head is not marked.
 fn head_kept(n: u32, r: u32, records: &[u32]) -> u32
-    ensures { λ s. ⌜ s ≡ S.headKept n (now (records .entry)) r ⌝ }
+    ensures { λ s. ⌜ s ≡ keptRecord (S.markedAt n (now (records .entry))) r ⌝ }
 {
     let c = cluster_of(r);
     if c == 0 {
@@ -104,7 +105,7 @@ fn head_kept(n: u32, r: u32, records: &[u32]) -> u32
 
 // Dissolves every cluster whose head is not marked.
 fn dissolve(n: u32, records: &mut [u32])
-    ensures { λ _. ⌜ now (records .exit) ≡ eachRecord n (λ x r. S.headKept n (now (records .entry)) r) (now (records .entry)) ⌝ }
+    ensures { λ _. ⌜ now (records .exit) ≡ eachRecord n (λ x r. keptRecord (S.markedAt n (now (records .entry))) r) (now (records .entry)) ⌝ }
 {
     let m = n as usize;
     let mut i: usize = 0;
@@ -120,7 +121,7 @@ fn dissolve(n: u32, records: &mut [u32])
 // Frees what is in use and not marked, dissolves the clusters whose heads are not marked, takes the marks off, and answers how many
 // objects it freed; the map tells which. Where n is above 4,095 or a slice is too short it does nothing.
 pub fn sweep(n: u32, records: &mut [u32], slots: &mut [u32], map: &mut [u64]) -> u32
-    ensures { λ k. ⌜ S.Swept n (now (records .entry)) (now (slots .entry)) (now (map .entry)) (now (records .exit)) (now (slots .exit)) (now (map .exit)) k ⌝ }
+    ensures { λ k. ⌜ S.AfterSweep n (now (records .entry)) (now (slots .entry)) (now (map .entry)) (now (records .exit)) (now (slots .exit)) (now (map .exit)) k ⌝ }
 {
     if OBJECT_MAX < n {
         return 0;

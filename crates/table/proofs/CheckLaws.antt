@@ -1,17 +1,24 @@
 -- The check: what it has seen of an object after some of its slots, and what its answer is then. Assumes nothing.
 use Prim.Native.Nat.{ℕ, zero, suc, _+_, _-_, _*_, _≤_, _<_}
 use mathlib.Core.Path.{_≡_, refl, sym, ap, _∙_, fun-ext}
-use mathlib.Core.Bool.{Bool, true, false, not, cond, _&&_, _||_, Bool·beq, true≢false}
+use mathlib.Core.Bool.{Bool, true, false, not, cond, _&&_, _||_, Bool·beq, true≢false, and-false, and-assoc, or-false, or-assoc, or-true}
 use mathlib.Core.Logic.{_≢_}
 use mathlib.Core.List.{List, [], _∷_}
 use native.Mathlib.Decide.{decLe}
 use native.Mathlib.Omega.{arith}
 use native.Mathlib.Numerals.{add-one}
-use lib.Dec.{eqb, ltb, leb}
+use lib.Dec.{eqb, leb}
 use lib.ListN.{length, getD, take, drop, length-take, drop-of-length-le}
 use lib.Seq.{drop-cons, getD-take, getD-drop, take-nil, length-take-le}
-use borrow.Author.Tests.{le-leb, lt-leb, lt-ltb, le-ltb, ltb-false, eqb-true, eq-eqb, ne-eqb}
-use Rattle.layout.specs.Limits.{objectMax, slotsLen}
+use borrow.Author.Tests.{le-leb, lt-leb, ltb-false, eqb-true, eq-eqb, ne-eqb, not-false}
+use borrow.Rule.Slice.PartMut.{midOf, mid-len}
+use Rattle.layout.specs.declared.answers.Control.{Control}
+use Rattle.layout.specs.ControlRecord.{badControl}
+use Rattle.layout.specs.Limits.{objectMax, slotsLen, workLen}
+use Rattle.layout.specs.Refusal.{first}
+use Rattle.layout.proofs.BoolLaws.{or-split}
+use Rattle.layout.proofs.ControlLaws.{control-facts}
+use Rattle.layout.proofs.RefusalLaws.{first-passed}
 use Rattle.records.specs.Record.{inUse, isOut, width, cluster, free, legal}
 use Rattle.layout.specs.Word.{isNil, isPointer, isImmediate, legalWord, sortOf}
 use Rattle.layout.specs.declared.words.Word.{Word}
@@ -20,40 +27,22 @@ use Rattle.layout.proofs.WordLaws.{sort-nil, sort-pointer, sort-immediate, sort
 use Rattle.graph.specs.Clusters.{outCount, outBit}
 use Rattle.rules.specs.Buffers.{short, recOf, eight, usedWords, otherWords, allOf, allTo}
 use Rattle.rules.specs.View.{view, exactOut}
-use Rattle.rules.specs.WellFormed.{names, legalAt, emptyAt, wordsAt, headAt, outAt, rootsNamed, wellFormed, checked}
+use Rattle.rules.specs.WellFormed.{names, legalAt, emptyAt, wordsAt, headAt, outAt, rootsNamed, formed, wellFormed, checked}
 use Rattle.rules.proofs.ListLaws.{length-eight}
 use Rattle.rules.proofs.BufferLaws.{recOf-get}
-use Rattle.rules.proofs.WellFormedLaws.{allTo-and, allTo-fails, allTo-more, names-used}
-use Rattle.table.specs.Check.{Room, recordOk, headOk, slotOk, memberLeaves, outOk, objectOk, objectsOk, used, rootsOk}
+use Rattle.rules.proofs.WellFormedLaws.{Sane, formed-of, sane, allTo-and, allTo-fails, allTo-more, names-used}
+use Rattle.rules.proofs.SaneLaws.{sane-width}
+use Rattle.table.specs.Room.{Room, Sized, Accepted}
+use Rattle.table.specs.Check.{recordOk, headOk, slotOk, memberLeaves, outOk, objectOk, objectsOk, heapShort, heapTests}
 use Rattle.table.specs.Clusters.{wordLeaves, anyLeaves}
 use Rattle.table.proofs.ClusterLaws.{any-cons, nil-stays}
-
-and-false : (a : Bool) → (a && false) ≡ false
-and-false true = refl
-and-false false = refl
-
-and-assoc : (a b c : Bool) → ((a && b) && c) ≡ (a && (b && c))
-and-assoc true b c = refl
-and-assoc false b c = refl
-
-or-false : (a : Bool) → (a || false) ≡ a
-or-false true = refl
-or-false false = refl
-
-or-assoc : (a b c : Bool) → ((a || b) || c) ≡ (a || (b || c))
-or-assoc true b c = refl
-or-assoc false b c = refl
-
-or-true : (a : Bool) → (a || true) ≡ true
-or-true true = refl
-or-true false = refl
 
 -- ---- the words of an object, the first m of them used
 
 module _ (n : ℕ) (recs : List ℕ) where
   -- what may stand in a used slot
   abbrev good : ℕ → Bool
-  good w = isNil w || isImmediate w || used n recs w
+  good w = isNil w || isImmediate w || names n recs w
 
   unfoldable pub fine : ℕ → List ℕ → Bool
   fine m l = allOf isNil (drop m l) && allOf good (take m l)
@@ -152,7 +141,7 @@ module _ (n : ℕ) (recs slots : List ℕ) (i : ℕ) where
     empty-is = rw rec-is refl
 
     words-are : wordsAt n recs slots (suc i) ≡ allOf (good n recs) (take (width r) words)
-    unfolding wordsAt usedWords names used
+    unfolding wordsAt usedWords
     words-are = rw rec-is refl
 
     head-is : headAt n recs (suc i) ≡ headOk n recs r
@@ -212,7 +201,7 @@ module _ (n : ℕ) (recs slots : List ℕ) (i : ℕ) where
 
     module _ (R : Room n recs slots) (p : i < n) where
       long : length words ≡ 8
-      long = length-eight n slots (suc i) (omega arith) p (R .eights)
+      long = length-eight n slots (suc i) (omega arith) p (R .slots-long)
 
       module _ (k : ℕ) (leaving : Bool) (S : Seen k leaving) where
         module _ (q : k < 8) (v : ℕ) (ev : v ≡ getD slots (8 * i + k) 0) where
@@ -272,10 +261,10 @@ module _ (n : ℕ) (recs slots : List ℕ) where
   unfolding objectsOk
   objects-all i e h = sym (rw e at h)
 
-pub formed-parts : (n r : ℕ) (recs slots roots : List ℕ) → wellFormed n r recs slots roots ≡ (objectsOk n recs slots && rootsOk n r recs roots)
-unfolding wellFormed objectsOk objectOk rootsNamed names rootsOk used
+pub formed-parts : (n r : ℕ) (recs slots roots : List ℕ) → formed n r recs slots roots ≡ (objectsOk n recs slots && rootsNamed n r recs roots)
+unfolding formed objectsOk objectOk
 formed-parts n r recs slots roots =
-    ap (λ (b : Bool). b && rootsOk n r recs roots)
+    ap (λ (b : Bool). b && rootsNamed n r recs roots)
     (sym
     (allTo-and n (λ x. legalAt n recs x && emptyAt n recs slots x && wordsAt n recs slots x && headAt n recs x) (outAt n recs slots)
     ∙ ap (λ (b : Bool). b && allTo n (outAt n recs slots))
@@ -330,7 +319,7 @@ module _ (n : ℕ) (recs : List ℕ) (w k v : ℕ) where
   allowed Illegal = false
 
   pub slot-sorted : n ≤ objectMax → k < w → allowed (sortOf n v) ≡ slotOk n recs w k v
-  unfolding slotOk used
+  unfolding slotOk names
   slot-sorted h l = rw (lt-leb w k l) (go (isNil v) (isPointer n v) (isImmediate v) refl refl refl)
     where
       go : (a b c : Bool) → isNil v ≡ a → isPointer n v ≡ b → isImmediate v ≡ c → allowed (sortOf n v) ≡ (a || c || (b && inUse (recOf n recs v)))
@@ -353,8 +342,8 @@ module _ (n r : ℕ) (recs roots : List ℕ) where
   unfoldable pub rootsFrom : ℕ → Bool
   rootsFrom j = allOf rootOk (drop j (take r roots))
 
-  pub roots-begin : rootsFrom 0 ≡ rootsOk n r recs roots
-  unfolding rootsFrom rootsOk used
+  pub roots-begin : rootsFrom 0 ≡ rootsNamed n r recs roots
+  unfolding rootsFrom rootsNamed names
   roots-begin =
       ap (λ (t : ℕ → Bool). allOf t (take r roots)) (fun-ext {A = ℕ} {B = λ _. Bool} (λ v. ap (λ (b : Bool). isNil v || b) (sym (unfold names in (names-used n recs v)))))
 
@@ -382,37 +371,96 @@ module _ (n r : ℕ) (recs roots : List ℕ) where
 
 -- ---- the ends of the whole check
 
-pub room-of : (n : ℕ) (recs slots : List ℕ) → n ≤ objectMax → n ≤ length recs → (s : ℕ) → s ≡ slotsLen n → ltb (length slots) s ≡ false → Room n recs slots
-unfolding slotsLen
-room-of n recs slots l p s e q = record { size = l; records = p; eights = rw (← e) (ltb-false (length slots) s q) }
+pub heap-long : (n r : ℕ) (recs slots roots : List ℕ) → heapShort n r recs slots roots ≡ false
+    → (n ≤ length recs) × (8 * n ≤ length slots) × (r ≤ length roots)
+unfolding heapShort short slotsLen
+heap-long n r recs slots roots e =
+    let a = or-split _ _ e in
+    let b = or-split _ _ (a .0) in
+    (ltb-false _ _ (b .0), ltb-false _ _ (b .1), ltb-false _ _ (a .1))
 
-module _ (n r : ℕ) (recs slots roots : List ℕ) where
-  pub no-size : objectMax < n → false ≡ checked n r recs slots roots
+pub room-of : (n r : ℕ) (recs slots roots : List ℕ) → n ≤ objectMax → heapShort n r recs slots roots ≡ false → Room n recs slots
+room-of n r recs slots roots l e = let k = heap-long n r recs slots roots e in record { most = l; recs-long = k .0; slots-long = k .1 }
+
+module _ (c : Control) (recs slots roots : List ℕ) where
+  pub no-size : objectMax < c .n → false ≡ checked c recs slots roots
   unfolding checked
-  no-size l = rw (lt-leb n objectMax l) refl
+  no-size l = rw (lt-leb (c .n) objectMax l) refl
 
-  module _ (l : n ≤ objectMax) where
-    pub short-records : length recs < n → false ≡ checked n r recs slots roots
-    unfolding checked short
-    short-records p = rw (le-leb n objectMax l, lt-ltb (length recs) n p) refl
+  module _ (l : c .n ≤ objectMax) (h : Bool) (eh : h ≡ heapShort (c .n) (c .r) recs slots roots) where
+    pub too-short : h ≡ true → false ≡ checked c recs slots roots
+    unfolding checked heapShort
+    too-short t = rw (le-leb (c .n) objectMax l, sym eh ∙ t) refl
 
-    module _ (p : n ≤ length recs) (s : ℕ) (e : s ≡ slotsLen n) where
-      pub short-slots : ltb (length slots) s ≡ true → false ≡ checked n r recs slots roots
-      unfolding checked short
-      short-slots q = rw (le-leb n objectMax l, le-ltb (length recs) n p, ← e, q) refl
+    module _ (t : h ≡ false) where
+      pub checked-is : checked c recs slots roots ≡ wellFormed c recs slots roots
+      unfolding checked heapShort
+      checked-is = rw (le-leb (c .n) objectMax l, sym eh ∙ t) refl
 
-      module _ (q : ltb (length slots) s ≡ false) where
-        pub short-roots : ltb (length roots) r ≡ true → false ≡ checked n r recs slots roots
-        unfolding checked short
-        short-roots k = rw (le-leb n objectMax l, le-ltb (length recs) n p, ← e, q, k) refl
+      parts : checked c recs slots roots ≡ (objectsOk (c .n) recs slots && rootsNamed (c .n) (c .r) recs roots)
+      unfolding wellFormed
+      parts = checked-is ∙ formed-parts (c .n) (c .r) recs slots roots
 
-        module _ (k : ltb (length roots) r ≡ false) where
-          parts : checked n r recs slots roots ≡ (objectsOk n recs slots && rootsOk n r recs roots)
-          unfolding checked short
-          parts = rw (le-leb n objectMax l, le-ltb (length recs) n p, ← e, q, k) (formed-parts n r recs slots roots)
+      module _ (b : Bool) (f : b ≡ objectsOk (c .n) recs slots) where
+        pub bad-objects : b ≡ false → b ≡ checked c recs slots roots
+        bad-objects g = g ∙ sym (parts ∙ ap (λ (x : Bool). x && rootsNamed (c .n) (c .r) recs roots) (sym f ∙ g))
 
-          pub bad-objects : (b : Bool) → b ≡ objectsOk n recs slots → b ≡ false → b ≡ checked n r recs slots roots
-          bad-objects b f g = g ∙ sym (parts ∙ ap (λ (x : Bool). x && rootsOk n r recs roots) (sym f ∙ g))
+        pub by-roots : (d : Bool) → b ≡ true → d ≡ rootsNamed (c .n) (c .r) recs roots → d ≡ checked c recs slots roots
+        by-roots d t g = g ∙ sym (parts ∙ ap (λ (x : Bool). x && rootsNamed (c .n) (c .r) recs roots) (sym f ∙ t))
 
-          pub by-roots : (b d : Bool) → b ≡ objectsOk n recs slots → b ≡ true → d ≡ rootsOk n r recs roots → d ≡ checked n r recs slots roots
-          by-roots b d f t g = g ∙ sym (parts ∙ ap (λ (x : Bool). x && rootsOk n r recs roots) (sym f ∙ t))
+-- ---- the tests of a call that walks the whole heap
+
+module _ (c : Control) (recs slots roots : List ℕ) (rest : Bool) where
+  abbrev answer : ℕ
+  answer = first (heapTests c recs slots roots rest)
+
+  pub bad-control : badControl c ≡ true → 20 ≡ answer
+  unfolding heapTests first
+  bad-control b = rw b refl
+
+  module _ (b : badControl c ≡ false) (h : Bool) (eh : h ≡ heapShort (c .n) (c .r) recs slots roots) where
+    pub few-words : (h || rest) ≡ true → 2 ≡ answer
+    unfolding heapTests first
+    few-words t = rw (b, ← eh, t) refl
+
+    module _ (t : (h || rest) ≡ false) (f : Bool) (ef : f ≡ checked c recs slots roots) where
+      formed-is : wellFormed c recs slots roots ≡ f
+      formed-is = sym (ef ∙ checked-is c recs slots roots (control-facts c b .sizes .most) h eh (or-split h rest t .0))
+
+      pub is-sound : f ≡ true → 0 ≡ answer
+      unfolding heapTests first
+      is-sound z = rw (b, ← eh, t, formed-is, z) refl
+
+      pub is-damaged : f ≡ false → 21 ≡ answer
+      unfolding heapTests first
+      is-damaged z = rw (b, ← eh, t, formed-is, z) refl
+
+  -- what 0 says, where work is one of the slices besides
+  pub accepted : answer ≡ 0 → (work : List ℕ) → (rest ≡ false → workLen (c .n) ≤ length work) → Accepted c recs slots roots work × (rest ≡ false)
+  unfolding heapTests workLen
+  accepted e work h =
+      let p = first-passed 19 _ _ e in
+      let q = first-passed 1 _ _ (p .1) in
+      let s = or-split _ _ (q .0) in
+      let l = heap-long (c .n) (c .r) recs slots roots (s .0) in (
+        record {
+          room = record { most = control-facts c (p .0) .sizes .most; recs-long = l .0; slots-long = l .1 };
+          roots-long = l .2;
+          work-long = h (s .1);
+          formed = not-false _ (first-passed 20 _ _ (q .1) .0);
+        },
+        s .1,
+      )
+
+module _ (c : Control) (recs slots roots work : List ℕ) (a : Accepted c recs slots roots work) where
+  pub accepted-sane : Sane (c .n) (c .r) recs slots roots
+  accepted-sane = sane _ _ _ _ _ (formed-of c recs slots roots (a .formed))
+
+  pub accepted-sized : Sized (c .n) recs slots work
+  accepted-sized = record { room = a .room; work-long = a .work-long; widths = sane-width accepted-sane }
+
+  -- the part of the work words that is lent
+  pub accepted-part : (k : ℕ) → k ≡ workLen (c .n) → Accepted c recs slots roots (midOf 0 (k - 0) work)
+  unfolding workLen
+  accepted-part k e =
+      record { room = a .room; roots-long = a .roots-long; work-long = omega (arith, mid-len 0 k work (omega (arith, a .work-long))); formed = a .formed }

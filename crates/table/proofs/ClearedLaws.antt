@@ -6,9 +6,11 @@ use mathlib.Core.List.{List, [], _∷_, _++_, append-assoc}
 use native.Mathlib.Omega.{arith}
 use lib.Dec.{eqb}
 use lib.ListN.{length, take, drop, set, take-append-drop, length-set, length-drop}
-use lib.Seq.{drop-cons, take-suc-set, drop-set-lt}
+use lib.Seq.{drop-cons, take-suc-set, drop-set-lt, length-take-le}
+use borrow.Rule.Slice.PartMut.{putMid, midOf, same-len-mid, drop-put}
 use Rattle.rules.specs.Buffers.{eachFrom, eachSlot, zeros}
 use Rattle.rules.proofs.BufferLaws.{zeros-from, slots-one}
+use Rattle.rules.proofs.ListLaws.{zeros-same}
 use Rattle.table.specs.Cleared.{cleared}
 
 -- the first word that is left is set to 0
@@ -96,3 +98,12 @@ unfolding cleared
 cleared-object n g slots p q =
     let e : 8 * (g - 1) + 8 - 8 * (g - 1) ≡ 8 = omega arith in
     ap (λ (k : ℕ). take (8 * (g - 1)) slots ++ zeros k (drop (8 * (g - 1)) slots)) e ∙ sym (slots-one n g p q slots)
+
+-- the first k words are cleared after they were lent
+pub zeros-lent : (k m : ℕ) (work part work′ : List ℕ) → k ≡ m → k ≤ length work → length part ≡ length (midOf 0 (k - 0) work)
+    → work′ ≡ zeros k (putMid 0 (k - 0) work part) → work′ ≡ zeros m work
+unfolding zeros
+zeros-lent k m work part work′ e h l z =
+    let s = l ∙ length-take-le (k - 0) (drop 0 work) (omega arith) in
+    z ∙ zeros-same 0 k (putMid 0 (k - 0) work part) work (same-len-mid 0 (k - 0) work part l) (drop-put 0 k work part (omega arith) h s)
+    ∙ ap (λ (j : ℕ). zeros j work) e

@@ -1,21 +1,17 @@
 -- The rules of a well-formed heap as the check tests them: record by record and slot by slot.
-use Prim.Native.Nat.{ℕ, _*_, _/_, _≤_}
+use Prim.Native.Nat.{ℕ, _/_}
 use mathlib.Core.Bool.{Bool, not, _&&_, _||_, cond, Bool·beq}
-use mathlib.Core.List.{List}
+use mathlib.Core.List.{List, [], _∷_}
 use lib.Dec.{eqb, leb, ltb}
-use lib.ListN.{length, take}
-use Rattle.layout.specs.Limits.{objectMax, widthMax}
-use Rattle.records.specs.Record.{inUse, isOut, cluster, free, legal}
-use Rattle.layout.specs.Word.{isNil, isPointer, isImmediate}
-use Rattle.rules.specs.Buffers.{recOf, allOf, allTo}
+use Rattle.layout.specs.Limits.{widthMax, slotsLen}
+use Rattle.layout.specs.declared.answers.Control.{Control}
+use Rattle.layout.specs.ControlRecord.{badControl}
+use Rattle.layout.specs.Refusal.{Test}
+use Rattle.records.specs.Record.{isOut, cluster, free, legal}
+use Rattle.layout.specs.Word.{isNil, isImmediate}
+use Rattle.rules.specs.Buffers.{short, recOf, allTo}
 use Rattle.table.specs.Clusters.{wordLeaves}
-use Rattle.rules.specs.WellFormed.{legalAt, emptyAt, wordsAt, headAt, outAt}
-
--- the buffers hold n objects
-pub record Room (n : ℕ) (recs slots : List ℕ) : Type 0 where
-  pub size : n ≤ objectMax
-  pub records : n ≤ length recs
-  pub eights : widthMax * n ≤ length slots
+use Rattle.rules.specs.WellFormed.{names, legalAt, emptyAt, wordsAt, headAt, outAt, wellFormed}
 
 -- a record is 0 or legal
 unfoldable pub recordOk : ℕ → ℕ → Bool
@@ -25,13 +21,9 @@ recordOk n r = free r || legal n r
 unfoldable pub headOk : ℕ → List ℕ → ℕ → Bool
 headOk n recs r = eqb (cluster r) 0 || eqb (cluster (recOf n recs (cluster r))) (cluster r)
 
--- w names one of the objects in use
-unfoldable pub used : ℕ → List ℕ → ℕ → Bool
-used n recs w = isPointer n w && inUse (recOf n recs w)
-
 -- word w in slot k of an object of that width
 unfoldable pub slotOk : ℕ → List ℕ → ℕ → ℕ → ℕ → Bool
-slotOk n recs width k w = cond (leb width k) (isNil w) (isNil w || isImmediate w || used n recs w)
+slotOk n recs width k w = cond (leb width k) (isNil w) (isNil w || isImmediate w || names n recs w)
 
 -- for how many objects a words of records and b of slots suffice ("The heap")
 unfoldable pub roomOf : ℕ → ℕ → ℕ
@@ -50,9 +42,15 @@ unfoldable pub objectOk : ℕ → List ℕ → List ℕ → ℕ → Bool
 objectOk n recs slots x =
     legalAt n recs x && emptyAt n recs slots x && wordsAt n recs slots x && headAt n recs x && outAt n recs slots x
 
+-- every object does
 unfoldable pub objectsOk : ℕ → List ℕ → List ℕ → Bool
 objectsOk n recs slots = allTo n (objectOk n recs slots)
 
--- each of the r roots is nil or names such an object
-unfoldable pub rootsOk : ℕ → ℕ → List ℕ → List ℕ → Bool
-rootsOk n r recs roots = allOf (λ w. isNil w || used n recs w) (take r roots)
+-- a slice is too short for n objects and r roots
+unfoldable pub heapShort : ℕ → ℕ → List ℕ → List ℕ → List ℕ → Bool
+heapShort n r recs slots roots = short n recs || short (slotsLen n) slots || short r roots
+
+-- the tests of a call that walks the whole heap, in their order; rest: a slice besides is too short
+unfoldable pub heapTests : Control → List ℕ → List ℕ → List ℕ → Bool → List Test
+heapTests c recs slots roots rest =
+    (20, badControl c) ∷ (2, heapShort (c .n) (c .r) recs slots roots || rest) ∷ (21, not (wellFormed c recs slots roots)) ∷ []

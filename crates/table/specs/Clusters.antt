@@ -8,9 +8,11 @@ use Rattle.graph.specs.Clusters.{size, leaves, outCount}
 use Rattle.rules.specs.Buffers.{recOf, eachRecord}
 use Rattle.rules.specs.View.{target}
 
+-- the sink bit of object x
 abbrev pub sinkOf : ℕ → List ℕ → ℕ → Bool
 sinkOf n recs x = isSink (recOf n recs x)
 
+-- the cluster of object x, 0 for none
 abbrev pub clusterOf : ℕ → List ℕ → ℕ → ℕ
 clusterOf n recs x = cluster (recOf n recs x)
 

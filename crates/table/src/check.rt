@@ -3,13 +3,20 @@ ghost use mathlib.Core.Path.{_≡_};
 ghost use Prim.Native.Nat.{_≤_};
 ghost use lib.ListN.{length};
 ghost use Rattle.layout.specs.Limits.{objectMax};
-ghost use Rattle.rules.specs.WellFormed.{checked};
-ghost use Rattle.table.specs.Check.{Room, recordOk, headOk, slotOk, memberLeaves, outOk, objectsOk, rootsOk};
+ghost use Rattle.layout.specs.Refusal.{first};
+ghost use Rattle.rules.specs.WellFormed.{rootsNamed, checked};
+ghost use Rattle.table.specs.Room.{Room};
+ghost use Rattle.table.specs.Check.{recordOk, headOk, slotOk, memberLeaves, outOk, objectsOk, heapShort, heapTests};
 use crate::clusters::leaves;
 use crate::clusters::record_of;
+use layout::answers::Control;
 use layout::limits::OBJECT_MAX;
 use layout::limits::WIDTH_MAX;
 use layout::limits::slots_len;
+use layout::refusals::BAD_CONTROL;
+use layout::refusals::DAMAGED;
+use layout::refusals::TOO_SHORT;
+use layout::refusals::bad_control;
 use layout::words::Word;
 use layout::words::sort_word;
 use records::cluster_of;
@@ -108,7 +115,7 @@ fn objects_ok(n: u32, records: &[u32], slots: &[u32]) -> bool
 // Each of the r roots is nil or names an object that is not free.
 fn roots_ok(n: u32, r: u32, records: &[u32], roots: &[u32]) -> bool
     requires { ⌜ r ≤ length (now roots) ⌝ }
-    ensures { λ b. ⌜ b ≡ rootsOk n r (now (records .entry)) (now (roots .entry)) ⌝ }
+    ensures { λ b. ⌜ b ≡ rootsNamed n r (now (records .entry)) (now (roots .entry)) ⌝ }
 {
     let mut j: usize = 0;
     while j < r as usize {
@@ -121,15 +128,39 @@ fn roots_ok(n: u32, r: u32, records: &[u32], roots: &[u32]) -> bool
     true
 }
 
-// Whether the heap is well formed; false where n is above 4,095 or a slice is too short.
-pub fn well_formed(n: u32, r: u32, records: &[u32], slots: &[u32], roots: &[u32]) -> bool
-    ensures { λ b. ⌜ b ≡ checked n r (now (records .entry)) (now (slots .entry)) (now (roots .entry)) ⌝ }
+// Whether a slice is too short for n objects and r roots.
+pub fn short_heap(n: u32, r: u32, records: &[u32], slots: &[u32], roots: &[u32]) -> bool
+    ensures { λ b. ⌜ b ≡ heapShort n r (now (records .entry)) (now (slots .entry)) (now (roots .entry)) ⌝ }
 {
-    if OBJECT_MAX < n {
+    (records.len() < n as usize) | (slots.len() < slots_len(n)) | (roots.len() < r as usize)
+}
+
+// Whether the heap is well formed; false where n is above 4,095 or a slice is too short.
+pub fn well_formed(c: Control, records: &[u32], slots: &[u32], roots: &[u32]) -> bool
+    ensures { λ b. ⌜ b ≡ checked c (now (records .entry)) (now (slots .entry)) (now (roots .entry)) ⌝ }
+{
+    if OBJECT_MAX < c.n {
         return false;
     }
-    if records.len() < n as usize || slots.len() < slots_len(n) || roots.len() < r as usize {
+    if short_heap(c.n, c.r, records, slots, roots) {
         return false;
     }
-    objects_ok(n, records, slots) && roots_ok(n, r, records, roots)
+    objects_ok(c.n, records, slots) && roots_ok(c.n, c.r, records, roots)
+}
+
+// The number of the first test of a call that walks the whole heap, 0 where none holds; `rest` says that a slice besides is too short.
+pub fn heap_refusal(c: Control, records: &[u32], slots: &[u32], roots: &[u32], rest: bool) -> u32
+    ensures { λ k. ⌜ k ≡ first (heapTests c (now (records .entry)) (now (slots .entry)) (now (roots .entry)) rest) ⌝ }
+{
+    if bad_control(c) {
+        return BAD_CONTROL;
+    }
+    if short_heap(c.n, c.r, records, slots, roots) | rest {
+        return TOO_SHORT;
+    }
+    if well_formed(c, records, slots, roots) {
+        0
+    } else {
+        DAMAGED
+    }
 }

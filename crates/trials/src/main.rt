@@ -5,6 +5,9 @@ use collect::plain::collect_plain;
 use heap::allocate::allocate;
 use heap::create::create;
 use layout::answers::Control;
+use layout::control::new_control;
+use layout::control::with_analysis;
+use layout::control::with_write_loss;
 use libc::STDOUT_FILENO;
 use writes::write::write;
 
@@ -89,14 +92,7 @@ fn halved(limit: u32) -> u32 {
     let slots = [0u32; 8];
     let roots = [0u32; 1];
     let mut work = [0u32; 74];
-    let c = Control {
-        n: 1,
-        r: 1,
-        last: 0,
-        limit: limit,
-        write_loss: 1,
-        out_loss: 0,
-    };
+    let c = with_write_loss(with_analysis(new_control(1, 1), limit, 0), 1);
     analyse(c, &mut records, &slots, &roots, &mut work)
         .control
         .limit

@@ -26,7 +26,7 @@ use Rattle.graph.specs.Writes.{dissolves, storeBy, store, lossBy, lossOf}
 use Rattle.graph.specs.Clusters.{size, outBit}
 use Rattle.graph.proofs.NumberLaws.{count-le}
 use Rattle.rules.specs.Buffers.{recOf, eachRecord}
-use Rattle.rules.specs.View.{target, view, exactOut, laid}
+use Rattle.rules.specs.View.{target, view, exactOut, encoded}
 use Rattle.rules.specs.Show.{showTests}
 use Rattle.rules.specs.Write as Write
 use Rattle.rules.proofs.BufferLaws.{recOf-get}
@@ -116,11 +116,9 @@ module _ (c : Control) (i k w : ℕ) (recs slots : List ℕ) where
     slot-there =
         let N = named c i recs slots shown in
         record {
-          most = N .sound .sizes .most;
+          room = record { most = N .sound .sizes .most; recs-long = N .recs-long; slots-long = N .slots-long };
           low = N .low;
           high = N .high;
-          records-long = N .recs-long;
-          slots-long = N .slots-long;
           used = leb-false _ _ (first-passed 4 _ _ (sym (named-rest c i recs slots rest shown) ∙ sym e ∙ z) .0);
           narrow = N .legal .narrow;
         }
@@ -142,7 +140,7 @@ module _ (n i k : ℕ) (recs slots : List ℕ) (s : Slot n i k recs slots) (at :
   pub place-low : at + k < widthMax * objectMax
   unfolding slotsLen
   place-low =
-      let a = s .most in
+      let a = s .room .most in
       let b = s .low in
       let d = s .high in
       let f = s .used in
@@ -152,7 +150,7 @@ module _ (n i k : ℕ) (recs slots : List ℕ) (s : Slot n i k recs slots) (at :
   pub place-there : at + k < length slots
   unfolding slotsLen
   place-there =
-      let a = s .slots-long in
+      let a = s .room .slots-long in
       let b = s .low in
       let d = s .high in
       let f = s .used in
@@ -193,22 +191,22 @@ module _ (n i k w : ℕ) (recs slots : List ℕ) (s : Slot n i k recs slots) whe
 
   -- out made exact in the record that the store left
   pub stays : (rs ss : List ℕ) → rs ≡ new → ss ≡ changed → (o : Bool) → o ≡ exactOut (view n rs ss) i → (v : ℕ) → v ≡ withOut o (getD rs (i - 1) 0)
-      → set rs (i - 1) v ≡ laid (storeBy false (view n recs slots) i k (target n w)) recs
+      → set rs (i - 1) v ≡ encoded (storeBy false (view n recs slots) i k (target n w)) recs
   stays rs ss a b o e v f =
-      let y : o ≡ outBit _ _ _ i = e ∙ ap₂ (λ (x y : List ℕ). exactOut (view n x y) i) a b ∙ exact-stored n recs slots i k (s .low) (s .used) (s .narrow) w (s .high) (s .records-long) in
+      let y : o ≡ outBit _ _ _ i = e ∙ ap₂ (λ (x y : List ℕ). exactOut (view n x y) i) a b ∙ exact-stored n recs slots i k (s .low) (s .used) (s .narrow) w (s .high) (s .room .recs-long) in
       let g : getD rs (i - 1) 0 ≡ withWritten true (recOf n recs i)
-      = ap (λ (l : List ℕ). getD l (i - 1) 0) a ∙ sym (recOf-get n new i (s .low) (s .high)) ∙ recOf-set-same n recs i _ (s .low) (s .high) (s .records-long) in
+      = ap (λ (l : List ℕ). getD l (i - 1) 0) a ∙ sym (recOf-get n new i (s .low) (s .high)) ∙ recOf-set-same n recs i _ (s .low) (s .high) (s .room .recs-long) in
       ap₂ (λ (l : List ℕ) (x : ℕ). set l (i - 1) x) a (f ∙ ap₂ withOut y g)
       ∙ set-set recs (i - 1) _ _
-      ∙ sym (store-staying n recs slots i k (target n w) (s .low) (s .high) (s .records-long))
+      ∙ sym (store-staying n recs slots i k (target n w) (s .low) (s .high) (s .room .recs-long))
 
   -- the members made loose after the store
   pub gone : (r d : ℕ) → r ≡ recOf n recs i → d ≡ cluster r → (rs ts : List ℕ) → rs ≡ new → ts ≡ dissolved n d rs
-      → ts ≡ laid (storeBy true (view n recs slots) i k (target n w)) recs
+      → ts ≡ encoded (storeBy true (view n recs slots) i k (target n w)) recs
   unfolding dissolved dissolvedRecord
   gone r d e f rs ts a b =
       b ∙ ap₂ (λ (x : ℕ) (l : List ℕ). eachRecord n (λ y q. cond (eqb (cluster q) x) (loose q) q) l) (f ∙ ap cluster e) a
-      ∙ sym (store-dissolving n recs slots i k (target n w) (s .low) (s .high) (s .records-long))
+      ∙ sym (store-dissolving n recs slots i k (target n w) (s .low) (s .high) (s .room .recs-long))
 
 -- ---- the ends of the call
 
@@ -241,16 +239,16 @@ module _ (c : Control) (i k w : ℕ) (recs slots : List ℕ) where
       loss-by = rw f refl
 
       done : Write.lossAfter c i k w recs slots ≤ c .n → (d : Control) → d ≡ withWriteLoss (Write.lossAfter c i k w recs slots) c → (rs ss : List ℕ)
-          → rs ≡ laid (storeBy b (view (c .n) recs slots) i k (target (c .n) w)) recs → ss ≡ set slots (8 * (i - 1) + k) w
+          → rs ≡ encoded (storeBy b (view (c .n) recs slots) i k (target (c .n) w)) recs → ss ≡ set slots (8 * (i - 1) + k) w
           → Write.gives (record { refusal = 0; control = d }) rs ss ≡ Write.write c i k w recs slots
       unfolding Write.write store first
       done h d q rs ss x y =
-          let v : rs ≡ laid (storeBy (dissolves (view (c .n) recs slots) i k (target (c .n) w)) (view (c .n) recs slots) i k (target (c .n) w)) recs = rw f x in
+          let v : rs ≡ encoded (storeBy (dissolves (view (c .n) recs slots) i k (target (c .n) w)) (view (c .n) recs slots) i k (target (c .n) w)) recs = rw f x in
           (λ j. Write.gives (record { refusal = 0; control = q j }) (v j) (y j))
           ∙ sym (outcome-zero _ _ (Write.writeTests c i k w recs slots) (only-last ∙ first-fails 25 [] _ (le-ltb _ _ h)))
 
     pub stayed : (b : Bool) → b ≡ dissolves (view (c .n) recs slots) i k 0 → not b ≡ true → (rs ss : List ℕ)
-        → rs ≡ laid (storeBy false (view (c .n) recs slots) i k (target (c .n) w)) recs → ss ≡ set slots (8 * (i - 1) + k) w
+        → rs ≡ encoded (storeBy false (view (c .n) recs slots) i k (target (c .n) w)) recs → ss ≡ set slots (8 * (i - 1) + k) w
         → Write.gives (record { refusal = 0; control = c }) rs ss ≡ Write.write c i k w recs slots
     unfolding dissolves lossBy withWriteLoss
     stayed b f t rs ss x y =
@@ -277,7 +275,7 @@ module _ (c : Control) (i k w : ℕ) (recs slots : List ℕ) where
           (only-last ∙ first-holds 25 [] _ (rw grown (lt-ltb _ _ h))) (λ (q : 25 ≡ 0). omega arith))
 
       pub dissolved-all : l ≤ c .n → (d : Control) → d ≡ withWriteLoss l c → (rs ss : List ℕ)
-          → rs ≡ laid (storeBy true (view (c .n) recs slots) i k (target (c .n) w)) recs → ss ≡ set slots (8 * (i - 1) + k) w
+          → rs ≡ encoded (storeBy true (view (c .n) recs slots) i k (target (c .n) w)) recs → ss ≡ set slots (8 * (i - 1) + k) w
           → Write.gives (record { refusal = 0; control = d }) rs ss ≡ Write.write c i k w recs slots
       dissolved-all h d q rs ss x y = done true dissolving (rw grown h) d (q ∙ ap (λ (v : ℕ). withWriteLoss v c) (sym grown)) rs ss x y
 
@@ -286,12 +284,12 @@ module _ (c : Control) (i k w : ℕ) (recs slots : List ℕ) where
 -- the ends of an attempt whose tests passed
 module _ (c : Control) (i k w : ℕ) (recs slots : List ℕ) (m : ℕ) (e : m ≡ first (frontTests c i k w recs slots)) (z : m ≡ 0)
     (b : Bool) (f : b ≡ dissolves (view (c .n) recs slots) i k 0) (may : Bool) where
-  pub ends-kept : not b ≡ true → (rs ss : List ℕ) → rs ≡ laid (storeBy false (view (c .n) recs slots) i k (target (c .n) w)) recs
+  pub ends-kept : not b ≡ true → (rs ss : List ℕ) → rs ≡ encoded (storeBy false (view (c .n) recs slots) i k (target (c .n) w)) recs
       → ss ≡ set slots (8 * (i - 1) + k) w → Attempted c i k w recs slots may 0 rs ss
   ends-kept t rs ss = keeps (sym z ∙ e) (sym (not-true b t) ∙ f) refl
 
   module _ (t : not b ≡ false) where
-    pub ends-broken : may ≡ true → (rs ss : List ℕ) → rs ≡ laid (storeBy true (view (c .n) recs slots) i k (target (c .n) w)) recs
+    pub ends-broken : may ≡ true → (rs ss : List ℕ) → rs ≡ encoded (storeBy true (view (c .n) recs slots) i k (target (c .n) w)) recs
         → ss ≡ set slots (8 * (i - 1) + k) w → Attempted c i k w recs slots may 0 rs ss
     ends-broken o rs ss = breaks (sym z ∙ e) (sym (not-false b t) ∙ f) o refl
 

@@ -5,16 +5,17 @@ use mathlib.Core.Logic.{_≢_}
 use mathlib.Core.Bool.{Bool, true, false, not, _&&_}
 use mathlib.Core.List.{List, [], _∷_, _++_}
 use lib.Dec.{leb}
-use lib.ListN.{length, set}
+use lib.ListN.{set}
 use Rattle.layout.specs.declared.answers.Control.{Control}
-use Rattle.layout.specs.Limits.{objectMax, widthMax}
+use Rattle.layout.specs.Limits.{widthMax}
 use Rattle.records.specs.Record.{width, legal}
 use Rattle.layout.specs.Word.{isPointer, legalWord}
 use Rattle.layout.specs.Refusal.{Test, first}
 use Rattle.graph.specs.Writes.{dissolves, storeBy}
 use Rattle.rules.specs.Buffers.{recOf}
-use Rattle.rules.specs.View.{target, view, laid}
+use Rattle.rules.specs.View.{target, view, encoded}
 use Rattle.rules.specs.Show.{showTests}
+use Rattle.table.specs.Room.{Room}
 use Rattle.table.specs.Clusters.{clusterOf, membersOf}
 
 -- the tests of the word that is to be stored
@@ -27,11 +28,9 @@ frontTests c i k w recs slots = showTests c i recs slots ++ (5, leb (width (recO
 
 -- slot k of object i is in the buffers of a heap of n objects
 pub record Slot (n i k : ℕ) (recs slots : List ℕ) : Type 0 where
-  pub most : n ≤ objectMax
+  pub room : Room n recs slots
   pub low : 1 ≤ i
   pub high : i ≤ n
-  pub records-long : n ≤ length recs
-  pub slots-long : widthMax * n ≤ length slots
   pub used : k < width (recOf n recs i)
   pub narrow : width (recOf n recs i) ≤ widthMax
 
@@ -39,7 +38,7 @@ pub record Slot (n i k : ℕ) (recs slots : List ℕ) : Type 0 where
 pub data Attempted (c : Control) (i k w : ℕ) (recs slots : List ℕ) (may : Bool) (a : ℕ) (rs ss : List ℕ) : Type 0 where
   refuses : a ≡ first (frontTests c i k w recs slots) → a ≢ 0 → rs ≡ recs → ss ≡ slots → Attempted c i k w recs slots may a rs ss
   keeps : 0 ≡ first (frontTests c i k w recs slots) → false ≡ dissolves (view (c .n) recs slots) i k 0 → a ≡ 0
-      → rs ≡ laid (storeBy false (view (c .n) recs slots) i k (target (c .n) w)) recs → ss ≡ set slots (widthMax * (i - 1) + k) w
+      → rs ≡ encoded (storeBy false (view (c .n) recs slots) i k (target (c .n) w)) recs → ss ≡ set slots (widthMax * (i - 1) + k) w
       → Attempted c i k w recs slots may a rs ss
   overflows : 0 ≡ first (frontTests c i k w recs slots) → true ≡ dissolves (view (c .n) recs slots) i k 0 → may ≡ false
       → (l : ℕ) → l ≡ c .«write_loss» + membersOf (c .n) recs (clusterOf (c .n) recs i) → c .n < l → a ≡ 25 → rs ≡ recs → ss ≡ slots
@@ -48,5 +47,5 @@ pub data Attempted (c : Control) (i k w : ℕ) (recs slots : List ℕ) (may : Bo
       → (l : ℕ) → l ≡ c .«write_loss» + membersOf (c .n) recs (clusterOf (c .n) recs i) → l ≤ c .n → a ≡ 64 + l → rs ≡ recs → ss ≡ slots
       → Attempted c i k w recs slots may a rs ss
   breaks : 0 ≡ first (frontTests c i k w recs slots) → true ≡ dissolves (view (c .n) recs slots) i k 0 → may ≡ true → a ≡ 0
-      → rs ≡ laid (storeBy true (view (c .n) recs slots) i k (target (c .n) w)) recs → ss ≡ set slots (widthMax * (i - 1) + k) w
+      → rs ≡ encoded (storeBy true (view (c .n) recs slots) i k (target (c .n) w)) recs → ss ≡ set slots (widthMax * (i - 1) + k) w
       → Attempted c i k w recs slots may a rs ss

@@ -8,7 +8,7 @@ ghost use Rattle.records.specs.Record.{withWritten};
 ghost use Rattle.layout.specs.Refusal.{first};
 ghost use Rattle.graph.specs.Writes.{dissolves, storeBy};
 ghost use Rattle.rules.specs.Buffers.{recOf};
-ghost use Rattle.rules.specs.View.{target, view, laid};
+ghost use Rattle.rules.specs.View.{target, view, encoded};
 ghost use Rattle.rules.specs.Write as Write;
 ghost use Rattle.table.specs.Clusters.{clusterOf, membersOf};
 ghost use Rattle.writes.specs.Writes.{wordTests, frontTests, Slot, Attempted};
@@ -112,7 +112,7 @@ fn store_word(n: u32, object: u32, slot: u32, word: u32, records: &mut [u32], sl
 fn store_staying(n: u32, object: u32, slot: u32, word: u32, records: &mut [u32], slots: &mut [u32])
     requires { ⌜ Slot n object slot (now records) (now slots) ⌝ }
     ensures { λ _. ⌜ (now (records .exit)
-        ≡ laid (storeBy false (view n (now (records .entry)) (now (slots .entry))) object slot (target n word)) (now (records .entry)))
+        ≡ encoded (storeBy false (view n (now (records .entry)) (now (slots .entry))) object slot (target n word)) (now (records .entry)))
         × (now (slots .exit) ≡ set (now (slots .entry)) (widthMax * (object - 1) + slot) word) ⌝ }
 {
     store_word(n, object, slot, word, records, slots);
@@ -132,7 +132,7 @@ fn store_dissolving(
 )
     requires { ⌜ Slot n object slot (now records) (now slots) ⌝ }
     ensures { λ _. ⌜ (now (records .exit)
-        ≡ laid (storeBy true (view n (now (records .entry)) (now (slots .entry))) object slot (target n word)) (now (records .entry)))
+        ≡ encoded (storeBy true (view n (now (records .entry)) (now (slots .entry))) object slot (target n word)) (now (records .entry)))
         × (now (slots .exit) ≡ set (now (slots .entry)) (widthMax * (object - 1) + slot) word) ⌝ }
 {
     let c = cluster_of(record_of(n, object, records));
@@ -177,8 +177,8 @@ fn attempt(
     LOSS + loss
 }
 
-// A write that dissolves is attempted a second time, with its loss in the control record. With two calls of `attempt` the
-// compiler leaves it a function, puts this one into both exports, and copies a record that stays whole (docs/BENCHMARK.md).
+// A write that dissolves is attempted a second time, with its loss in the control record, set in place. With two calls of `attempt`
+// the compiler leaves it a function, puts this one into both exports, and copies a record that stays whole (docs/BENCHMARK.md).
 pub fn write(
     c: Control,
     object: u32,

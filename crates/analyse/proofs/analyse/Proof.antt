@@ -1,7 +1,9 @@
 -- `analyse` meets its contract. Assumes nothing.
 use mathlib.Core.Path.{sym, ap, _∙_}
 use Rattle.rules.specs.Analyse.{nextLimit}
-use Rattle.analyse.proofs.CallLaws.{refused, accepted, most, cap-fits, cap-length, formable, zeroed, outcome}
+use Rattle.table.proofs.CheckLaws.{accepted-part}
+use Rattle.table.proofs.ClearedLaws.{zeros-lent}
+use Rattle.analyse.proofs.CallLaws.{refused, accepted, cap-fits, formable, outcome}
 use borrow.Author.Needs.{needs}
 use Rattle.analyse.proofs.analyse.Statement.{statement}
 use Rattle.analyse.proofs.analyse.Tie as tie
@@ -19,7 +21,7 @@ returns : tie.Need-returns
 returns c = refused _ _ _ _ _ _ (c .before .analyse-refusal .ensures) (c .if1 .taken)
 
 used-count-requires : tie.Need-used-count-requires
-used-count-requires c κs = let a = (accepted _ _ _ _ _ (sym (c .before .before .analyse-refusal .ensures) ∙ c .before .if1 .left)) in (a .recs-long, most _ _ _ _ _ a)
+used-count-requires c κs = let a = (accepted _ _ _ _ _ (sym (c .before .before .analyse-refusal .ensures) ∙ c .before .if1 .left)) in (a .room .recs-long, a .room .most)
 
 next-limit-requires : tie.Need-next-limit-requires
 next-limit-requires c κs = search needs
@@ -37,10 +39,13 @@ part-form-and-judge-end : tie.Need-part-form-and-judge-end
 part-form-and-judge-end c = cap-fits _ _ _ _ _ (accepted _ _ _ _ _ (sym (c .before .before .before .before .before .before .analyse-refusal .ensures) ∙ c .before .before .before .before .before .if1 .left)) _ (c .before .work-len .ensures)
 
 form-and-judge-requires : tie.Need-form-and-judge-requires
-form-and-judge-requires c κs = let a = (accepted _ _ _ _ _ (sym (c .before .before .before .before .before .before .before .analyse-refusal .ensures) ∙ c .before .before .before .before .before .before .if1 .left)) in formable _ _ _ _ _ a _ (cap-length _ _ _ _ _ a _ (c .before .before .work-len .ensures)) _ (c .before .before .before .next-limit .ensures ∙ ap (nextLimit (c .before .before .before .before .before .before .before .before .before .before .before .before .before .before .args .c)) (c .before .before .before .before .used-count .ensures))
+form-and-judge-requires c κs = let a = (accepted _ _ _ _ _ (sym (c .before .before .before .before .before .before .before .analyse-refusal .ensures) ∙ c .before .before .before .before .before .before .if1 .left)) in formable _ _ _ _ _ (accepted-part _ _ _ _ _ a _ (c .before .before .work-len .ensures)) _ (c .before .before .before .next-limit .ensures ∙ ap (nextLimit (c .before .before .before .before .before .before .before .before .before .before .before .before .before .before .args .c)) (c .before .before .before .before .used-count .ensures))
 
 zero-requires : tie.Need-zero-requires
 zero-requires c κs = search needs
+
+with-analysis-requires : tie.Need-with-analysis-requires
+with-analysis-requires c κs = search needs
 
 same-length-3 : tie.Need-same-length-3
 same-length-3 c = search needs
@@ -49,7 +54,18 @@ same-length-4 : tie.Need-same-length-4
 same-length-4 c = search needs
 
 returns-2 : tie.Need-returns-2
-returns-2 c = let a = (accepted _ _ _ _ _ (sym (c .before .before .before .before .before .before .before .before .before .before .before .before .before .before .before .before .analyse-refusal .ensures) ∙ c .before .before .before .before .before .before .before .before .before .before .before .before .before .before .before .if1 .left)) in outcome _ _ _ _ _ (sym (c .before .before .before .before .before .before .before .before .before .before .before .before .before .before .before .before .analyse-refusal .ensures) ∙ c .before .before .before .before .before .before .before .before .before .before .before .before .before .before .before .if1 .left) (a .recs-long) _ (c .before .before .before .before .before .before .before .before .before .before .before .before .next-limit .ensures ∙ ap (nextLimit (c .before .before .before .before .before .before .before .before .before .before .before .before .before .before .before .before .before .before .before .before .before .before .before .args .c)) (c .before .before .before .before .before .before .before .before .before .before .before .before .before .used-count .ensures)) _ _ _ _ _ (c .before .before .before .before .before .before .before .before .form-and-judge .ensures) (zeroed _ _ _ (c .before .before .before .before .before .before .before .before .form-and-judge .last .1 .1 .1 .1 .1 .1 .0) _ (c .before .before .before .before .before .before .before .before .before .before .before .work-len .ensures) (cap-fits _ _ _ _ _ a _ (c .before .before .before .before .before .before .before .before .before .before .before .work-len .ensures)) (c .before .before .before .before .before .before .before .before .form-and-judge .kept .1 .1 .1 .1 .1 .1 .0) (c .before .before .zero .ensures))
+returns-2 c =
+    let f = c .before .before .before .before .before .before .before .before .before in
+    let l = f .before .before .before in
+    let m = l .before in
+    let u = m .before in
+    let t = u .before .before in
+    let e = sym (t .before .analyse-refusal .ensures) ∙ t .if1 .left in
+    let a = accepted _ _ _ _ _ e in
+    outcome _ _ _ _ _ e _
+    (m .next-limit .ensures ∙ ap (nextLimit (t .before .before .before .before .before .before .before .before .args .c)) (u .used-count .ensures)) _ _ _ _ _ (f .form-and-judge .ensures)
+    (zeros-lent _ _ _ (f .form-and-judge .last .1 .1 .1 .1 .1 .1 .0) _ (l .work-len .ensures) (cap-fits _ _ _ _ _ a _ (l .work-len .ensures)) (f .form-and-judge .kept .1 .1 .1 .1 .1 .1 .0) (c .before .before .before .zero .ensures))
+    _ (c .with-analysis .ensures)
 
 pub analyse-spec : {M : Type 1} → statement M
 analyse-spec =
@@ -67,6 +83,7 @@ analyse-spec =
     part-form-and-judge-end
     form-and-judge-requires
     zero-requires
+    with-analysis-requires
     same-length-3
     same-length-4
     returns-2)

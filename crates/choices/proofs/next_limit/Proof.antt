@@ -1,35 +1,43 @@
 -- `next_limit` meets its contract. Assumes nothing.
-use Rattle.choices.proofs.ChoiceLaws.{limit-first, limit-halved, limit-doubled, held-most}
+use mathlib.Core.Path.{ap, _∙_}
+use Rattle.rules.specs.Analyse.{clamped}
+use Rattle.choices.proofs.ChoiceLaws.{limit-first, limit-halved, limit-doubled, clamp-most}
 use native.Mathlib.Omega.{arith}
 use borrow.Author.Needs.{needs}
 use Rattle.choices.proofs.next_limit.Statement.{statement}
 use Rattle.choices.proofs.next_limit.Tie as tie
 
-held-requires : tie.Need-held-requires
-held-requires c κs = search needs
+sixteenth-requires : tie.Need-sixteenth-requires
+sixteenth-requires c κs = search needs
+
+clamp-requires : tie.Need-clamp-requires
+clamp-requires c κs = search needs
 
 returns : tie.Need-returns
-returns c = limit-first _ _ _ (c .before .if1 .taken) (c .held .ensures)
+returns c = limit-first _ _ _ (c .before .before .if1 .taken) (c .clamp .ensures ∙ ap clamped (c .before .sixteenth .ensures))
 
-held-requires-2 : tie.Need-held-requires-2
-held-requires-2 c κs = search needs
+half-requires : tie.Need-half-requires
+half-requires c κs = search needs
+
+clamp-requires-2 : tie.Need-clamp-requires-2
+clamp-requires-2 c κs = search needs
 
 returns-2 : tie.Need-returns-2
-returns-2 c = limit-halved _ _ _ (c .before .before .before .before .if1 .left) (c .before .before .if2 .taken) (c .held2 .ensures)
+returns-2 c = limit-halved _ _ _ (c .before .before .before .before .if1 .left) (c .before .before .if2 .taken) (c .clamp2 .ensures ∙ ap clamped (c .before .half .ensures))
 
 returns-3 : tie.Need-returns-3
-returns-3 c = limit-doubled _ _ _ (c .before .before .before .before .if1 .left) (c .before .before .if2 .left) (held-most _ (c .if3 .taken))
+returns-3 c = limit-doubled _ _ _ (c .before .before .before .before .if1 .left) (c .before .before .if2 .left) (clamp-most _ (c .if3 .taken))
 
-mul-held : tie.Need-mul-held
-mul-held c = record { fits = omega (arith, c .before .if3 .left) }
+mul-clamp : tie.Need-mul-clamp
+mul-clamp c = record { fits = omega (arith, c .before .if3 .left) }
 
-held-requires-3 : tie.Need-held-requires-3
-held-requires-3 c κs = search needs
+clamp-requires-3 : tie.Need-clamp-requires-3
+clamp-requires-3 c κs = search needs
 
 returns-4 : tie.Need-returns-4
-returns-4 c = limit-doubled _ _ _ (c .before .before .before .before .before .before .if1 .left) (c .before .before .before .before .if2 .left) (c .held3 .ensures)
+returns-4 c = limit-doubled _ _ _ (c .before .before .before .before .before .before .if1 .left) (c .before .before .before .before .if2 .left) (c .clamp3 .ensures)
 
 pub next-limit-spec : {M : Type 1} → statement M
 next-limit-spec =
     tie.close
-    (tie.spec held-requires returns held-requires-2 returns-2 returns-3 mul-held held-requires-3 returns-4)
+    (tie.spec sixteenth-requires clamp-requires returns half-requires clamp-requires-2 returns-2 returns-3 mul-clamp clamp-requires-3 returns-4)

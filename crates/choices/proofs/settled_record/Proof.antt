@@ -1,8 +1,5 @@
 -- `settled_record` meets its contract. Assumes nothing.
-use mathlib.Core.Path.{_≡_, sym, ap, _∙_}
-use Prim.Native.Nat.{ℕ, _%_}
-use lib.Dec.{leb}
-use Rattle.records.specs.Record.{withCluster, withOut}
+use mathlib.Core.Path.{_∙_}
 use Rattle.choices.proofs.ChoiceLaws.{settled-is}
 use borrow.Author.Needs.{needs}
 use Rattle.choices.proofs.settled_record.Statement.{statement}

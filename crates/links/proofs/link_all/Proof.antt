@@ -1,11 +1,11 @@
 -- `link_all` meets its contract. Assumes nothing.
 use denote.Ref.{now}
 use Prim.Native.Nat.{_≤_, _+_, _-_}
-use mathlib.Core.Path.{_≡_, refl, sym, _∙_}
+use mathlib.Core.Path.{_≡_, refl, ap, _∙_}
 use lib.ListN.{length, drop}
 use Rattle.links.specs.Links.{linkedAt}
 use Rattle.links.specs.Linking.{Linking}
-use Rattle.links.proofs.LinkLaws.{none-linked, link-start, link-end}
+use Rattle.links.proofs.LinkLaws.{none-linked, zeros-none, zeros-past, link-start, link-end}
 use borrow.Author.Needs.{needs}
 use native.Mathlib.Omega.{arith}
 use Rattle.links.proofs.link_all.Statement.{statement}
@@ -17,13 +17,14 @@ Inv-loop outs n records work₀ k₀ work k = (k ≤ n) × Linking n (linkedAt o
 abbrev μ-loop : tie.MeasureT-loop
 μ-loop outs n records work₀ k₀ work k = n - k
 
-clear-requires : tie.Need-clear-requires Inv-loop μ-loop
-clear-requires c κs = search needs
+zero-requires : tie.Need-zero-requires Inv-loop μ-loop
+zero-requires c κs = search needs
 
 loop-holds : tie.Need-loop-holds Inv-loop μ-loop
 loop-holds c =
     let a = c .before .before .before .before .before .before .args in
-    (omega arith, link-start _ _ (linkedAt (a .outs) (a .n) (now (a .records))) (none-linked (a .outs) (a .n) (now (a .records))) (c .before .before .clear .ensures .0), refl, refl)
+    let p = c .before .before .before .before .before .before .pre in
+    (omega arith, rw (c .before .before .zero .ensures) (link-start _ _ (linkedAt (a .outs) (a .n) (now (a .records))) (none-linked (a .outs) (a .n) (now (a .records))) (zeros-none _ _ (p .2))), refl, refl)
 
 add-k : tie.Need-add-k Inv-loop μ-loop
 add-k c = omega arith
@@ -33,7 +34,7 @@ link-one-requires c κs =
     let g = c .before .before .loop .inv in
     let p = c .before .before .before .before .before .before .before .before .before .pre in
     let e : c .before .before .loop .k + 1 - 1 ≡ c .before .before .loop .k = omega arith in
-    ((p .0, p .1, omega (arith, p .2, g .2, c .before .before .before .before .before .clear .kept .1 .0), omega arith, omega (arith, c .before .loop-test .taken)), rw e (g .1))
+    ((p .0, p .1, omega (arith, p .2, g .2, c .before .before .before .before .before .zero .kept .0), omega arith, omega (arith, c .before .loop-test .taken)), rw e (g .1))
 
 loop-less : tie.Need-loop-less Inv-loop μ-loop
 loop-less c = omega arith
@@ -44,13 +45,14 @@ loop-again c =
     (omega (arith, c .before .before .before .before .loop-test .taken), c .before .before .link-one .ensures .0, c .before .before .link-one .kept .1 .1 .1 .0 ∙ g .2, c .before .before .link-one .ensures .1 ∙ g .3)
 
 same-length : tie.Need-same-length Inv-loop μ-loop
-same-length c = c .before .loop .inv .2 ∙ c .before .before .before .before .clear .kept .1 .0
+same-length c = c .before .loop .inv .2 ∙ c .before .before .before .before .zero .kept .0
 
 returns : tie.Need-returns Inv-loop μ-loop
 returns c =
     let g = c .before .loop .inv in
-    let e : c .before .loop .k ≡ c .before .before .before .before .before .before .before .before .args .n = omega arith in
-    link-end _ _ _ _ (g .2 ∙ c .before .before .before .before .clear .kept .1 .0) (c .before .before .before .before .before .before .before .before .pre .2) (g .3 ∙ c .before .before .before .before .clear .ensures .1) (rw e at (g .1))
+    let o = c .before .before .before .before .before .before .before .before in
+    let e : c .before .loop .k ≡ o .args .n = omega arith in
+    link-end _ _ _ _ (g .2 ∙ c .before .before .before .before .zero .kept .0) (o .pre .2) (g .3 ∙ ap (drop (o .args .n)) (c .before .before .before .before .zero .ensures) ∙ zeros-past _ _ (o .pre .2)) (rw e at (g .1))
 
 pub link-all-spec : {M : Type 1} → statement M
 link-all-spec =
@@ -58,7 +60,7 @@ link-all-spec =
     (tie.spec
     Inv-loop
     μ-loop
-    clear-requires
+    zero-requires
     loop-holds
     add-k
     link-one-requires

@@ -1,8 +1,11 @@
 -- `put_bit` meets its contract.
 use denote.Ref.{now}
-use mathlib.Core.Path.{sym, ap}
-use lib.ListN.{set, List·getD-eq-default}
+use Prim.Native.Nat.{ℕ, _%_}
+use mathlib.Core.Path.{_≡_, sym, ap, _∙_}
+use native.Mathlib.Omega.{arith}
+use lib.ListN.{getD, set, List·getD-eq-default}
 use lib.Seq.{getD-set-same, set-out}
+use Rattle.layout.specs.Field.{putFlag}
 use borrow.Author.Needs.{needs}
 use Rattle.postponed.proofs.put_bit.Statement.{statement}
 use Rattle.postponed.proofs.put_bit.Tie as tie
@@ -16,6 +19,9 @@ slice-read-with-bit c = search needs
 with-bit-requires : tie.Need-with-bit-requires
 with-bit-requires c κs = search needs
 
+cast-with-bit : tie.Need-cast-with-bit
+cast-with-bit c = search needs
+
 mul-work : tie.Need-mul-work
 mul-work c = search needs
 
@@ -28,7 +34,8 @@ same-length c = search needs
 returns : tie.Need-returns
 returns c =
     let a = c .before .before .before .before .args in
-    (sym (getD-set-same (now (a .work)) (a .at) _ 0 (c .before .before .if1 .taken)), ap (set (now (a .work)) (a .at)) (c .with-bit .ensures))
+    let twice : a .i % 32 % 32 ≡ a .i % 32 = omega arith in
+    (sym (getD-set-same (now (a .work)) (a .at) _ 0 (c .before .before .if1 .taken)), ap (set (now (a .work)) (a .at)) (c .with-bit .ensures ∙ ap (λ (p : ℕ). putFlag p (a .on) (getD (now (a .work)) (a .at) 0)) twice))
 
 returns-2 : tie.Need-returns-2
 returns-2 c =
@@ -41,6 +48,7 @@ put-bit-spec =
     (tie.spec
     mul-with-bit
     slice-read-with-bit
+    cast-with-bit
     with-bit-requires
     mul-work
     slice-write-work

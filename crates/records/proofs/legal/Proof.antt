@@ -2,7 +2,7 @@
 use borrow.Author.Needs.{needs}
 use borrow.Author.Tests.{lt-ltb, le-ltb, leb-true, leb-false, eq-eqb, ne-eqb}
 use mathlib.Core.Path.{_≡_, refl, _∙_, sym, ap}
-use mathlib.Core.Bool.{true, false, not, Bool, _&&_, _||_, false≢true}
+use mathlib.Core.Bool.{true, false, not, Bool, _&&_, _||_, and-true, or-true, or-false, false≢true}
 use Prim.Native.Nat.{ℕ}
 use lib.Bits.{bitAnd}
 use lib.Dec.{eqb, leb, ltb}
@@ -34,22 +34,11 @@ all-pass true false c d e f h = absurd (false≢true (sym h))
 all-pass true true false d e f h = absurd (false≢true (sym h))
 all-pass true true true false e f h = absurd (false≢true (sym h))
 
--- the two tests that speak of the cluster, for an object that is neither, for one in no cluster and for a member
+-- the two tests that speak of the cluster, for an object that is neither
 plain-passes : (s o k : Bool) → not (s || o) ≡ true → true ≡ (not s || k) && (not o || not k)
 plain-passes false false k h = refl
 plain-passes false true k h = absurd (false≢true h)
 plain-passes true o k h = absurd (false≢true h)
-
-loose-passes : (s o : Bool) → not o ≡ (not s || true) && (not o || false)
-loose-passes true true = refl
-loose-passes true false = refl
-loose-passes false true = refl
-loose-passes false false = refl
-
-member-passes : (s o : Bool) → not s ≡ (not s || false) && (not o || true)
-member-passes true o = refl
-member-passes false true = refl
-member-passes false false = refl
 
 module _ (n r : ℕ) where
   -- the tests as the code makes them
@@ -82,13 +71,13 @@ module _ (n r : ℕ) where
     loose z = of-none ∙ passed
       where
         of-none : not (flag 3 r) ≡ sink-passes && out-passes
-        of-none = rw (eq-eqb _ _ z) (loose-passes (flag 2 r) (flag 3 r))
+        of-none = rw (eq-eqb _ _ z, or-true (not (flag 2 r)), or-false (not (flag 3 r))) refl
 
     member : (cluster r ≡ 0 → ⊥) → not (flag 2 r) ≡ legal n r
     member z = of-some ∙ passed
       where
         of-some : not (flag 2 r) ≡ sink-passes && out-passes
-        of-some = rw (ne-eqb _ _ z) (member-passes (flag 2 r) (flag 3 r))
+        of-some = rw (ne-eqb _ _ z, or-false (not (flag 2 r)), or-true (not (flag 3 r)), and-true (not (flag 2 r))) refl
 
 -- none of the joined tests holds
 none-holds : (c : tie.Else1) → joined (c .before .before .before .before .args .n) (c .before .before .before .before .args .r) ≡ false

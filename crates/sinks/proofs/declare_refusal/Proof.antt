@@ -1,8 +1,7 @@
 -- `sinks::declare_refusal` makes the tests in their order. Assumes nothing.
 use mathlib.Core.Path.{sym, _∙_}
-use mathlib.Core.Logic.{⊎-elim}
 use borrow.Author.Tests.{not-true, not-false}
-use Rattle.sinks.proofs.SinkLaws.{bad-control, few-records, few-slots, few-roots, no-object, is-damaged, is-free, is-given}
+use Rattle.sinks.proofs.SinkLaws.{bad-control, few-words, no-object, is-damaged, is-free, is-given}
 use borrow.Author.Needs.{needs}
 use Rattle.sinks.proofs.declare_refusal.Statement.{statement}
 use Rattle.sinks.proofs.declare_refusal.Tie as tie
@@ -13,36 +12,24 @@ bad-control-requires c κs = search needs
 returns : tie.Need-returns
 returns c = bad-control _ _ _ _ _ (sym (c .before .bad-control .ensures) ∙ c .if1 .taken)
 
-cast-if2 : tie.Need-cast-if2
-cast-if2 c = search needs
-
-slots-len-requires : tie.Need-slots-len-requires
-slots-len-requires c κs = search needs
-
-cast-if4 : tie.Need-cast-if4
-cast-if4 c = search needs
+short-heap-requires : tie.Need-short-heap-requires
+short-heap-requires c κs = search needs
 
 returns-2 : tie.Need-returns-2
 returns-2 c =
     let e = c .before .before in
     let b = sym (e .before .bad-control .ensures) ∙ e .if1 .left in
-    ⊎-elim (λ w. few-records _ _ _ _ _ b (w .taken))
-    (⊎-elim (λ w. few-slots _ _ _ _ _ b (w .0 .left) _ (w .1 .ensures) (w .2 .taken))
-    (λ w. few-roots _ _ _ _ _ b (w .0 .left) _ (w .1 .ensures) (w .2 .left) (w .4 .taken)))
-    (c .if2 .came)
+    few-words _ _ _ _ _ b _ (c .before .short-heap .ensures) (c .if2 .taken)
 
 within-requires : tie.Need-within-requires
 within-requires c κs = search needs
 
 returns-3 : tie.Need-returns-3
 returns-3 c =
-    let f = c .before .before in
-    let t = f .before .before in
-    let s = t .before in
-    let u = s .before in
-    let e = u .before .before in
+    let h = c .before .before in
+    let e = h .before .before in
     let b = sym (e .before .bad-control .ensures) ∙ e .if1 .left in
-    no-object _ _ _ _ _ b (u .if2 .left) _ (s .slots-len .ensures) (t .if3 .left) (f .if4 .left) (sym (c .before .within .ensures) ∙ not-true _ (c .if5 .taken))
+    no-object _ _ _ _ _ b _ (h .before .short-heap .ensures) (h .if2 .left) (sym (c .before .within .ensures) ∙ not-true _ (c .if3 .taken))
 
 well-formed-requires : tie.Need-well-formed-requires
 well-formed-requires c κs = search needs
@@ -50,14 +37,11 @@ well-formed-requires c κs = search needs
 returns-4 : tie.Need-returns-4
 returns-4 c =
     let w = c .before .before in
-    let f = w .before .before in
-    let t = f .before .before in
-    let s = t .before in
-    let u = s .before in
-    let e = u .before .before in
+    let h = w .before .before in
+    let e = h .before .before in
     let b = sym (e .before .bad-control .ensures) ∙ e .if1 .left in
-    is-damaged _ _ _ _ _ b (u .if2 .left) _ (s .slots-len .ensures) (t .if3 .left) (f .if4 .left) (sym (w .before .within .ensures) ∙ not-false _ (w .if5 .left))
-    _ (c .before .well-formed .ensures) (not-true _ (c .if6 .taken))
+    is-damaged _ _ _ _ _ b _ (h .before .short-heap .ensures) (h .if2 .left) (sym (w .before .within .ensures) ∙ not-false _ (w .if3 .left))
+    _ (c .before .well-formed .ensures) (not-true _ (c .if4 .taken))
 
 record-of-requires : tie.Need-record-of-requires
 record-of-requires c κs = search needs
@@ -66,27 +50,21 @@ returns-5 : tie.Need-returns-5
 returns-5 c =
     let g = c .before .before in
     let w = g .before .before in
-    let f = w .before .before in
-    let t = f .before .before in
-    let s = t .before in
-    let u = s .before in
-    let e = u .before .before in
+    let h = w .before .before in
+    let e = h .before .before in
     let b = sym (e .before .bad-control .ensures) ∙ e .if1 .left in
-    is-free _ _ _ _ _ b (u .if2 .left) _ (s .slots-len .ensures) (t .if3 .left) (f .if4 .left) (sym (w .before .within .ensures) ∙ not-false _ (w .if5 .left))
-    _ (g .before .well-formed .ensures) (not-false _ (g .if6 .left)) _ (c .before .record-of .ensures) (c .if7 .taken)
+    is-free _ _ _ _ _ b _ (h .before .short-heap .ensures) (h .if2 .left) (sym (w .before .within .ensures) ∙ not-false _ (w .if3 .left))
+    _ (g .before .well-formed .ensures) (not-false _ (g .if4 .left)) _ (c .before .record-of .ensures) (c .if5 .taken)
 
 returns-6 : tie.Need-returns-6
 returns-6 c =
     let g = c .before .before in
     let w = g .before .before in
-    let f = w .before .before in
-    let t = f .before .before in
-    let s = t .before in
-    let u = s .before in
-    let e = u .before .before in
+    let h = w .before .before in
+    let e = h .before .before in
     let b = sym (e .before .bad-control .ensures) ∙ e .if1 .left in
-    is-given _ _ _ _ _ b (u .if2 .left) _ (s .slots-len .ensures) (t .if3 .left) (f .if4 .left) (sym (w .before .within .ensures) ∙ not-false _ (w .if5 .left))
-    _ (g .before .well-formed .ensures) (not-false _ (g .if6 .left)) _ (c .before .record-of .ensures) (c .if7 .left)
+    is-given _ _ _ _ _ b _ (h .before .short-heap .ensures) (h .if2 .left) (sym (w .before .within .ensures) ∙ not-false _ (w .if3 .left))
+    _ (g .before .well-formed .ensures) (not-false _ (g .if4 .left)) _ (c .before .record-of .ensures) (c .if5 .left)
 
 pub declare-refusal-spec : {M : Type 1} → statement M
 declare-refusal-spec =
@@ -94,9 +72,7 @@ declare-refusal-spec =
     (tie.spec
     bad-control-requires
     returns
-    cast-if2
-    slots-len-requires
-    cast-if4
+    short-heap-requires
     returns-2
     within-requires
     returns-3

@@ -1,8 +1,8 @@
 -- `sweep::clear_marks` is a pass over the records. Assumes nothing.
 use Prim.Native.Nat.{_-_}
 use borrow.Author.Tests.{ltb-true, ltb-false}
-use Rattle.sweep.specs.Sweep.{bareWord, bare}
-use Rattle.sweep.proofs.MarkLaws.{bare-start}
+use Rattle.sweep.specs.Sweep.{unflaggedRecord, unflagged}
+use Rattle.sweep.proofs.MarkLaws.{unflagged-start}
 use Rattle.sweep.proofs.PassingLaws.{Passing, passing-start, passing-turn, passing-end, passing-past}
 use borrow.Author.Needs.{needs}
 use native.Mathlib.Omega.{arith}
@@ -10,22 +10,22 @@ use Rattle.sweep.proofs.clear_marks.Statement.{statement}
 use Rattle.sweep.proofs.clear_marks.Tie as tie
 
 abbrev Inv-loop : tie.InvT-loop
-Inv-loop n records₀ m i₀ records i = Passing 1 (λ x r. bareWord r) n (bare n records₀) records₀ records i
+Inv-loop n records₀ m i₀ records i = Passing 1 (λ x r. unflaggedRecord r) n (unflagged n records₀) records₀ records i
 
 abbrev μ-loop : tie.MeasureT-loop
 μ-loop n records₀ m i₀ records i = n - i
 
 loop-holds : tie.Need-loop-holds Inv-loop μ-loop
-loop-holds c = passing-start _ _ _ _ _ (bare-start _ _)
+loop-holds c = passing-start _ _ _ _ _ (unflagged-start _ _)
 
-mul-bare : tie.Need-mul-bare Inv-loop μ-loop
-mul-bare c = search needs
+mul-unflagged-record : tie.Need-mul-unflagged-record Inv-loop μ-loop
+mul-unflagged-record c = search needs
 
-slice-read-bare : tie.Need-slice-read-bare Inv-loop μ-loop
-slice-read-bare c = search needs
+slice-read-unflagged-record : tie.Need-slice-read-unflagged-record Inv-loop μ-loop
+slice-read-unflagged-record c = search needs
 
-bare-requires : tie.Need-bare-requires Inv-loop μ-loop
-bare-requires c κs = search needs
+unflagged-record-requires : tie.Need-unflagged-record-requires Inv-loop μ-loop
+unflagged-record-requires c κs = search needs
 
 mul-records : tie.Need-mul-records Inv-loop μ-loop
 mul-records c = search needs
@@ -42,7 +42,7 @@ loop-less c = omega arith
 loop-again : tie.Need-loop-again Inv-loop μ-loop
 loop-again c =
     let l = c .before .before .before .before .loop in
-    passing-turn _ _ _ _ _ _ (l .i) (l .inv) _ (c .before .before .before .loop-test .taken) (ltb-true _ _ (c .before .before .if1 .taken)) (c .bare .ensures)
+    passing-turn _ _ _ _ _ _ (l .i) (l .inv) _ (c .before .before .before .loop-test .taken) (ltb-true _ _ (c .before .before .if1 .taken)) (c .unflagged-record .ensures)
 
 same-length : tie.Need-same-length Inv-loop μ-loop
 same-length c = c .before .before .loop .inv .long
@@ -63,9 +63,9 @@ clear-marks-spec =
     Inv-loop
     μ-loop
     loop-holds
-    mul-bare
-    slice-read-bare
-    bare-requires
+    mul-unflagged-record
+    slice-read-unflagged-record
+    unflagged-record-requires
     mul-records
     slice-write-records
     add-i

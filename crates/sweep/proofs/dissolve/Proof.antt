@@ -2,7 +2,8 @@
 use Prim.Native.Nat.{_-_}
 use borrow.Author.Tests.{ltb-true, ltb-false}
 use Rattle.records.specs.Record.{isMarked}
-use Rattle.sweep.specs.Sweep.{headKept}
+use Rattle.rules.specs.Sweep.{keptRecord}
+use Rattle.sweep.specs.Sweep.{markedAt}
 use Rattle.sweep.proofs.PassingLaws.{InPlace, in-place-start, in-place-turn, passing-end, passing-past}
 use Rattle.sweep.proofs.MarkLaws.{head-same, head-mark}
 use borrow.Author.Needs.{needs}
@@ -11,7 +12,7 @@ use Rattle.sweep.proofs.dissolve.Statement.{statement}
 use Rattle.sweep.proofs.dissolve.Tie as tie
 
 abbrev Inv-loop : tie.InvT-loop
-Inv-loop n records₀ m i₀ records i = InPlace isMarked (headKept n) n records₀ records i
+Inv-loop n records₀ m i₀ records i = InPlace isMarked (λ recs. keptRecord (markedAt n recs)) n records₀ records i
 
 abbrev μ-loop : tie.MeasureT-loop
 μ-loop n records₀ m i₀ records i = n - i

@@ -57,9 +57,10 @@ part-free-all-end c = search needs
 
 free-all-requires : tie.Need-free-all-requires
 free-all-requires c κs =
-    let a = c .before .before .before .before .before .before .before .before .before .before .before .before .before .before .before .before .before .before .before .before .before .before .before .before .before .args in
-    let k = c .before .before .before .before .before .before .before .before .before .before .before .before .before .before .before .before .before .map-len in
-    omega (arith, length-take (k .result - 0) (c .before .before .before .before .before .before .before .before .before .before .before .before .before .fill-map .last .1 .1 .0), k .ensures, map-most (a .n) (c .before .before .before .before .before .before .before .before .before .before .before .before .before .before .before .before .before .before .before .before .before .if1 .left))
+    let t = c .before .before .before .before .before .before .before .before .before .before .before .before .before in
+    let a = t .before .before .before .before .before .before .before .before .before .before .before .before .args in
+    let k = t .before .before .before .before .map-len in
+    omega (arith, length-take (k .result - 0) (t .fill-map .last .1 .1 .0), k .ensures, map-most (a .n) (t .before .before .before .before .before .before .before .before .if1 .left))
 
 clear-marks-requires : tie.Need-clear-marks-requires
 clear-marks-requires c κs = search needs
@@ -75,13 +76,15 @@ same-length-3 c = search needs
 
 returns-5 : tie.Need-returns-5
 returns-5 c =
-    let a = c .before .before .before .before .before .before .before .before .before .before .before .before .before .before .before .before .before .before .before .before .before .before .before .before .before .before .before .before .before .before .before .before .before .before .args in
-    let k = c .before .before .before .before .before .before .before .before .before .before .before .before .before .before .before .before .before .before .before .before .before .before .before .before .before .before .map-len in
-    let m = c .before .before .before .before .before .before .before .before .before .before .before .before .before .before .before .before .before .before .before .before .before .before .fill-map in
+    let t = c .before .before .before .before .before .before .before .before .before .before .before .before .before .before .before in
+    let u = t .before .before .before .before .before .before .before .before .before .before in
+    let a = u .before .before .before .before .before .before .before .before .before .args in
+    let k = u .before .map-len in
+    let m = t .before .before .before .before .before .before .before .fill-map in
     let z : k .result - 0 ≡ mapLen (a .n) = omega (arith, k .ensures) in
     let f = c .before .before .before .before .before .before .before .before .free-all in
-    swept _ _ _ _ (c .before .before .before .before .before .before .before .before .before .before .before .before .before .before .before .before .before .before .before .before .before .before .before .before .before .before .before .before .before .before .if1 .left) (c .before .before .before .before .before .before .before .before .before .before .before .before .before .before .before .before .before .before .before .before .before .before .before .before .before .before .before .before .before .if2 .left) (omega (arith, c .before .before .before .before .before .before .before .before .before .before .before .before .before .before .before .before .before .before .before .before .before .before .before .before .before .before .before .before .slots-len .ensures, c .before .before .before .before .before .before .before .before .before .before .before .before .before .before .before .before .before .before .before .before .before .before .before .before .before .before .before .if3 .left)) (omega (arith, k .ensures, c .before .before .before .before .before .before .before .before .before .before .before .before .before .before .before .before .before .before .before .before .before .before .before .before .before .if4 .left)) _ _ _ _ _ _ _
-    (m .ensures) (ap (λ (j : ℕ). take j (m .last .1 .1 .0)) z) (c .before .before .before .before .before .before .before .before .before .before .before .before .before .before .before .before .before .ones .ensures) (c .before .before .before .before .before .before .before .before .before .before .before .before .before .before .before .dissolve .ensures) (f .ensures .0) (f .ensures .1) (c .before .before .clear-marks .ensures)
+    swept _ _ _ _ (u .before .before .before .before .before .if1 .left) (u .before .before .before .before .if2 .left) (omega (arith, u .before .before .before .slots-len .ensures, u .before .before .if3 .left)) (omega (arith, k .ensures, u .if4 .left)) _ _ _ _ _ _ _
+    (m .ensures) (ap (λ (j : ℕ). take j (m .last .1 .1 .0)) z) (t .before .before .ones .ensures) (t .dissolve .ensures) (f .ensures .0) (f .ensures .1) (c .before .before .clear-marks .ensures)
 
 pub sweep-spec : {M : Type 1} → statement M
 sweep-spec =

@@ -1,5 +1,5 @@
 -- `form` meets its contract. Assumes nothing.
-use Rattle.analyse.proofs.StartLaws.{formable-now, prepared, all-starts}
+use Rattle.analyse.proofs.StartLaws.{prepared, roots-fit, all-starts}
 use borrow.Author.Needs.{needs}
 use Rattle.analyse.proofs.form.form.Statement.{statement}
 use Rattle.analyse.proofs.form.form.Tie as tie
@@ -12,10 +12,10 @@ put-states-requires c κs = search needs
 
 from-roots-requires : tie.Need-from-roots-requires
 from-roots-requires c κs =
-    let f = c .before .before .before .before .before .before .before .before .before .before .before .before .before .pre in
+    let o = c .before .before .before .before .before .before .before .before .before .before .before .before .before in
     let l = c .before .before .before .before .before .before .before .put-links .ensures in
     let s = c .before .before .before .put-states .ensures in
-    (formable-now _ _ _ _ _ _ _ _ _ f l s, prepared _ _ _ _ _ _ _ _ _ f l s)
+    (prepared _ _ _ _ _ _ _ _ (o .pre .0) l s .walked .walking, o .pre .1, roots-fit _ (o .args .r) _ _ (o .args .roots .now) (o .pre .0 .fit))
 
 from-sinks-requires : tie.Need-from-sinks-requires
 from-sinks-requires c κs = c .before .before .before .from-roots .ensures .walking
@@ -24,7 +24,11 @@ same-length : tie.Need-same-length
 same-length c = search needs
 
 returns : tie.Need-returns
-returns c = all-starts _ _ _ _ _ _ (c .before .before .from-sinks .ensures _ (c .before .before .before .before .before .before .before .before .before .before .before .before .before .before .before .before .before .before .before .before .pre .roots-fit) (c .before .before .before .before .before .before .from-roots .ensures))
+returns c =
+    let o = c .before .before .before .before .before .before .before .before .before .before .before .before .before .before .before .before .before .before .before .before in
+    let l = c .before .before .before .before .before .before .before .before .before .before .before .before .before .before .put-links .ensures in
+    let s = c .before .before .before .before .before .before .before .before .before .before .put-states .ensures in
+    all-starts _ _ _ _ (o .args .r) _ _ _ _ (c .before .before .before .before .before .before .from-roots .ensures) (c .before .before .from-sinks .ensures) (prepared _ _ _ _ _ _ _ _ (o .pre .0) l s)
 
 pub form-spec : {M : Type 1} → statement M
 form-spec =

@@ -2,21 +2,20 @@
 use Prim.Native.Nat.{_-_, _≤_}
 use mathlib.Core.Path.{_≡_, refl, _∙_}
 use lib.ListN.{length, take}
-use Rattle.analyse.specs.Starts.{From}
-use Rattle.analyse.proofs.StartLaws.{root-fits, root-more}
-use borrow.Author.Needs.{needs}
+use Rattle.analyse.specs.Starts.{GoesOn}
+use Rattle.analyse.proofs.StartLaws.{on-none, roots-more, root-in}
 use native.Mathlib.Omega.{arith}
 use Rattle.analyse.proofs.form.from_roots.Statement.{statement}
 use Rattle.analyse.proofs.form.from_roots.Tie as tie
 
 abbrev Inv-loop : tie.InvT-loop
-Inv-loop n r limit records slots roots work₀ j₀ work j = From n records slots limit (take j roots) work × (j ≤ r) × (length work ≡ length work₀)
+Inv-loop n r limit records slots roots work₀ j₀ work j = GoesOn n records slots limit (take j roots) work₀ work × (j ≤ r) × (length work ≡ length work₀)
 
 abbrev μ-loop : tie.MeasureT-loop
 μ-loop n r limit records slots roots work₀ j₀ work j = r - j
 
 loop-holds : tie.Need-loop-holds Inv-loop μ-loop
-loop-holds c = (c .before .before .before .before .pre .1, omega arith, refl)
+loop-holds c = (on-none _ _ _ _ _ (c .before .before .before .before .pre .0), omega arith, refl)
 
 cast-start : tie.Need-cast-start Inv-loop μ-loop
 cast-start c = omega arith
@@ -25,10 +24,13 @@ mul-start : tie.Need-mul-start Inv-loop μ-loop
 mul-start c = omega arith
 
 shared-slice-read-start : tie.Need-shared-slice-read-start Inv-loop μ-loop
-shared-slice-read-start c = omega (arith, c .before .before .before .before .before .before .before .before .pre .0 .roots-long, c .before .before .loop-test .taken)
+shared-slice-read-start c = omega (arith, c .before .before .before .before .before .before .before .before .pre .1, c .before .before .loop-test .taken)
 
 start-requires : tie.Need-start-requires Inv-loop μ-loop
-start-requires c κs = (c .before .before .before .loop .inv .0 .walking, root-fits _ _ _ (c .before .before .before .before .before .before .before .before .pre .0 .roots-fit) (c .before .before .before .before .before .before .before .before .pre .0 .roots-long) _ (c .before .before .loop-test .taken))
+start-requires c κs =
+    let p = c .before .before .before .before .before .before .before .before .pre in
+    let more = c .before .before .loop-test .taken in
+    (c .before .before .before .loop .inv .0 .walking, p .2 _ (root-in _ _ _ (omega (arith, p .1, more)) more))
 
 add-j : tie.Need-add-j Inv-loop μ-loop
 add-j c = omega arith
@@ -39,8 +41,9 @@ loop-less c = omega arith
 loop-again : tie.Need-loop-again Inv-loop μ-loop
 loop-again c =
     let g = c .before .before .before .before .before .before .loop .inv in
-    let f = c .before .before .before .before .before .before .before .before .before .before .before .pre .0 in
-    (root-more _ _ _ (f .roots-fit) (f .roots-long) _ (c .before .before .before .before .before .loop-test .taken) _ _ _ _ _ (g .0) (c .before .before .start .ensures), omega (arith, c .before .before .before .before .before .loop-test .taken), c .before .before .start .kept .1 .1 .1 .1 .0 ∙ g .2)
+    let more = c .before .before .before .before .before .loop-test .taken in
+    let o = c .before .before .before .before .before .before .before .before .before .before .before in
+    (roots-more _ _ _ _ (o .args .roots .now) (c .before .before .before .before .before .before .loop .j) _ _ _ (g .0) (c .before .before .start .ensures) (omega (arith, o .pre .1, more)), omega (arith, more), c .before .before .start .kept .1 .1 .1 .1 .0 ∙ g .2)
 
 same-length : tie.Need-same-length Inv-loop μ-loop
 same-length c = c .before .loop .inv .2

@@ -1,6 +1,5 @@
 -- `put_links` meets its contract. Assumes nothing.
 use Rattle.analyse.proofs.PartLaws.{links-filled}
-use mathlib.Core.Path.{_≡_, refl}
 use borrow.Author.Needs.{needs}
 use Rattle.analyse.proofs.form.put_links.Statement.{statement}
 use Rattle.analyse.proofs.form.put_links.Tie as tie

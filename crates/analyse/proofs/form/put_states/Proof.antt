@@ -1,16 +1,17 @@
 -- `put_states` meets its contract. Assumes nothing.
 use Prim.Native.Nat.{_*_, _-_, _≤_}
-use mathlib.Core.Path.{_≡_}
-use Rattle.links.specs.Links.{clOf}
+use mathlib.Core.Path.{_≡_, ap, _∙_}
+use Rattle.records.specs.Record.{cluster}
+use Rattle.table.specs.Clusters.{clusterOf}
 use Rattle.analyse.specs.Filling.{Filling}
-use Rattle.analyse.proofs.FillLaws.{fill-start, fill-turn, cluster-here}
+use Rattle.analyse.proofs.FillLaws.{fill-start, fill-turn}
 use borrow.Author.Needs.{needs}
 use native.Mathlib.Omega.{arith}
 use Rattle.analyse.proofs.form.put_states.Statement.{statement}
 use Rattle.analyse.proofs.form.put_states.Tie as tie
 
 abbrev Inv-loop : tie.InvT-loop
-Inv-loop n records work₀ k₀ work k = Filling n (9 * n) (clOf n records) work₀ work k × (k ≤ n)
+Inv-loop n records work₀ k₀ work k = Filling n (9 * n) (clusterOf n records) work₀ work k × (k ≤ n)
 
 abbrev μ-loop : tie.MeasureT-loop
 μ-loop n records work₀ k₀ work k = n - k
@@ -18,20 +19,14 @@ abbrev μ-loop : tie.MeasureT-loop
 loop-holds : tie.Need-loop-holds Inv-loop μ-loop
 loop-holds c = (fill-start _ _ _ _, omega arith)
 
-cast-cluster-of : tie.Need-cast-cluster-of Inv-loop μ-loop
-cast-cluster-of c = omega arith
+add-k : tie.Need-add-k Inv-loop μ-loop
+add-k c = omega arith
 
-mul-cluster-of : tie.Need-mul-cluster-of Inv-loop μ-loop
-mul-cluster-of c = omega arith
-
-shared-slice-read-cluster-of : tie.Need-shared-slice-read-cluster-of Inv-loop μ-loop
-shared-slice-read-cluster-of c = omega arith
+record-at-requires : tie.Need-record-at-requires Inv-loop μ-loop
+record-at-requires c κs = (omega arith, omega (arith, c .loop-test .taken), c .before .before .before .before .pre .0)
 
 cluster-of-requires : tie.Need-cluster-of-requires Inv-loop μ-loop
 cluster-of-requires c κs = search needs
-
-add-k : tie.Need-add-k Inv-loop μ-loop
-add-k c = omega arith
 
 mul-put-word : tie.Need-mul-put-word Inv-loop μ-loop
 mul-put-word c = omega arith
@@ -44,9 +39,8 @@ loop-less c = omega arith
 
 loop-again : tie.Need-loop-again Inv-loop μ-loop
 loop-again c =
-    let g = c .before .before .before .before .before .before .before .loop .inv in
     let h = c .before .before .before .before .before .before .loop-test .taken in
-    (fill-turn _ _ _ _ _ _ _ _ (g .0) h (omega (arith, c .before .before .before .before .before .before .before .before .before .before .pre .1)) (c .before .before .put-word .ensures) (cluster-here _ _ _ _ h (c .before .before .before .before .cluster-of .ensures)), omega (arith, h))
+    (fill-turn _ _ _ _ _ _ _ _ (c .before .before .before .before .before .before .before .loop .inv .0) h (omega (arith, c .before .before .before .before .before .before .before .before .before .before .pre .1)) (c .before .before .put-word .ensures) (c .before .before .before .before .cluster-of .ensures ∙ ap cluster (c .before .before .before .before .before .record-at .ensures)), omega (arith, h))
 
 same-length : tie.Need-same-length Inv-loop μ-loop
 same-length c = c .before .loop .inv .0 .long
@@ -63,11 +57,9 @@ put-states-spec =
     Inv-loop
     μ-loop
     loop-holds
-    cast-cluster-of
-    mul-cluster-of
-    shared-slice-read-cluster-of
-    cluster-of-requires
     add-k
+    record-at-requires
+    cluster-of-requires
     mul-put-word
     put-word-requires
     loop-less

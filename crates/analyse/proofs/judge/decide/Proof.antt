@@ -5,7 +5,6 @@ use Rattle.analyse.specs.Filling.{Filling}
 use Rattle.analyse.specs.Judge.{leftWord}
 use Rattle.analyse.proofs.FillLaws.{fill-start, fill-turn}
 use Rattle.analyse.proofs.JudgeLaws.{judging-now, left-same}
-use borrow.Author.Needs.{needs}
 use native.Mathlib.Omega.{arith}
 use Rattle.analyse.proofs.judge.decide.Statement.{statement}
 use Rattle.analyse.proofs.judge.decide.Tie as tie

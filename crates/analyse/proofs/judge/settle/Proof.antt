@@ -1,7 +1,7 @@
 -- `settle` meets its contract. Assumes nothing.
 use Prim.Native.Nat.{_-_}
-use mathlib.Core.Path.{_≡_, ap, _∙_}
-use Prim.Native.Nat.{ℕ, _+_}
+use mathlib.Core.Path.{ap, _∙_}
+use Prim.Native.Nat.{ℕ}
 use lib.ListN.{getD}
 use Rattle.analyse.specs.Memory.{area}
 use Rattle.choices.specs.Choices.{settled}

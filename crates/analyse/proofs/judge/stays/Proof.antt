@@ -1,24 +1,20 @@
 -- `stays` meets its contract. Assumes nothing.
 use native.Mathlib.Omega.{arith}
+use mathlib.Core.Path.{ap, _∙_}
+use Rattle.records.specs.Record.{cluster}
 use Rattle.analyse.proofs.JudgeLaws.{stays-old, stays-new}
 use borrow.Author.Needs.{needs}
 use Rattle.analyse.proofs.judge.stays.Statement.{statement}
 use Rattle.analyse.proofs.judge.stays.Tie as tie
 
-sub-cluster-of : tie.Need-sub-cluster-of
-sub-cluster-of c = search needs
-
-mul-cluster-of : tie.Need-mul-cluster-of
-mul-cluster-of c = search needs
-
-shared-slice-read-cluster-of : tie.Need-shared-slice-read-cluster-of
-shared-slice-read-cluster-of c = let s = c .before .before .before .before .pre in omega (arith, s .0 .sized .recs-long, s .1, s .2)
+record-at-requires : tie.Need-record-at-requires
+record-at-requires c κs = let s = c .before .before .before .pre in (s .1, s .2, s .0 .sized .room .recs-long)
 
 cluster-of-requires : tie.Need-cluster-of-requires
 cluster-of-requires c κs = search needs
 
 returns : tie.Need-returns
-returns c = let s = c .before .before .before .before .before .before .pre in stays-old _ _ _ _ (s .1) (s .2) _ (c .before .cluster-of .ensures) (c .if1 .taken)
+returns c = stays-old _ _ _ _ _ (c .before .cluster-of .ensures ∙ ap cluster (c .before .before .record-at .ensures)) (c .if1 .taken)
 
 mul-word-of : tie.Need-mul-word-of
 mul-word-of c = search needs
@@ -33,15 +29,13 @@ stays-requires : tie.Need-stays-requires
 stays-requires c κs = search needs
 
 returns-2 : tie.Need-returns-2
-returns-2 c = let s = c .before .before .before .before .before .before .before .before .before .pre in stays-new _ _ _ _ (s .1) (s .2) _ (c .before .before .before .before .cluster-of .ensures) (c .before .before .before .if1 .left) _ _ (c .before .before .word-of .ensures) (c .before .word-of2 .ensures) _ (c .stays .ensures)
+returns-2 c = stays-new _ _ _ _ _ (c .before .before .before .before .cluster-of .ensures ∙ ap cluster (c .before .before .before .before .before .record-at .ensures)) (c .before .before .before .if1 .left) _ _ (c .before .before .word-of .ensures) (c .before .word-of2 .ensures) _ (c .stays .ensures)
 
 pub stays-spec : {M : Type 1} → statement M
 stays-spec =
     tie.close
     (tie.spec
-    sub-cluster-of
-    mul-cluster-of
-    shared-slice-read-cluster-of
+    record-at-requires
     cluster-of-requires
     returns
     mul-word-of

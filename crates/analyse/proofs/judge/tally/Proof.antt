@@ -1,9 +1,8 @@
 -- `tally` meets its contract. Assumes nothing.
-use Prim.Native.Nat.{ℕ, _+_, _-_, _*_, _%_, _≤_}
-use mathlib.Core.Path.{_≡_, refl, ap, _∙_}
+use Prim.Native.Nat.{_+_, _-_, _≤_}
+use mathlib.Core.Path.{_≡_}
 use Rattle.analyse.specs.Judge.{Tallying}
-use Rattle.analyse.proofs.TallyLaws.{tally-asks}
-use borrow.Author.Needs.{needs}
+use Rattle.analyse.proofs.JudgeLaws.{tally-asks}
 use native.Mathlib.Omega.{arith}
 use Rattle.analyse.proofs.judge.tally.Statement.{statement}
 use Rattle.analyse.proofs.judge.tally.Tie as tie
@@ -15,20 +14,22 @@ abbrev μ-loop : tie.MeasureT-loop
 μ-loop n records slots work₀ k₀ work k = n - k
 
 loop-holds : tie.Need-loop-holds Inv-loop μ-loop
-loop-holds c = (c .before .before .before .pre .2, omega arith)
+loop-holds c = (c .before .before .before .pre .1, omega arith)
 
 add-k : tie.Need-add-k Inv-loop μ-loop
 add-k c = omega arith
 
 tally-one-requires : tie.Need-tally-one-requires Inv-loop μ-loop
-tally-one-requires c κs = tally-asks _ _ _ _ _ _ (c .before .before .before .before .before .before .pre .0) (c .before .before .before .before .before .before .pre .1) (c .before .before .loop .inv .0) (c .before .loop-test .taken)
+tally-one-requires c κs = tally-asks _ _ _ _ _ _ (c .before .before .before .before .before .before .pre .0) (c .before .before .loop .inv .0) (c .before .loop-test .taken)
 
 loop-less : tie.Need-loop-less Inv-loop μ-loop
 loop-less c = omega arith
 
 loop-again : tie.Need-loop-again Inv-loop μ-loop
 loop-again c =
-    (c .before .before .tally-one .ensures _ refl _ (c .before .before .before .before .before .loop .inv .0), omega (arith, c .before .before .before .before .loop-test .taken))
+    let l = c .before .before .before .before .before .loop in
+    let e : l .k + 1 - 1 ≡ l .k = omega arith in
+    (c .before .before .tally-one .ensures _ (rw e (l .inv .0)), omega (arith, c .before .before .before .before .loop-test .taken))
 
 same-length : tie.Need-same-length Inv-loop μ-loop
 same-length c = c .before .loop .inv .0 .long

@@ -1,5 +1,8 @@
 -- `used_count` meets its contract. Assumes nothing.
 use Prim.Native.Nat.{_-_}
+use mathlib.Core.Path.{ap, _∙_}
+use Rattle.records.specs.Record.{inUse}
+use Rattle.graph.proofs.NumberLaws.{bit-le}
 use Rattle.analyse.proofs.LimitLaws.{Used, used-start, used-most, used-turn, used-end}
 use borrow.Author.Needs.{needs}
 use native.Mathlib.Omega.{arith}
@@ -15,32 +18,28 @@ abbrev μ-loop : tie.MeasureT-loop
 loop-holds : tie.Need-loop-holds Inv-loop μ-loop
 loop-holds c = used-start _ _
 
-cast-in-use : tie.Need-cast-in-use Inv-loop μ-loop
-cast-in-use c = omega arith
+add-k : tie.Need-add-k Inv-loop μ-loop
+add-k c = omega arith
 
-mul-in-use : tie.Need-mul-in-use Inv-loop μ-loop
-mul-in-use c = omega arith
-
-shared-slice-read-in-use : tie.Need-shared-slice-read-in-use Inv-loop μ-loop
-shared-slice-read-in-use c = omega (arith, c .before .before .before .before .pre .0, c .before .loop-test .taken)
+record-at-requires : tie.Need-record-at-requires Inv-loop μ-loop
+record-at-requires c κs = (omega arith, omega (arith, c .loop-test .taken), c .before .before .before .pre .0)
 
 in-use-requires : tie.Need-in-use-requires Inv-loop μ-loop
 in-use-requires c κs = search needs
 
-one-if-requires : tie.Need-one-if-requires Inv-loop μ-loop
-one-if-requires c κs = search needs
+cast-total : tie.Need-cast-total Inv-loop μ-loop
+cast-total c = search needs
 
 add-total : tie.Need-add-total Inv-loop μ-loop
-add-total c = record { fits = omega (arith, c .before .before .before .before .before .before .pre .1, used-most _ _ _ _ (c .before .before .before .before .loop .inv), c .before .before .before .before .loop .inv .1, c .one-if .ensures .1) }
-
-add-k : tie.Need-add-k Inv-loop μ-loop
-add-k c = omega arith
+add-total c =
+    let l = c .before .before .before .loop .inv in
+    omega (arith, c .before .before .before .before .before .pre .1, used-most _ _ _ _ l, l .1, bit-le (c .in-use .result))
 
 loop-less : tie.Need-loop-less Inv-loop μ-loop
 loop-less c = omega arith
 
 loop-again : tie.Need-loop-again Inv-loop μ-loop
-loop-again c = used-turn _ _ _ _ _ _ (c .before .before .before .before .loop .inv) (c .before .before .before .loop-test .taken) (c .before .in-use .ensures) (c .one-if .ensures .0)
+loop-again c = used-turn _ _ _ _ _ (c .before .before .before .loop .inv) (c .before .before .loop-test .taken) (c .in-use .ensures ∙ ap inUse (c .before .record-at .ensures))
 
 returns : tie.Need-returns Inv-loop μ-loop
 returns c = used-end _ _ _ _ (c .before .loop .inv) (c .loop-test .left)
@@ -52,13 +51,11 @@ used-count-spec =
     Inv-loop
     μ-loop
     loop-holds
-    cast-in-use
-    mul-in-use
-    shared-slice-read-in-use
-    in-use-requires
-    one-if-requires
-    add-total
     add-k
+    record-at-requires
+    in-use-requires
+    cast-total
+    add-total
     loop-less
     loop-again
     returns)

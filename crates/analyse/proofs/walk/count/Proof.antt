@@ -1,8 +1,6 @@
 -- `count` meets its contract. Assumes nothing.
 use native.Mathlib.Omega.{arith}
-use mathlib.Core.Path.{_≡_, sym, ap, _∙_}
-use Rattle.analyse.proofs.MemoryLaws.{put-link, counting-some, counting-none}
-use Rattle.analyse.proofs.CountLaws.{counted, not-counted}
+use Rattle.analyse.proofs.MemoryLaws.{counted, not-counted}
 use borrow.Author.Needs.{needs}
 use Rattle.analyse.proofs.walk.count.Statement.{statement}
 use Rattle.analyse.proofs.walk.count.Tie as tie

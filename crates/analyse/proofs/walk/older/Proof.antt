@@ -1,17 +1,15 @@
 -- `older` meets its contract. Assumes nothing.
 use mathlib.Core.Logic.{_≢_}
-use Rattle.links.specs.Links.{clOf}
+use Rattle.table.specs.Clusters.{clusterOf}
 use Rattle.analyse.proofs.OlderLaws.{Handling, older-start, older-sized, older-room, older-again, older-less, older-end}
-use Prim.Native.Nat.{_≤_}
-use lib.ListN.{length}
-use mathlib.Core.Path.{_≡_, _∙_}
+use mathlib.Core.Path.{_≡_}
 use borrow.Author.Needs.{needs}
 use native.Mathlib.Omega.{arith}
 use Rattle.analyse.proofs.walk.older.Statement.{statement}
 use Rattle.analyse.proofs.walk.older.Tie as tie
 
 abbrev Inv-loop : tie.InvT-loop
-Inv-loop n records slots work₀ d top at₀ x₀ work at x = Handling n records slots d work₀ top work at x × (x ≢ 0 → clOf n records x ≡ d)
+Inv-loop n records slots work₀ d top at₀ x₀ work at x = Handling n records slots d work₀ top work at x × (x ≢ 0 → clusterOf n records x ≡ d)
 
 abbrev μ-loop : tie.MeasureT-loop
 μ-loop n records slots work₀ d top at₀ x₀ work at x = x
@@ -51,13 +49,15 @@ next-member-requires c κs = search needs
 
 loop-less : tie.Need-loop-less Inv-loop μ-loop
 loop-less c =
-    let s = c .before .before .before .before .before .before .before .before .before .before .before .before .before .before .before .pre in
-    older-less _ _ _ _ _ _ (s .1 .0 .0) (s .0) (s .1 .1) _ _ _ (c .before .before .before .before .before .before .before .before .loop .inv) (c .before .before .before .before .before .before .before .loop-test .taken) _ _ (c .before .before .before .before .before .member .kept .1 .1 .1 .0) (c .before .before .before .before .before .member .ensures .0) (c .before .before .before .before .before .member .ensures .1) _ _ (c .before .word-of2 .ensures) (c .next-member .ensures)
+    let t = c .before .before .before .before .before in
+    let s = t .before .before .before .before .before .before .before .before .before .before .pre in
+    older-less _ _ _ _ _ _ (s .1 .0 .0) (s .0) (s .1 .1) _ _ _ (t .before .before .before .loop .inv) (t .before .before .loop-test .taken) _ _ (t .member .kept .1 .1 .1 .0) (t .member .ensures .0) (t .member .ensures .1) _ _ (c .before .word-of2 .ensures) (c .next-member .ensures)
 
 loop-again : tie.Need-loop-again Inv-loop μ-loop
 loop-again c =
-    let s = c .before .before .before .before .before .before .before .before .before .before .before .before .before .before .before .pre in
-    older-again _ _ _ _ _ _ (s .1 .0 .0) (s .0) (s .1 .1) _ _ _ (c .before .before .before .before .before .before .before .before .loop .inv) (c .before .before .before .before .before .before .before .loop-test .taken) _ _ (c .before .before .before .before .before .member .kept .1 .1 .1 .0) (c .before .before .before .before .before .member .ensures .0) (c .before .before .before .before .before .member .ensures .1) _ _ (c .before .word-of2 .ensures) (c .next-member .ensures)
+    let t = c .before .before .before .before .before in
+    let s = t .before .before .before .before .before .before .before .before .before .before .pre in
+    older-again _ _ _ _ _ _ (s .1 .0 .0) (s .0) (s .1 .1) _ _ _ (t .before .before .before .loop .inv) (t .before .before .loop-test .taken) _ _ (t .member .kept .1 .1 .1 .0) (t .member .ensures .0) (t .member .ensures .1) _ _ (c .before .word-of2 .ensures) (c .next-member .ensures)
 
 same-length : tie.Need-same-length Inv-loop μ-loop
 same-length c = c .before .loop .inv .0 .long

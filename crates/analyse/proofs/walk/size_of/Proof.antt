@@ -2,13 +2,13 @@
 use mathlib.Core.Path.{sym, ap}
 use Prim.Native.Nat.{ℕ, _/_}
 use native.Mathlib.Omega.{arith}
-use Rattle.analyse.proofs.MemoryLaws.{area-none}
+use Rattle.analyse.proofs.FillLaws.{area-zero}
 use borrow.Author.Needs.{needs}
 use Rattle.analyse.proofs.walk.size_of.Statement.{statement}
 use Rattle.analyse.proofs.walk.size_of.Tie as tie
 
 returns : tie.Need-returns
-returns c = ap (λ (w : ℕ). w / 4096) (sym (area-none _ _ _ _ (c .if1 .taken)))
+returns c = rw (c .if1 .taken) (ap (λ (w : ℕ). w / 4096) (sym (area-zero _ _ _)))
 
 mul-word-of : tie.Need-mul-word-of
 mul-word-of c = search needs

@@ -2,6 +2,7 @@
 use borrow.Author.Needs.{needs}
 use mathlib.Core.Path.{_∙_}
 use Rattle.analyse.proofs.WalkLaws.{start-visit}
+use Rattle.analyse.proofs.StartLaws.{on-one}
 use Rattle.analyse.proofs.walk.start.Statement.{statement}
 use Rattle.analyse.proofs.walk.start.Tie as tie
 
@@ -18,7 +19,9 @@ same-length : tie.Need-same-length
 same-length c = search needs
 
 returns : tie.Need-returns
-returns c = record { walking = c .before .before .walk .ensures .walking; ended = c .before .before .walk .ensures .ended ∙ c .before .before .before .before .before .before .visit .ensures .same }
+returns c =
+    let w = c .before .before .walk .ensures in
+    on-one _ _ _ _ _ _ _ (c .before .before .before .before .before .before .before .before .before .before .before .pre .1) (record { walking = w .walking; ended = w .ended ∙ c .before .before .before .before .before .before .visit .ensures .same })
 
 pub start-spec : {M : Type 1} → statement M
 start-spec = tie.close (tie.spec mul-visit visit-requires walk-requires same-length returns)

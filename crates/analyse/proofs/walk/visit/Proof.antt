@@ -22,8 +22,10 @@ returns-2 c = skip-seen _ _ _ _ _ _ _ _ (c .before .before .before .before .befo
 
 older-requires : tie.Need-older-requires
 older-requires c κs =
-    let x = c .before .before .before .before .before .before .before .before .before .pre in
-    (x .ground .sized, ((older-low _ _ _ _ _ _ _ _ x (c .before .before .before .before .before .if1 .left) _ (c .before .before .before .word-of .ensures) (c .before .before .if2 .left) (c .before .if3 .taken), older-fits _ _ _ _ _ _ _ _ x (c .before .before .before .before .before .if1 .left) _ (c .before .before .before .word-of .ensures) (c .before .before .if2 .left) (c .before .if3 .taken), x .inside, older-room _ _ _ _ _ _ _ _ x (c .before .before .before .before .before .if1 .left) _ (c .before .before .before .word-of .ensures) (c .before .before .if2 .left) (c .before .if3 .taken)), older-chained _ _ _ _ _ _ _ _ x (c .before .before .before .before .before .if1 .left) _ (c .before .before .before .word-of .ensures) (c .before .before .if2 .left) (c .before .if3 .taken)))
+    let t = c .before .before in
+    let u = t .before .before .before in
+    let x = u .before .before .before .before .pre in
+    (x .ground .sized, ((older-low _ _ _ _ _ _ _ _ x (u .if1 .left) _ (t .before .word-of .ensures) (t .if2 .left) (c .before .if3 .taken), older-fits _ _ _ _ _ _ _ _ x (u .if1 .left) _ (t .before .word-of .ensures) (t .if2 .left) (c .before .if3 .taken), x .inside, older-room _ _ _ _ _ _ _ _ x (u .if1 .left) _ (t .before .word-of .ensures) (t .if2 .left) (c .before .if3 .taken)), older-chained _ _ _ _ _ _ _ _ x (u .if1 .left) _ (t .before .word-of .ensures) (t .if2 .left) (c .before .if3 .taken)))
 
 same-length-2 : tie.Need-same-length-2
 same-length-2 c = search needs

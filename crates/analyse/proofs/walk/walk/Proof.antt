@@ -6,7 +6,6 @@ use lib.ListN.{length}
 use Rattle.analyse.specs.Memory.{memOf, walkOf}
 use Rattle.analyse.specs.Contracts.{Walking}
 use Rattle.analyse.proofs.WalkLaws.{next-visit, turn-less, turn-same, walk-end}
-use borrow.Author.Needs.{needs}
 use native.Mathlib.Omega.{arith}
 use Rattle.analyse.proofs.walk.walk.Statement.{statement}
 use Rattle.analyse.proofs.walk.walk.Tie as tie

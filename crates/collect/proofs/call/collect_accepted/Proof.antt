@@ -1,7 +1,8 @@
 -- `collect_accepted` meets its contract.
 use denote.Ref.{now}
-use Rattle.collect.proofs.AcceptLaws.{trace-able}
-use Rattle.collect.proofs.CollectLaws.{part-long, collected}
+use Rattle.layout.specs.Limits.{workLen}
+use Rattle.table.proofs.CheckLaws.{accepted-part}
+use Rattle.collect.proofs.CollectLaws.{collected}
 use borrow.Author.Needs.{needs}
 use Rattle.collect.proofs.call.collect_accepted.Statement.{statement}
 use Rattle.collect.proofs.call.collect_accepted.Tie as tie
@@ -16,13 +17,14 @@ part-mark-kept-start : tie.Need-part-mark-kept-start
 part-mark-kept-start c = search needs
 
 part-mark-kept-end : tie.Need-part-mark-kept-end
+unfolding workLen
 part-mark-kept-end c = search needs
 
 mark-kept-requires : tie.Need-mark-kept-requires
 mark-kept-requires c κs =
     let s = c .before .before .before .before .before .before .before .before .before in
     let work-len-call = c .before .before .before .work-len in
-    (trace-able _ _ _ _ _ (now (s .args .map)) (s .pre) _ (part-long _ _ _ (work-len-call .ensures) (s .pre .work-long)), s .pre .formed)
+    accepted-part _ _ _ _ _ (s .pre .0) _ (work-len-call .ensures)
 
 count-kept-requires : tie.Need-count-kept-requires
 count-kept-requires c κs = search needs
@@ -47,14 +49,16 @@ same-length-4 c = search needs
 
 returns : tie.Need-returns
 returns c =
-    let mark-kept-call = c .before .before .before .before .before .before .before .before .before .before .before .before .before .before .before .before .before .before .before .before .mark-kept in
-    let s = c .before .before .before .before .before .before .before .before .before .before .before .before .before .before .before .before .before .before .before .before .before .before .before .before .before .before .before .before .before .before in
-    let count-kept-call = c .before .before .before .before .before .before .before .before .before .before .before .before .before .before .count-kept in
-    let sweep-call = c .before .before .before .before .before .before .before .before .before .before .sweep in
-    let work-len-call = c .before .before .before .before .before .before .before .before .before .before .before .before .before .before .before .before .before .before .before .before .before .before .before .before .work-len in
+    let t = c .before .before .before .before .before .before .before .before .before .before in
+    let u = t .before .before .before .before .before .before .before .before .before .before in
+    let mark-kept-call = u .mark-kept in
+    let s = u .before .before .before .before .before .before .before .before .before .before in
+    let count-kept-call = t .before .before .before .before .count-kept in
+    let sweep-call = t .sweep in
+    let work-len-call = u .before .before .before .before .work-len in
     let m = mark-kept-call in
-    collected (s .args .by) (s .args .c) _ _ (now (s .args .roots)) (now (s .args .work)) _ (s .pre) _ _ (m .ensures) (m .kept .1 .1 .1 .0) _ (count-kept-call .ensures)
-    _ _ _ _ (sweep-call .ensures) _ (work-len-call .ensures) (m .last .1 .1 .1 .1 .1 .1 .0) _ (m .kept .1 .1 .1 .1 .1 .1 .0) (c .before .before .zero .ensures)
+    collected (s .args .by) (s .args .c) _ _ (now (s .args .roots)) (now (s .args .work)) _ (s .pre .0) (s .pre .1) _ _ (m .ensures) (m .kept .1 .1 .0) _ (count-kept-call .ensures)
+    _ _ _ _ (sweep-call .ensures) _ (work-len-call .ensures) (m .last .1 .1 .1 .1 .1 .0) _ (m .kept .1 .1 .1 .1 .1 .0) (c .before .before .zero .ensures)
 
 pub collect-accepted-spec : {M : Type 1} → statement M
 collect-accepted-spec =

@@ -1,5 +1,4 @@
 -- `collect_by` meets its contract.
-use mathlib.Core.Path.{sym, _∙_}
 use Rattle.collect.proofs.AcceptLaws.{accepted}
 use Rattle.collect.proofs.CollectLaws.{collect-refused, collect-accepted}
 use borrow.Author.Needs.{needs}
@@ -30,7 +29,7 @@ collect-accepted-requires : tie.Need-collect-accepted-requires
 collect-accepted-requires c κs =
     let if1 = c .before .before .before .before .if1 in
     let refusal-of-call = c .before .before .before .before .before .refusal-of in
-    accepted _ _ _ _ _ _ (sym (if1 .left) ∙ refusal-of-call .ensures)
+    accepted _ _ _ _ _ _ _ (refusal-of-call .ensures) (if1 .left)
 
 same-length-5 : tie.Need-same-length-5
 same-length-5 c = search needs
@@ -46,11 +45,12 @@ same-length-8 c = search needs
 
 returns-2 : tie.Need-returns-2
 returns-2 c =
-    let s = c .before .before .before .before .before .before .before .before .before .before .before .before .before .before .before .before .before .before .before .before .before .before .before .before in
-    let if1 = c .before .before .before .before .before .before .before .before .before .before .before .before .before .if1 in
-    let refusal-of-call = c .before .before .before .before .before .before .before .before .before .before .before .before .before .before .refusal-of in
+    let t = c .before .before .before .before .before .before .before .before .before .before .before .before .before in
+    let s = t .before .before .before .before .before .before .before .before .before .before .before in
+    let if1 = t .if1 in
+    let refusal-of-call = t .before .refusal-of in
     let collect-accepted-call = c .before .before .before .before .before .before .before .before .collect-accepted in
-    collect-accepted (s .args .by) _ _ _ _ _ _ (sym (if1 .left) ∙ refusal-of-call .ensures) _ (collect-accepted-call .ensures)
+    collect-accepted (s .args .by) _ _ _ _ _ _ _ (refusal-of-call .ensures) (if1 .left) _ (collect-accepted-call .ensures)
 
 pub collect-by-spec : {M : Type 1} → statement M
 collect-by-spec =

@@ -1,12 +1,15 @@
 -- `mark_kept` meets its contract.
-use Rattle.rules.proofs.WellFormedLaws.{sane}
+use Rattle.table.proofs.CheckLaws.{accepted-sane}
+use Rattle.collect.proofs.AcceptLaws.{trace-able}
 use Rattle.collect.proofs.CollectLaws.{kept-marks}
 use borrow.Author.Needs.{needs}
 use Rattle.collect.proofs.call.mark_kept.Statement.{statement}
 use Rattle.collect.proofs.call.mark_kept.Tie as tie
 
 trace-requires : tie.Need-trace-requires
-trace-requires c κs = search needs
+trace-requires c κs =
+    let s = c .before .before .before .before .before .before in
+    (trace-able _ _ _ _ _ (s .pre), s .pre .roots-long)
 
 count-marked-requires : tie.Need-count-marked-requires
 count-marked-requires c κs = search needs
@@ -25,7 +28,7 @@ returns c =
     let s = c .before .before .before .before .before .before .before .before .before .before .before .before .before .before .before .before .before in
     let trace-call = c .before .before .before .before .before .before .before .before .before .before .trace in
     let count-marked-call = c .before .before .before .before .count-marked in
-    kept-marks _ _ _ _ _ _ (s .pre .0) (sane _ _ _ _ _ (s .pre .1)) _ (s .args .by) (trace-call .ensures) _ (c .before .before .mark-reached .ensures) _ (count-marked-call .ensures)
+    kept-marks _ _ _ _ _ _ _ (trace-able _ _ _ _ _ (s .pre)) (accepted-sane _ _ _ _ _ (s .pre)) _ (s .args .by) (trace-call .ensures) _ (c .before .before .mark-reached .ensures) _ (count-marked-call .ensures)
 
 pub mark-kept-spec : {M : Type 1} → statement M
 mark-kept-spec =

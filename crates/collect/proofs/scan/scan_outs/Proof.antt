@@ -16,8 +16,7 @@ abbrev μ-loop : tie.MeasureT-loop
 link-of-requires : tie.Need-link-of-requires Inv-loop μ-loop
 link-of-requires c κs =
     let s = c .before .before .before .before in
-    let z = s .pre .0 .state .sized in
-    record { most = z .most; object = s .pre .1; long = omega (arith, z .work-long) }
+    (s .pre .1, omega (arith, s .pre .0 .state .sized .work-long))
 
 top-member-requires : tie.Need-top-member-requires Inv-loop μ-loop
 top-member-requires c κs = search needs
@@ -37,8 +36,7 @@ link-of-requires-2 c κs =
     let l = c .before .before .before .before .before .before .before .before .before .loop in
     let scan-unmarked-call = c .before .before .before .before .before .scan-unmarked in
     let g = l .inv in
-    let z = g .ready .state .sized in
-    record { most = z .most; object = (omega arith, g .within); long = omega (arith, z .work-long, scan-unmarked-call .kept .1 .1 .1 .0) }
+    ((omega arith, g .within), omega (arith, g .ready .state .sized .work-long, scan-unmarked-call .kept .1 .1 .1 .0))
 
 next-member-requires : tie.Need-next-member-requires Inv-loop μ-loop
 next-member-requires c κs = search needs

@@ -1,5 +1,4 @@
 -- `take_up` meets its contract.
-use mathlib.Core.Path.{sym, _∙_}
 use Rattle.collect.proofs.VisitLaws.{take-dropped, take-scanned, state-taken, still-unmarked}
 use borrow.Author.Needs.{needs}
 use Rattle.collect.proofs.visit.take_up.Statement.{statement}
@@ -29,7 +28,7 @@ returns c =
     let s = c .before .before .before .before .before .before .before .before .before .before .before .before .before .before in
     let put-call = c .before .before .before .put in
     let is-settled-call = c .before .before .before .before .before .before .before .before .before .is-settled in
-    rw (postpone-call .ensures) (take-dropped (s .args .by) _ _ _ _ _ (s .pre .0) _ (s .pre .1) _ (put-call .ensures) (put-call .kept .1 .0) (sym (is-settled-call .ensures) ∙ c .if1 .taken))
+    rw (postpone-call .ensures) (take-dropped (s .args .by) _ _ _ _ _ (s .pre .0) _ (s .pre .1) _ (put-call .ensures) (put-call .kept .1 .0) _ (is-settled-call .ensures) (c .if1 .taken))
 
 scan-requires : tie.Need-scan-requires
 scan-requires c κs =
@@ -40,7 +39,7 @@ scan-requires c κs =
     let u = postpone-call .ensures in
     let m = put-call in (
       rw u (state-taken (s .args .by) _ _ _ _ _ (s .pre .0) _ (s .pre .1) _ (m .ensures) (m .kept .1 .0)),
-      (s .pre .1, rw u (still-unmarked (s .args .by) _ _ _ _ _ (s .pre .0) _ (s .pre .1) _ (m .ensures) (m .kept .1 .0) (sym (is-settled-call .ensures) ∙ c .before .before .if1 .left))),
+      (s .pre .1, rw u (still-unmarked (s .args .by) _ _ _ _ _ (s .pre .0) _ (s .pre .1) _ (m .ensures) (m .kept .1 .0) _ (is-settled-call .ensures) (c .before .before .if1 .left))),
     )
 
 same-length-3 : tie.Need-same-length-3
@@ -51,13 +50,15 @@ same-length-4 c = search needs
 
 returns-2 : tie.Need-returns-2
 returns-2 c =
-    let s = c .before .before .before .before .before .before .before .before .before .before .before .before .before .before .before .before .before .before .before .before .before in
-    let put-call = c .before .before .before .before .before .before .before .before .before .before .put in
-    let is-settled-call = c .before .before .before .before .before .before .before .before .before .before .before .before .before .before .before .before .is-settled in
-    let if1 = c .before .before .before .before .before .before .before .if1 in
-    let postpone-call = c .before .before .before .before .before .before .before .before .before .before .before .before .before .before .postpone in
+    let t = c .before .before .before .before .before .before .before in
+    let u = t .before .before .before .before .before .before .before in
+    let s = u .before .before .before .before .before .before .before in
+    let put-call = t .before .before .before .put in
+    let is-settled-call = u .before .before .is-settled in
+    let if1 = t .if1 in
+    let postpone-call = u .postpone in
     let scan-call = c .before .before .before .before .scan in
-    take-scanned (s .args .by) _ _ _ _ _ (s .pre .0) _ (s .pre .1) _ (put-call .ensures) (put-call .kept .1 .0) (sym (is-settled-call .ensures) ∙ if1 .left) _ _ _
+    take-scanned (s .args .by) _ _ _ _ _ (s .pre .0) _ (s .pre .1) _ (put-call .ensures) (put-call .kept .1 .0) _ (is-settled-call .ensures) (if1 .left) _ _ _
     (rw (postpone-call .ensures) at (scan-call .ensures))
 
 pub take-up-spec : {M : Type 1} → statement M

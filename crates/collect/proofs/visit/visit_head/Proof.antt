@@ -40,11 +40,12 @@ same-length-3 c = search needs
 returns-2 : tie.Need-returns-2
 unfolding flagsOf
 returns-2 c =
-    let s = c .before .before .before .before .before .before .before .before .before .before .before .before .before .before .before .before .before .before in
-    let is-reached-call = c .before .before .before .before .before .before .before .before .before .before .before .before .is-reached in
-    let record-of-call = c .before .before .before .before .before .before .before .before .before .before .before .before .before .record-of in
-    let if1 = c .before .before .before .before .before .before .before .before .before .before .before .if1 in
-    let reach-call = c .before .before .before .before .before .before .before .before .before .reach in
+    let t = c .before .before .before .before .before .before .before .before .before in
+    let s = t .before .before .before .before .before .before .before .before .before in
+    let is-reached-call = t .before .before .before .is-reached in
+    let record-of-call = t .before .before .before .before .record-of in
+    let if1 = t .before .before .if1 in
+    let reach-call = t .reach in
     let scan-outs-call = c .before .before .before .before .scan-outs in
     head-reached _ _ _ _ _ (s .pre .0 .state) _ (s .pre .1) (sym (is-reached-call .ensures ∙ ap isReached (record-of-call .ensures)) ∙ if1 .left) _ _ _
     (rw (reach-call .ensures) at (scan-outs-call .ensures))

@@ -1,5 +1,5 @@
 -- `drain` meets its contract. The loop's invariant, `Draining`: from here on the walk ends as it does from the start of the loop.
-use Rattle.collect.specs.State.{pending, steps}
+use Rattle.collect.specs.State.{pending, stepsFrom}
 use Rattle.collect.proofs.EndLaws.{Draining, draining-here, next-object, ready-pop, draining-less, draining-on, drained}
 use native.Mathlib.Omega.{arith}
 use Rattle.collect.proofs.walk.drain.Statement.{statement}
@@ -9,7 +9,7 @@ abbrev Inv-loop : tie.InvT-loop
 Inv-loop by n records₀ slots work₀ top end at₀ records work at = Draining by n slots records₀ work₀ top records work at
 
 abbrev μ-loop : tie.MeasureT-loop
-μ-loop by n records₀ slots work₀ top end at₀ records work at = steps by n slots records (pending n work at)
+μ-loop by n records₀ slots work₀ top end at₀ records work at = stepsFrom by n slots records (pending n work at)
 
 mul-end : tie.Need-mul-end Inv-loop μ-loop
 mul-end c =

@@ -15,7 +15,7 @@ drain-requires : tie.Need-drain-requires
 drain-requires c κs =
     let s = c .before .before .before .before .before .before .before .before .before .before .before .before in
     let visit-call = c .before .before .before .before .before .before .visit in
-    ready-moved _ _ _ _ _ _ _ _ _ _ (s .pre .0 .state .sized .recs-long) (s .pre .0 .linked) (visit-call .ensures)
+    ready-moved _ _ _ _ _ _ _ _ _ _ (s .pre .0 .state .sized .room .recs-long) (s .pre .0 .linked) (visit-call .ensures)
 
 same-length : tie.Need-same-length
 same-length c = search needs

@@ -1,6 +1,6 @@
 -- `follow_postponed` meets its contract. The loop's invariant, `Retaking`: the walk ends as it does from the start of the loop, and x is the lowest postponed object.
 use mathlib.Core.List.{[]}
-use Rattle.collect.specs.State.{steps}
+use Rattle.collect.specs.State.{stepsFrom}
 use Rattle.collect.proofs.EndLaws.{Retaking, retaking-here, retaking-on, retaking-done}
 use borrow.Author.Needs.{needs}
 use native.Mathlib.Omega.{arith}
@@ -11,7 +11,7 @@ abbrev Inv-loop : tie.InvT-loop
 Inv-loop by n records₀ slots work₀ x₀ records work x = Retaking by n slots records₀ work₀ records work x
 
 abbrev μ-loop : tie.MeasureT-loop
-μ-loop by n records₀ slots work₀ x₀ records work x = steps by n slots records []
+μ-loop by n records₀ slots work₀ x₀ records work x = stepsFrom by n slots records []
 
 lowest-requires : tie.Need-lowest-requires Inv-loop μ-loop
 lowest-requires c κs = search needs

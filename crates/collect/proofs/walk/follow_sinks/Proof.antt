@@ -44,7 +44,7 @@ loop-again c =
     let l = the-l in
     let k = follow-sink-call .kept in (
       omega arith,
-      sinks-on _ _ _ _ (s .pre .state .sized .recs-long) _ (test .taken) _ _ _ _ (l .inv .1) (follow-sink-call .ensures),
+      sinks-on _ _ _ _ (s .pre .state .sized .room .recs-long) _ (test .taken) _ _ _ _ (l .inv .1) (follow-sink-call .ensures),
       k .1 .1 .0 ∙ l .inv .2,
       k .1 .1 .1 .1 .0 ∙ l .inv .3,
     )

@@ -3,7 +3,7 @@ use denote.Ref.{now}
 use Prim.Native.Nat.{ℕ, _*_}
 use mathlib.Core.Path.{ap, _∙_}
 use Rattle.table.specs.Cleared.{cleared}
-use Rattle.collect.proofs.TraceLaws.{trace-ready, trace-done}
+use Rattle.collect.proofs.TraceLaws.{trace-ready, starts-roots, starts-followed, walk-done}
 use borrow.Author.Needs.{needs}
 use Rattle.collect.proofs.walk.trace.Statement.{statement}
 use Rattle.collect.proofs.walk.trace.Tie as tie
@@ -26,9 +26,9 @@ follow-roots-requires c κs =
     let link-clusters-call = c .before .before .before .before .before .before .before .before .before .link-clusters in
     let clear-call = c .before .before .before .before .clear in
     let work-len-call = c .before .before .before .before .before .work-len in (
-      trace-ready _ _ (s .args .r) _ _ (now (s .args .roots)) _ (s .pre) _ _ (link-clusters-call .ensures) (link-clusters-call .kept .1 .1 .1 .0)
+      trace-ready _ _ _ _ _ _ (s .pre .0) _ _ (link-clusters-call .ensures) (link-clusters-call .kept .1 .1 .1 .0)
           (clear-call .ensures ∙ ap (λ (k : ℕ). cleared (9 * s .args .n) k (link-clusters-call .last .1 .1 .1 .0)) (work-len-call .ensures)) (clear-call .kept .0),
-      (s .pre .roots-long, s .pre .roots-in),
+      (s .pre .1, starts-roots _ (s .args .r) _ (now (s .args .slots)) (now (s .args .roots)) (s .pre .0 .objects)),
     )
 
 follow-sinks-requires : tie.Need-follow-sinks-requires
@@ -49,7 +49,9 @@ returns c =
     let follow-roots-call = c .before .before .before .before .before .before .before .before .before .before .before .before .before .before .before .before .before .before .follow-roots in
     let follow-sinks-call = c .before .before .before .before .before .before .before .before .before .before .before .follow-sinks in
     let follow-postponed-call = c .before .before .before .before .follow-postponed in
-    trace-done _ _ _ _ _ _ _ (s .pre) _ _ _ _ _ (follow-roots-call .ensures) (follow-sinks-call .ensures) (follow-postponed-call .ensures)
+    let t = s .pre .0 in
+    walk-done _ _ _ _ _ _ t _ _ _
+    (starts-followed _ (s .args .r) _ _ (now (s .args .roots)) _ (t .sized .room .recs-long) _ _ _ _ (follow-roots-call .ensures) (follow-sinks-call .ensures)) (follow-postponed-call .ensures)
 
 pub trace-spec : {M : Type 1} → statement M
 trace-spec =

@@ -1,11 +1,9 @@
 -- `heap::create::create` clears the three slices, or refuses. Assumes nothing.
 use borrow.Author.Needs.{needs}
-use borrow.Author.Tests.{ltb-true, ltb-false}
 use mathlib.Core.Path.{_≡_, sym, _∙_}
 use mathlib.Core.Bool.{false}
-use mathlib.Core.Logic.{⊎-elim}
 use Rattle.layout.specs.ControlRecord.{badSizes}
-use Rattle.heap.proofs.CreateLaws.{bad-sizes, few-records, few-slots, few-roots, created}
+use Rattle.heap.proofs.CreateLaws.{bad-sizes, too-short, created}
 use Rattle.heap.proofs.create.create.Statement.{statement}
 use Rattle.heap.proofs.create.create.Tie as tie
 
@@ -21,34 +19,11 @@ new-control-requires c κs = search needs
 returns : tie.Need-returns
 returns c = bad-sizes _ _ _ _ _ (sym (c .before .before .bad-sizes .ensures) ∙ c .before .if1 .taken) _ (c .new-control .ensures)
 
-slots-len-requires : tie.Need-slots-len-requires
-slots-len-requires c κs = search needs
+short-heap-requires : tie.Need-short-heap-requires
+short-heap-requires c κs = search needs
 
 new-control-requires-2 : tie.Need-new-control-requires-2
 new-control-requires-2 c κs = search needs
-
-returns-2 : tie.Need-returns-2
-returns-2 c =
-    let b = sizes-at (c .before .before) in
-    ⊎-elim (λ w. few-records _ _ _ _ _ b (w .taken) _ (c .new-control2 .ensures))
-    (⊎-elim (λ w. few-slots _ _ _ _ _ b (w .0 .left) (rw (sym (w .1 .ensures)) (ltb-true _ _ (w .2 .taken))) _ (c .new-control2 .ensures))
-    (λ w. few-roots _ _ _ _ _ b (w .0 .left) (rw (sym (w .1 .ensures)) (ltb-false _ _ (w .2 .left))) (ltb-true _ _ (w .3 .taken)) _ (c .new-control2 .ensures)))
-    (c .before .if2 .came)
-
-zero-requires : tie.Need-zero-requires
-zero-requires c κs = search needs
-
-slots-len-requires-2 : tie.Need-slots-len-requires-2
-slots-len-requires-2 c κs = search needs
-
-zero-requires-2 : tie.Need-zero-requires-2
-zero-requires-2 c κs = search needs
-
-zero-requires-3 : tie.Need-zero-requires-3
-zero-requires-3 c κs = search needs
-
-new-control-requires-3 : tie.Need-new-control-requires-3
-new-control-requires-3 c κs = search needs
 
 same-length : tie.Need-same-length
 same-length c = search needs
@@ -59,13 +34,43 @@ same-length-2 c = search needs
 same-length-3 : tie.Need-same-length-3
 same-length-3 c = search needs
 
+returns-2 : tie.Need-returns-2
+returns-2 c =
+    let t = c .before .before in
+    too-short _ _ _ _ _ (sizes-at (t .before .before .before .before)) (sym (t .short-heap .ensures) ∙ c .before .if2 .taken) _ (c .new-control2 .ensures)
+
+zero-requires : tie.Need-zero-requires
+zero-requires c κs = search needs
+
+slots-len-requires : tie.Need-slots-len-requires
+slots-len-requires c κs = search needs
+
+zero-requires-2 : tie.Need-zero-requires-2
+zero-requires-2 c κs = search needs
+
+zero-requires-3 : tie.Need-zero-requires-3
+zero-requires-3 c κs = search needs
+
+new-control-requires-3 : tie.Need-new-control-requires-3
+new-control-requires-3 c κs = search needs
+
+same-length-4 : tie.Need-same-length-4
+same-length-4 c = search needs
+
+same-length-5 : tie.Need-same-length-5
+same-length-5 c = search needs
+
+same-length-6 : tie.Need-same-length-6
+same-length-6 c = search needs
+
 returns-3 : tie.Need-returns-3
 returns-3 c =
-    let o = c .before .before .before .before .before .before .before .before .before .before .before .before .before .before in
-    let m = o .before in
-    let l = m .before .before in
-    created _ _ _ _ _ (sizes-at (l .before)) (l .if2 .left) (rw (sym (m .before .slots-len .ensures)) (ltb-false _ _ (m .if3 .left))) (ltb-false _ _ (o .if4 .left)) _ _ _ _ _
-    (c .new-control3 .ensures) (c .before .before .before .before .before .before .before .before .before .before .before .before .zero .ensures) (c .before .before .before .before .before .before .before .before .slots-len2 .ensures) (c .before .before .before .before .before .before .before .zero2 .ensures) (c .before .before .before .zero3 .ensures)
+    let z = c .before .before .before in
+    let y = z .before .before .before .before in
+    let x = y .before .before .before .before .before in
+    let t = x .before .before .before in
+    created _ _ _ _ _ (sizes-at (t .before .before .before .before)) (sym (t .short-heap .ensures) ∙ x .before .before .if2 .left) _ _ _ _ _
+    (c .new-control3 .ensures) (x .zero .ensures) (y .before .slots-len .ensures) (y .zero2 .ensures) (z .zero3 .ensures)
 
 pub create-spec : {M : Type 1} → statement M
 create-spec =
@@ -74,15 +79,18 @@ create-spec =
     bad-sizes-requires
     new-control-requires
     returns
-    slots-len-requires
+    short-heap-requires
     new-control-requires-2
-    returns-2
-    zero-requires
-    slots-len-requires-2
-    zero-requires-2
-    zero-requires-3
-    new-control-requires-3
     same-length
     same-length-2
     same-length-3
+    returns-2
+    zero-requires
+    slots-len-requires
+    zero-requires-2
+    zero-requires-3
+    new-control-requires-3
+    same-length-4
+    same-length-5
+    same-length-6
     returns-3)

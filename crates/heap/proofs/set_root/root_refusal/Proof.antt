@@ -12,6 +12,10 @@ use Rattle.heap.proofs.set_root.root_refusal.Tie as tie
 control-at : (c : tie.Else1) → badControl (c .before .before .before .before .args .c) ≡ false
 control-at c = sym (c .before .bad-control .ensures) ∙ c .if1 .left
 
+front-at : (e : tie.Else4)
+    → let a = e .before .before .before .before .before .before .before .before .before .before .args in Laws.Front (a .c) (a .index) (a .records .now) (a .roots .now)
+front-at e = (control-at (e .before .before .before .before .before .before), e .before .before .before .before .if2 .left, ltb-false _ _ (e .before .before .if3 .left), e .if4 .left)
+
 bad-control-requires : tie.Need-bad-control-requires
 bad-control-requires c κs = search needs
 
@@ -46,7 +50,7 @@ sub-legal : tie.Need-sub-legal
 sub-legal c =
     let e = c .before .before .before .before in
     let a = e .before .before .before .before .before .before .before .before .before .before .args in
-    Laws.object-low (a .c) (a .index) (a .word) (a .records .now) (a .roots .now) (control-at (e .before .before .before .before .before .before)) (e .before .before .before .before .if2 .left) (ltb-false _ _ (e .before .before .if3 .left)) (e .if4 .left) _ (sym (c .before .x .given .1) ∙ c .before .before .before .sort-word .ensures)
+    Laws.object-low (a .c) (a .index) (a .word) (a .records .now) (a .roots .now) (front-at e) _ (sym (c .before .x .given .1) ∙ c .before .before .before .sort-word .ensures)
 
 cast-legal : tie.Need-cast-legal
 cast-legal c = search needs
@@ -58,7 +62,7 @@ shared-slice-read-legal : tie.Need-shared-slice-read-legal
 shared-slice-read-legal c =
     let e = c .before .before .before .before .before in
     let a = e .before .before .before .before .before .before .before .before .before .before .args in
-    Laws.object-in (a .c) (a .index) (a .word) (a .records .now) (a .roots .now) (control-at (e .before .before .before .before .before .before)) (e .before .before .before .before .if2 .left) (ltb-false _ _ (e .before .before .if3 .left)) (e .if4 .left) _ (sym (c .before .before .x .given .1) ∙ c .before .before .before .before .sort-word .ensures)
+    Laws.object-in (a .c) (a .index) (a .word) (a .records .now) (a .roots .now) (front-at e) _ (sym (c .before .before .x .given .1) ∙ c .before .before .before .before .sort-word .ensures)
 
 legal-requires : tie.Need-legal-requires
 legal-requires c κs = search needs
@@ -71,30 +75,25 @@ enum-told-3 c = search needs
 
 returns-4 : tie.Need-returns-4
 returns-4 c =
-    let e = c .before .before .before in
-    Laws.nil-root _ _ _ _ _ (control-at (e .before .before .before .before .before .before)) (e .before .before .before .before .if2 .left) (ltb-false _ _ (e .before .before .if3 .left)) (e .if4 .left) (sym (c .enum-told .given .1) ∙ c .before .before .sort-word .ensures)
+    Laws.nil-root _ _ _ _ _ (front-at (c .before .before .before)) (sym (c .enum-told .given .1) ∙ c .before .before .sort-word .ensures)
 
 returns-5 : tie.Need-returns-5
 returns-5 c =
     let x = c .before .before .before .before in
-    let e = x .before .before .before in
-    Laws.legal-root _ _ _ _ _ (control-at (e .before .before .before .before .before .before)) (e .before .before .before .before .if2 .left) (ltb-false _ _ (e .before .before .if3 .left)) (e .if4 .left) _ (sym (x .x .given .1) ∙ x .before .before .sort-word .ensures) (sym (c .before .legal .ensures) ∙ c .if5 .taken)
+    Laws.legal-root _ _ _ _ _ (front-at (x .before .before .before)) _ (sym (x .x .given .1) ∙ x .before .before .sort-word .ensures) (sym (c .before .legal .ensures) ∙ c .if5 .taken)
 
 returns-6 : tie.Need-returns-6
 returns-6 c =
     let x = c .before .before .before .before in
-    let e = x .before .before .before in
-    Laws.free-root _ _ _ _ _ (control-at (e .before .before .before .before .before .before)) (e .before .before .before .before .if2 .left) (ltb-false _ _ (e .before .before .if3 .left)) (e .if4 .left) _ (sym (x .x .given .1) ∙ x .before .before .sort-word .ensures) (sym (c .before .legal .ensures) ∙ c .if5 .left)
+    Laws.free-root _ _ _ _ _ (front-at (x .before .before .before)) _ (sym (x .x .given .1) ∙ x .before .before .sort-word .ensures) (sym (c .before .legal .ensures) ∙ c .if5 .left)
 
 returns-7 : tie.Need-returns-7
 returns-7 c =
-    let e = c .before .before .before in
-    Laws.immediate-root _ _ _ _ _ (control-at (e .before .before .before .before .before .before)) (e .before .before .before .before .if2 .left) (ltb-false _ _ (e .before .before .if3 .left)) (e .if4 .left) (sym (c .enum-told2 .given .1) ∙ c .before .before .sort-word .ensures)
+    Laws.immediate-root _ _ _ _ _ (front-at (c .before .before .before)) (sym (c .enum-told2 .given .1) ∙ c .before .before .sort-word .ensures)
 
 returns-8 : tie.Need-returns-8
 returns-8 c =
-    let e = c .before .before .before in
-    Laws.illegal-root _ _ _ _ _ (control-at (e .before .before .before .before .before .before)) (e .before .before .before .before .if2 .left) (ltb-false _ _ (e .before .before .if3 .left)) (e .if4 .left) (sym (c .enum-told3 .given .1) ∙ c .before .before .sort-word .ensures)
+    Laws.illegal-root _ _ _ _ _ (front-at (c .before .before .before)) (sym (c .enum-told3 .given .1) ∙ c .before .before .sort-word .ensures)
 
 pub root-refusal-spec : {M : Type 1} → statement M
 root-refusal-spec =

@@ -6,7 +6,6 @@ use Prim.Native.Nat.{_+_, _-_, _≤_}
 use lib.ListN.{length}
 use Rattle.layout.specs.Refusal.{first}
 use Rattle.rules.specs.Show.{showTests}
-use Rattle.rules.specs.Show as Show
 use Rattle.table.proofs.NamedLaws.{named, start-is}
 use Rattle.heap.proofs.ShowLaws.{part-refused, part-shown}
 use Rattle.heap.proofs.show.show.Statement.{statement}

@@ -2,7 +2,7 @@
 use borrow.Author.Tests.{le-leb, lt-leb, eq-eqb, ne-eqb}
 use mathlib.Core.Path.{_≡_, refl}
 use mathlib.Core.Logic.{_≢_}
-use mathlib.Core.Bool.{Bool, true, false, _&&_}
+use mathlib.Core.Bool.{and-false}
 use Prim.Native.Nat.{ℕ, _≤_, _<_, _^_}
 use native.Mathlib.Omega.{arith}
 use Rattle.layout.specs.Limits.{within}
@@ -10,10 +10,6 @@ use Rattle.layout.specs.Word.{sortOf, isNil, isPointer, isImmediate}
 use Rattle.layout.specs.declared.words.Word.the-variants.{Nil, Object, Immediate, Illegal}
 use Rattle.layout.proofs.words.sort_word.Statement.{statement}
 use Rattle.layout.proofs.words.sort_word.Tie as tie
-
-and-false : (b : Bool) → b && false ≡ false
-and-false true = refl
-and-false false = refl
 
 nil : (n w : ℕ) → w ≡ 0 → Nil ≡ sortOf n w
 unfolding sortOf isNil

@@ -1,18 +1,19 @@
 -- `sweep::freed::fill_map` is a pass over the words of the map. Assumes nothing.
 use Prim.Native.Nat.{_+_, _-_, _≤_}
-use mathlib.Core.Path.{_≡_, ap, _∙_}
+use mathlib.Core.Path.{_≡_, refl, ap, _∙_}
 use Rattle.layout.specs.Limits.{mapLen}
 use Rattle.bitmap.specs.Bits.{wordOf}
-use Rattle.sweep.specs.Sweep.{freedAt, freedMap}
+use Rattle.rules.specs.Buffers.{eachFrom}
+use Rattle.sweep.specs.Sweep.{freedAt}
 use Rattle.sweep.proofs.PassingLaws.{Passing, passing-start, passing-turn, passing-end}
-use Rattle.sweep.proofs.FreedLaws.{map-start, map-most}
+use Rattle.sweep.proofs.FreedLaws.{map-most}
 use borrow.Author.Needs.{needs}
 use native.Mathlib.Omega.{arith}
 use Rattle.sweep.proofs.freed.fill_map.Statement.{statement}
 use Rattle.sweep.proofs.freed.fill_map.Tie as tie
 
 abbrev Inv-loop : tie.InvT-loop
-Inv-loop n records map₀ k j₀ map j = (k ≡ mapLen n) × (k ≤ 64) × Passing 0 (λ x w. wordOf (freedAt n records) x) (mapLen n) (freedMap n records map₀) map₀ map j
+Inv-loop n records map₀ k j₀ map j = (k ≡ mapLen n) × (k ≤ 64) × Passing 0 (λ x w. wordOf (freedAt n records) x) (mapLen n) (eachFrom 0 (mapLen n) (λ x w. wordOf (freedAt n records) x) map₀) map₀ map j
 
 abbrev μ-loop : tie.MeasureT-loop
 μ-loop n records map₀ k j₀ map j = k - j
@@ -21,7 +22,7 @@ map-len-requires : tie.Need-map-len-requires Inv-loop μ-loop
 map-len-requires c κs = search needs
 
 loop-holds : tie.Need-loop-holds Inv-loop μ-loop
-loop-holds c = (c .map-len .ensures, omega (arith, c .map-len .ensures, map-most (c .before .before .before .args .n) (c .before .before .before .pre .0)), passing-start _ _ _ _ _ (map-start _ _ _))
+loop-holds c = (c .map-len .ensures, omega (arith, c .map-len .ensures, map-most (c .before .before .before .args .n) (c .before .before .before .pre .0)), passing-start _ _ _ _ _ refl)
 
 cast-freed-word : tie.Need-cast-freed-word Inv-loop μ-loop
 cast-freed-word c = omega arith

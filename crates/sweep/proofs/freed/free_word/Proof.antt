@@ -40,12 +40,14 @@ loop-less c = let l = c .before .before .before .before .before .before .before 
 
 loop-again : tie.Need-loop-again Inv-loop μ-loop
 loop-again c =
-    let l = c .before .before .before .before .before .before .before .before .before .before .before .loop in
-    let base = c .before .before .before .before .before .before .before .before .before .before .before .before .before .before .args .base in
-    let x = ap (λ (k : ℕ). base + k) (c .before .before .before .before .before .before .before .before .before .lowest-bit .ensures) in
-    let v = rest-lt (l .rest) (c .before .before .before .before .before .before .before .before .before .before .loop-test .taken) in (
-      freeing-turn _ _ _ _ (l .records) (l .rest) (l .inv .0) _ _ _ (c .before .before .before .before .before .before .before .before .before .before .loop-test .taken) (l .inv .2) x (c .without-lowest .ensures) (c .before .before .before .before .before .before .before .clear-record .ensures) (c .before .before .before .before .before .before .before .clear-record .kept .1 .0),
-      freeing-turn _ _ _ _ (l .slots) (l .rest) (l .inv .1) _ _ _ (c .before .before .before .before .before .before .before .before .before .before .loop-test .taken) (l .inv .2) x (c .without-lowest .ensures) (c .before .before .before .clear-slots .ensures) (c .before .before .before .clear-slots .kept .1 .0),
+    let t = c .before .before .before .before .before .before .before in
+    let u = t .before .before .before in
+    let l = u .before .loop in
+    let base = u .before .before .before .before .args .base in
+    let x = ap (λ (k : ℕ). base + k) (t .before .before .lowest-bit .ensures) in
+    let v = rest-lt (l .rest) (u .loop-test .taken) in (
+      freeing-turn _ _ _ _ (l .records) (l .rest) (l .inv .0) _ _ _ (u .loop-test .taken) (l .inv .2) x (c .without-lowest .ensures) (t .clear-record .ensures) (t .clear-record .kept .1 .0),
+      freeing-turn _ _ _ _ (l .slots) (l .rest) (l .inv .1) _ _ _ (u .loop-test .taken) (l .inv .2) x (c .without-lowest .ensures) (c .before .before .before .clear-slots .ensures) (c .before .before .before .clear-slots .kept .1 .0),
       omega (arith, c .without-lowest .ensures, v, l .inv .2),
     )
 

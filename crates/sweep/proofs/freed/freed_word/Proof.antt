@@ -3,8 +3,9 @@ use Prim.Native.Nat.{_≤_, _<_, _+_, _-_, _*_, _^_}
 use mathlib.Core.Path.{_≡_, refl}
 use denote.Ref.{now}
 use Rattle.bitmap.specs.Bits.{bitsOf, wordOf}
+use Rattle.graph.proofs.NumberLaws.{bit-le}
 use Rattle.sweep.specs.Sweep.{freedAt}
-use Rattle.sweep.proofs.FreedLaws.{bits-room, bits-down, one-most}
+use Rattle.sweep.proofs.FreedLaws.{bits-room, bits-down}
 use borrow.Author.Needs.{needs}
 use native.Mathlib.Omega.{arith}
 use Rattle.sweep.proofs.freed.freed_word.Statement.{statement}
@@ -38,25 +39,25 @@ add-is-freed c = search needs
 is-freed-requires : tie.Need-is-freed-requires Inv-loop μ-loop
 is-freed-requires c κs = search needs
 
-one-if-requires : tie.Need-one-if-requires Inv-loop μ-loop
-one-if-requires c κs = search needs
+cast-word : tie.Need-cast-word Inv-loop μ-loop
+cast-word c = search needs
 
 add-word : tie.Need-add-word Inv-loop μ-loop
 add-word c =
-    let l = c .before .before .before in
-    omega (arith, room-at l (c .before .before .loop-test .taken), c .one-if .ensures, one-most (c .before .is-freed .result))
+    let l = c .before .before in
+    omega (arith, room-at l (c .before .loop-test .taken), bit-le (c .is-freed .result))
 
 loop-less : tie.Need-loop-less Inv-loop μ-loop
 loop-less c = omega arith
 
 loop-again : tie.Need-loop-again Inv-loop μ-loop
 loop-again c =
-    let l = c .before .before .before .loop in
-    let a = c .before .before .before .before .before .args in (
+    let l = c .before .before .loop in
+    let a = c .before .before .before .before .args in (
       omega arith,
       rw
-          (c .one-if .ensures, c .before .is-freed .ensures)
-          (bits-down (freedAt (a .n) (now (a .records))) (64 * a .j) (l .b) (l .word) (c .before .before .loop-test .taken) (l .inv .0) (l .inv .1)),
+          (c .is-freed .ensures)
+          (bits-down (freedAt (a .n) (now (a .records))) (64 * a .j) (l .b) (l .word) (c .before .loop-test .taken) (l .inv .0) (l .inv .1)),
     )
 
 returns : tie.Need-returns Inv-loop μ-loop
@@ -80,7 +81,7 @@ freed-word-spec =
     mul-is-freed
     add-is-freed
     is-freed-requires
-    one-if-requires
+    cast-word
     add-word
     loop-less
     loop-again

@@ -4,14 +4,14 @@ use mathlib.Core.Logic.{⊎-elim}
 use Prim.Native.Nat.{ℕ, _≤_, _-_}
 use borrow.Author.Tests.{not-true, not-false}
 use Rattle.records.specs.Record.{inUse}
-use Rattle.table.specs.Check.{rootsOk}
+use Rattle.rules.specs.WellFormed.{rootsNamed}
 use Rattle.table.proofs.CheckLaws.{rootsFrom, roots-begin, roots-end, root-nil, root-used, root-bad}
 use borrow.Author.Needs.{needs}
 use Rattle.table.proofs.check.roots_ok.Statement.{statement}
 use Rattle.table.proofs.check.roots_ok.Tie as tie
 
 abbrev Inv-loop : tie.InvT-loop
-Inv-loop n r records roots j₀ j = (j ≤ r) × (rootsFrom n r records roots j ≡ rootsOk n r records roots)
+Inv-loop n r records roots j₀ j = (j ≤ r) × (rootsFrom n r records roots j ≡ rootsNamed n r records roots)
 
 abbrev μ-loop : tie.MeasureT-loop
 μ-loop n r records roots j₀ j = r - j

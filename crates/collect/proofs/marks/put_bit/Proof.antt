@@ -1,0 +1,45 @@
+-- `put_bit` meets its contract.
+use borrow.Author.Needs.{needs}
+use Rattle.collect.proofs.marks.put_bit.Statement.{statement}
+use Rattle.collect.proofs.marks.put_bit.Tie as tie
+
+sub-i : tie.Need-sub-i
+sub-i c = search needs
+
+cast-i : tie.Need-cast-i
+cast-i c = search needs
+
+mul-with-bit : tie.Need-mul-with-bit
+mul-with-bit c = search needs
+
+slice-read-with-bit : tie.Need-slice-read-with-bit
+slice-read-with-bit c = search needs
+
+with-bit-requires : tie.Need-with-bit-requires
+with-bit-requires c κs = search needs
+
+mul-records : tie.Need-mul-records
+mul-records c = search needs
+
+slice-write-records : tie.Need-slice-write-records
+slice-write-records c = search needs
+
+same-length : tie.Need-same-length
+same-length c = search needs
+
+returns : tie.Need-returns
+returns c = cc
+
+pub put-bit-spec : {M : Type 1} → statement M
+put-bit-spec =
+    tie.close
+    (tie.spec
+    sub-i
+    cast-i
+    mul-with-bit
+    slice-read-with-bit
+    with-bit-requires
+    mul-records
+    slice-write-records
+    same-length
+    returns)
