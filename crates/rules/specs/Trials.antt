@@ -92,12 +92,12 @@ beforeH =
     ∷ write 1 0 2 ∷ write 1 1 3 ∷ write 2 0 4 ∷ write 3 0 5 ∷ write 4 0 6 ∷ setRoot 0 1 ∷ []
 
 -- heap H after both
-unfoldable pub heapH : List Call
-heapH = beforeH ++ (analysis 16 ∷ analysis 16 ∷ [])
+unfoldable pub heapH : State
+heapH = afterAll step (beforeH ++ (analysis 16 ∷ analysis 16 ∷ [])) (new 16 2)
 
--- a trial from heap H on
-unfoldable pub onH : List Call → Call → List ℕ → List ℕ → Trial
-onH calls call answers stands = record { from = new 16 2; before = heapH ++ calls; call = call; answers = answers; stands = stands }
+-- a trial: these calls on a heap, then the last one
+unfoldable pub on : State → List Call → Call → List ℕ → List ℕ → Trial
+on s calls call answers stands = record { from = s; before = calls; call = call; answers = answers; stands = stands }
 
 -- so many objects of width 8, then one of width 1
 unfoldable pub wide : ℕ → List Call
@@ -112,9 +112,9 @@ fan more =
 
 -- ---- the marked trials
 
--- the rows marked P in "Trials"
-unfoldable pub marked : List Trial
-marked =
+-- the rows marked P in "Trials"; h is heap H
+unfoldable pub marked : State → List Trial
+marked h =
     -- the first analysis of H leaves nothing, the second has all six objects in cluster 1
     record { from = new 16 2; before = beforeH; call = analysis 16; answers = 0 ∷ 0 ∷ 0 ∷ 8 ∷ 0 ∷ []; stands = 0 ∷ 0 ∷ 0 ∷ 0 ∷ 0 ∷ 0 ∷ 0 ∷ [] }
     ∷ record {
@@ -124,19 +124,19 @@ marked =
       answers = 0 ∷ 1 ∷ 6 ∷ 16 ∷ 0 ∷ [];
       stands = 0 ∷ 1 ∷ 1 ∷ 1 ∷ 1 ∷ 1 ∷ 1 ∷ [];
     }
-    ∷ onH [] (clustered 16) (0 ∷ 0 ∷ 6 ∷ 0 ∷ 0 ∷ []) (0 ∷ 1 ∷ 1 ∷ 1 ∷ 1 ∷ 1 ∷ 1 ∷ [])
-    ∷ onH [] (plain 16) (0 ∷ 0 ∷ 6 ∷ 6 ∷ 0 ∷ []) (0 ∷ 1 ∷ 1 ∷ 1 ∷ 1 ∷ 1 ∷ 1 ∷ [])
+    ∷ on h [] (clustered 16) (0 ∷ 0 ∷ 6 ∷ 0 ∷ 0 ∷ []) (0 ∷ 1 ∷ 1 ∷ 1 ∷ 1 ∷ 1 ∷ 1 ∷ [])
+    ∷ on h [] (plain 16) (0 ∷ 0 ∷ 6 ∷ 6 ∷ 0 ∷ []) (0 ∷ 1 ∷ 1 ∷ 1 ∷ 1 ∷ 1 ∷ 1 ∷ [])
     -- a member points at a new object
-    ∷ onH (allocate 0 ∷ write 1 2 7 ∷ []) (clustered 16) (0 ∷ 0 ∷ 7 ∷ 2 ∷ 0 ∷ []) (0 ∷ 1 ∷ 1 ∷ 1 ∷ 1 ∷ 1 ∷ 1 ∷ 0 ∷ [])
+    ∷ on h (allocate 0 ∷ write 1 2 7 ∷ []) (clustered 16) (0 ∷ 0 ∷ 7 ∷ 2 ∷ 0 ∷ []) (0 ∷ 1 ∷ 1 ∷ 1 ∷ 1 ∷ 1 ∷ 1 ∷ 0 ∷ [])
     -- a pointer inside the cluster is cleared
-    ∷ onH [] (write 1 0 0) (0 ∷ []) (6 ∷ 0 ∷ 0 ∷ 0 ∷ 0 ∷ 0 ∷ 0 ∷ [])
-    ∷ onH (write 1 0 0 ∷ []) (clustered 16) (0 ∷ 3 ∷ 3 ∷ 3 ∷ 84 ∷ []) (6 ∷ 0 ∷ 0 ∷ 0 ∷ 0 ∷ 0 ∷ 0 ∷ [])
+    ∷ on h [] (write 1 0 0) (0 ∷ []) (6 ∷ 0 ∷ 0 ∷ 0 ∷ 0 ∷ 0 ∷ 0 ∷ [])
+    ∷ on h (write 1 0 0 ∷ []) (clustered 16) (0 ∷ 3 ∷ 3 ∷ 3 ∷ 84 ∷ []) (6 ∷ 0 ∷ 0 ∷ 0 ∷ 0 ∷ 0 ∷ 0 ∷ [])
     -- the root leads to a member that is no head; then the head is met on the way
-    ∷ onH (setRoot 0 3 ∷ []) (clustered 16) (0 ∷ 4 ∷ 2 ∷ 2 ∷ 86 ∷ []) (0 ∷ 0 ∷ 0 ∷ 0 ∷ 0 ∷ 0 ∷ 0 ∷ [])
-    ∷ onH (write 5 0 1 ∷ setRoot 0 3 ∷ []) (clustered 16) (0 ∷ 0 ∷ 6 ∷ 2 ∷ 0 ∷ []) (0 ∷ 1 ∷ 1 ∷ 1 ∷ 1 ∷ 1 ∷ 1 ∷ [])
+    ∷ on h (setRoot 0 3 ∷ []) (clustered 16) (0 ∷ 4 ∷ 2 ∷ 2 ∷ 86 ∷ []) (0 ∷ 0 ∷ 0 ∷ 0 ∷ 0 ∷ 0 ∷ 0 ∷ [])
+    ∷ on h (write 5 0 1 ∷ setRoot 0 3 ∷ []) (clustered 16) (0 ∷ 0 ∷ 6 ∷ 2 ∷ 0 ∷ []) (0 ∷ 1 ∷ 1 ∷ 1 ∷ 1 ∷ 1 ∷ 1 ∷ [])
     -- an equal word is stored; a member becomes a sink
-    ∷ onH [] (write 4 0 6) (0 ∷ []) (6 ∷ 0 ∷ 0 ∷ 0 ∷ 0 ∷ 0 ∷ 0 ∷ [])
-    ∷ onH [] (declareSink 6) (0 ∷ []) (0 ∷ 0 ∷ 0 ∷ 0 ∷ 0 ∷ 0 ∷ 0 ∷ [])
+    ∷ on h [] (write 4 0 6) (0 ∷ []) (6 ∷ 0 ∷ 0 ∷ 0 ∷ 0 ∷ 0 ∷ 0 ∷ [])
+    ∷ on h [] (declareSink 6) (0 ∷ []) (0 ∷ 0 ∷ 0 ∷ 0 ∷ 0 ∷ 0 ∷ 0 ∷ [])
     -- four members with ten out pointers, with eleven, and three members
     ∷ record { from = new 24 2; before = fan []; call = analysis 24; answers = 0 ∷ 1 ∷ 4 ∷ 16 ∷ 0 ∷ []; stands = 0 ∷ 1 ∷ 1 ∷ 1 ∷ 1 ∷ 0 ∷ [] }
     ∷ record {
@@ -181,13 +181,13 @@ recordWith width flags c = 1 + flags + 256 * width + 65536 * c
 
 -- a trial of one call
 unfoldable pub fresh : State → Call → List ℕ → List ℕ → Trial
-fresh s call answers stands = record { from = s; before = []; call = call; answers = answers; stands = stands }
+fresh s = on s []
 
 -- ---- what the walks do, by value
 
--- rows of our own
-unfoldable pub ownRows : List Trial
-ownRows =
+-- rows of our own; h is heap H
+unfoldable pub ownRows : State → List Trial
+ownRows h =
     -- a chain of nine at limit 8: eight join, the ninth heads a cluster of its own, which is too small
     fresh
     (stateWith 9 17 1 (replicate 9 (recordWith 1 0 0)) (one 2 ++ one 3 ++ one 4 ++ one 5 ++ one 6 ++ one 7 ++ one 8 ++ one 9 ++ one 0) 1)
@@ -242,7 +242,7 @@ ownRows =
       stands = 0 ∷ 1 ∷ 1 ∷ 1 ∷ 1 ∷ 1 ∷ 1 ∷ [];
     }
     -- a plain collection that frees a head dissolves its cluster too
-    ∷ onH (setRoot 0 3 ∷ []) (plain 16) (0 ∷ 4 ∷ 2 ∷ 2 ∷ 86 ∷ []) (0 ∷ 0 ∷ 0 ∷ 0 ∷ 0 ∷ 0 ∷ 0 ∷ [])
+    ∷ on h (setRoot 0 3 ∷ []) (plain 16) (0 ∷ 4 ∷ 2 ∷ 2 ∷ 86 ∷ []) (0 ∷ 0 ∷ 0 ∷ 0 ∷ 0 ∷ 0 ∷ 0 ∷ [])
     -- 1 is freed: the next object given is 3, past the last one; and with 3 the last of three, 1 is given again
     ∷ record {
       from = new 16 2;
@@ -252,11 +252,11 @@ ownRows =
       stands = 0 ∷ 0 ∷ 0 ∷ 0 ∷ [];
     }
     ∷ fresh (stateWith 3 0 0 (0 ∷ replicate 2 (recordWith 1 0 0)) (one 0 ++ one 3 ++ one 0) 2) (allocate 1) (0 ∷ 1 ∷ []) (0 ∷ 0 ∷ [])
-    ∷ onH [] (read 1 1) (0 ∷ 3 ∷ []) (0 ∷ 1 ∷ 1 ∷ 1 ∷ 1 ∷ 1 ∷ 1 ∷ [])
-    ∷ onH [] (show 1) (0 ∷ 2 ∷ 3 ∷ 0 ∷ []) (0 ∷ 1 ∷ 1 ∷ 1 ∷ 1 ∷ 1 ∷ 1 ∷ [])
+    ∷ on h [] (read 1 1) (0 ∷ 3 ∷ []) (0 ∷ 1 ∷ 1 ∷ 1 ∷ 1 ∷ 1 ∷ 1 ∷ [])
+    ∷ on h [] (show 1) (0 ∷ 2 ∷ 3 ∷ 0 ∷ []) (0 ∷ 1 ∷ 1 ∷ 1 ∷ 1 ∷ 1 ∷ 1 ∷ [])
     -- in place: 7 and 8 are given one after the other; a pointer inside the cluster is cleared
-    ∷ onH (allocateInPlace 1 ∷ []) (allocateInPlace 1) (0 ∷ 8 ∷ []) (0 ∷ 1 ∷ 1 ∷ 1 ∷ 1 ∷ 1 ∷ 1 ∷ 0 ∷ 0 ∷ [])
-    ∷ onH [] (writeInPlace 1 0 0) (0 ∷ []) (6 ∷ 0 ∷ 0 ∷ 0 ∷ 0 ∷ 0 ∷ 0 ∷ [])
+    ∷ on h (allocateInPlace 1 ∷ []) (allocateInPlace 1) (0 ∷ 8 ∷ []) (0 ∷ 1 ∷ 1 ∷ 1 ∷ 1 ∷ 1 ∷ 1 ∷ 0 ∷ 0 ∷ [])
+    ∷ on h [] (writeInPlace 1 0 0) (0 ∷ []) (6 ∷ 0 ∷ 0 ∷ 0 ∷ 0 ∷ 0 ∷ 0 ∷ [])
     ∷ []
 
 -- ---- two refusals that both hold: the first in the order is given
@@ -337,9 +337,13 @@ refusals =
     ∷ refused (small 257 0) (setRoot 1 2) (7 ∷ [])
     ∷ []
 
+-- all rows; h is heap H
+unfoldable pub rows : State → List Trial
+rows h = marked h ++ ownRows h ++ refusals
+
 -- the whole table
 unfoldable pub table : List Trial
-table = marked ++ ownRows ++ refusals
+table = rows heapH
 
 -- create: 1 and 2 both hold, and 2 alone
 unfoldable pub createRefusals : List ℕ
