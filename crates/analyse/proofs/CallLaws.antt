@@ -33,9 +33,10 @@ use Rattle.rules.proofs.AnalyseLaws.{limit-range}
 use Rattle.analyse.specs.Memory.{memOf, walkOf}
 use Rattle.analyse.specs.Starts.{Formable, From, formedFrom}
 use Rattle.table.specs.Room.{Accepted}
-use Rattle.table.specs.Check.{heapShort, heapTests}
-use Rattle.table.proofs.CheckLaws.{accepted-sane, accepted-sized}
-use Rattle.table.proofs.CheckLaws as Check
+use Rattle.table.specs.Room.{heapShort}
+use Rattle.wellformed.specs.Check.{heapTests}
+use Rattle.wellformed.proofs.CheckLaws.{accepted-sane, accepted-sized}
+use Rattle.wellformed.proofs.CheckLaws as Check
 use Rattle.analyse.specs.Judge.{walkClusters, Judgeable, Judged, leftOf}
 
 -- ---- the tests

@@ -24,7 +24,7 @@ use layout::answers::Control;
 use layout::control::with_analysis;
 use layout::limits::work_len;
 use table::buffers::zero;
-use table::check::heap_refusal;
+use wellformed::heap_refusal;
 
 // The number of the first test that holds, 0 where none does.
 fn analyse_refusal(c: Control, records: &[u32], slots: &[u32], roots: &[u32], work: &[u32]) -> u32

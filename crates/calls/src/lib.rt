@@ -1,14 +1,14 @@
 // A line of a call list run on the buffers of a heap.
 ghost use mathlib.Core.Path.{_≡_};
 ghost use Rattle.calls.specs.Run as Run;
+use access::read::read;
+use access::set_root::set_root;
+use access::show::show_part;
 use analyse::analyse;
 use collect::clusters::collect_clusters;
 use collect::plain::collect_plain;
 use heap::allocate::allocate;
 use heap::create::create;
-use heap::read::read;
-use heap::set_root::set_root;
-use heap::show::show_part;
 use layout::answers::Allocated;
 use layout::answers::Analysed;
 use layout::answers::Collected;

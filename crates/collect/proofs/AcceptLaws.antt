@@ -24,9 +24,10 @@ use Rattle.rules.proofs.PlaceLaws.{by-object}
 use Rattle.rules.proofs.SaneLaws.{sane-starts}
 use Rattle.table.specs.Room.{Accepted}
 use Rattle.sweep.specs.Sweep.{unflaggedRecord, unflagged}
-use Rattle.table.specs.Check.{heapShort, heapTests}
-use Rattle.table.proofs.CheckLaws.{accepted-sane, accepted-sized}
-use Rattle.table.proofs.CheckLaws as Check
+use Rattle.table.specs.Room.{heapShort}
+use Rattle.wellformed.specs.Check.{heapTests}
+use Rattle.wellformed.proofs.CheckLaws.{accepted-sane, accepted-sized}
+use Rattle.wellformed.proofs.CheckLaws as Check
 use Rattle.collect.specs.Marks.{bitOf}
 use Rattle.collect.specs.State.{Traceable}
 use Rattle.collect.proofs.MarkLaws.{unflagged-clear, no-flag}

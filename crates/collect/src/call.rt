@@ -19,7 +19,7 @@ use sweep::count_marked;
 use sweep::mark_members;
 use sweep::sweep;
 use table::buffers::zero;
-use table::check::heap_refusal;
+use wellformed::heap_refusal;
 
 // ---- the tests
 

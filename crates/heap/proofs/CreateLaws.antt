@@ -9,7 +9,7 @@ use Rattle.layout.specs.ControlRecord.{badSizes, newControl}
 use Rattle.layout.specs.Refusal.{first, by, outcome}
 use Rattle.rules.specs.Buffers.{zeros}
 use Rattle.rules.specs.Create as Create
-use Rattle.table.specs.Check.{heapShort}
+use Rattle.table.specs.Room.{heapShort}
 
 module _ (n r : ℕ) (recs slots roots : List ℕ) where
   refused : (k : ℕ) → first (Create.createTests n r recs slots roots) ≡ suc k → (c : Control) → c ≡ newControl 0 0

@@ -8,7 +8,7 @@ use layout::refusals::BAD_SIZES;
 use layout::refusals::TOO_SHORT;
 use layout::refusals::bad_sizes;
 use table::buffers::zero;
-use table::check::short_heap;
+use table::room::short_heap;
 
 // n records, 8 n slots and r roots become 0; after a refusal nothing changes and the control record is all zeros.
 pub fn create(n: u32, r: u32, records: &mut [u32], slots: &mut [u32], roots: &mut [u32]) -> Done

@@ -1,6 +1,3 @@
-// The game calls that leave the clusters as they are, one file each.
+// The game calls that make a heap and its objects, one file each.
 pub mod allocate;
 pub mod create;
-pub mod read;
-pub mod set_root;
-pub mod show;

@@ -56,15 +56,15 @@ pub extern "C" fn pakzid_read(
 ) -> WordRead
     ensures { λ a. ⌜ a ≡ Read.read c object slot (now (records .entry)) (now (slots .entry)) ⌝ }
 {
-    heap::read::read(c, object, slot, records, slots)
+    access::read::read(c, object, slot, records, slots)
 }
 
-// Where in the lent slots the part is that `heap::show::show` gives.
+// Where in the lent slots the part is that `access::show::show` gives.
 #[no_mangle]
 pub extern "C" fn pakzid_show(c: Control, object: u32, records: &[u32], slots: &[u32]) -> Part
     ensures { λ a. ⌜ a ≡ Show.show c object (now (records .entry)) (now (slots .entry)) .answer ⌝ }
 {
-    heap::show::show_part(c, object, records, slots)
+    access::show::show_part(c, object, records, slots)
 }
 
 #[no_mangle]
@@ -92,7 +92,7 @@ pub extern "C" fn pakzid_set_root(
 ) -> Done
     ensures { λ a. ⌜ SetRoot.gives a (now (roots .exit)) ≡ SetRoot.setRoot c index word (now (records .entry)) (now (roots .entry)) ⌝ }
 {
-    heap::set_root::set_root(c, index, word, records, roots)
+    access::set_root::set_root(c, index, word, records, roots)
 }
 
 #[no_mangle]

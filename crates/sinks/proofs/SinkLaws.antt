@@ -35,9 +35,10 @@ use Rattle.rules.proofs.PassLaws.{passFrom, pass-begin, pass-turn, pass-end, pa
 use Rattle.rules.proofs.BufferLaws.{recOf-get}
 use Rattle.rules.proofs.WellFormedLaws.{exact-none}
 use Rattle.rules.proofs.StoreLaws.{recOf-zero, recOf-place, stored-alike, recOf-set-same, recOf-set-other}
-use Rattle.table.specs.Check.{heapShort}
+use Rattle.table.specs.Room.{heapShort}
 use Rattle.table.specs.Clusters.{dissolved, dissolvedRecord}
-use Rattle.table.proofs.CheckLaws.{heap-long, checked-is}
+use Rattle.table.proofs.RoomLaws.{heap-long}
+use Rattle.wellformed.proofs.CheckLaws.{checked-is}
 use Rattle.sinks.specs.Sinks.{madeExact}
 
 -- ---- the tests

@@ -17,11 +17,11 @@ use records::cluster_of;
 use records::is_sink;
 use records::with_out;
 use records::with_sink;
-use table::check::short_heap;
-use table::check::well_formed;
 use table::clusters::dissolve;
 use table::clusters::exact_out;
 use table::clusters::record_of;
+use table::room::short_heap;
+use wellformed::well_formed;
 
 // The number of the first test that holds, 0 where none does.
 fn declare_refusal(c: Control, object: u32, records: &[u32], slots: &[u32], roots: &[u32]) -> u32

@@ -20,7 +20,7 @@ use Rattle.layout.proofs.LimitLaws.{within-true}
 use Rattle.layout.proofs.RefusalLaws.{first-passed, first-fails}
 use Rattle.rules.specs.Buffers.{short, recOf}
 use Rattle.rules.specs.Show.{showTests}
-use Rattle.table.specs.Check.{roomOf}
+use Rattle.table.specs.Room.{roomOf}
 use Rattle.rules.proofs.BoolLaws.{or-split, or-true}
 use Rattle.rules.proofs.BufferLaws.{recOf-get}
 

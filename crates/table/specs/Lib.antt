@@ -2,4 +2,3 @@
 pub mod Room
 pub mod Cleared
 pub mod Clusters
-pub mod Check

@@ -1,14 +1,23 @@
 -- The lent words suffice for n objects.
-use Prim.Native.Nat.{ℕ, _+_, _*_, _≤_}
+use Prim.Native.Nat.{ℕ, _+_, _*_, _/_, _≤_}
 use mathlib.Core.Path.{_≡_}
-use mathlib.Core.Bool.{true}
+use mathlib.Core.Bool.{Bool, true, cond, _||_}
+use lib.Dec.{ltb}
 use mathlib.Core.List.{List}
 use lib.ListN.{length}
-use Rattle.layout.specs.Limits.{objectMax, rootMax, widthMax}
+use Rattle.layout.specs.Limits.{objectMax, rootMax, widthMax, slotsLen}
 use Rattle.layout.specs.declared.answers.Control.{Control}
 use Rattle.records.specs.Record.{width}
-use Rattle.rules.specs.Buffers.{recOf}
+use Rattle.rules.specs.Buffers.{short, recOf}
 use Rattle.rules.specs.WellFormed.{wellFormed}
+
+-- for how many objects a words of records and b of slots suffice ("The heap")
+unfoldable pub roomOf : ℕ → ℕ → ℕ
+roomOf a b = cond (ltb a (b / widthMax)) a (b / widthMax)
+
+-- a slice is too short for n objects and r roots
+unfoldable pub heapShort : ℕ → ℕ → List ℕ → List ℕ → List ℕ → Bool
+heapShort n r recs slots roots = short n recs || short (slotsLen n) slots || short r roots
 
 -- there are records and slots for n objects
 pub record Room (n : ℕ) (recs slots : List ℕ) : Type 0 where

@@ -1,5 +1,5 @@
-// The table of objects: its buffers, its clusters, the tests of a named object, and the check of a whole heap.
+// The table of objects: the room of its buffers, words that are cleared, its clusters, and the tests of a named object.
 pub mod buffers;
-pub mod check;
 pub mod clusters;
 pub mod named;
+pub mod room;

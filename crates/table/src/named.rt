@@ -3,7 +3,7 @@ ghost use mathlib.Core.Path.{_≡_};
 ghost use Rattle.layout.specs.Refusal.{first};
 ghost use Rattle.rules.specs.Show.{showTests};
 ghost use lib.ListN.{length};
-ghost use Rattle.table.specs.Check.{roomOf};
+ghost use Rattle.table.specs.Room.{roomOf};
 use layout::answers::Control;
 use layout::limits::WIDTH_MAX;
 use layout::limits::within;

@@ -1,7 +1,7 @@
 -- `analyse` meets its contract. Assumes nothing.
 use mathlib.Core.Path.{sym, ap, _∙_}
 use Rattle.rules.specs.Analyse.{nextLimit}
-use Rattle.table.proofs.CheckLaws.{accepted-part}
+use Rattle.wellformed.proofs.CheckLaws.{accepted-part}
 use Rattle.table.proofs.ClearedLaws.{zeros-lent}
 use Rattle.analyse.proofs.CallLaws.{refused, accepted, cap-fits, formable, outcome}
 use borrow.Author.Needs.{needs}

@@ -1,7 +1,7 @@
 -- `collect_accepted` meets its contract.
 use denote.Ref.{now}
 use Rattle.layout.specs.Limits.{workLen}
-use Rattle.table.proofs.CheckLaws.{accepted-part}
+use Rattle.wellformed.proofs.CheckLaws.{accepted-part}
 use Rattle.collect.proofs.CollectLaws.{collected}
 use borrow.Author.Needs.{needs}
 use Rattle.collect.proofs.call.collect_accepted.Statement.{statement}

@@ -1,5 +1,5 @@
 -- `mark_kept` meets its contract.
-use Rattle.table.proofs.CheckLaws.{accepted-sane}
+use Rattle.wellformed.proofs.CheckLaws.{accepted-sane}
 use Rattle.collect.proofs.AcceptLaws.{trace-able}
 use Rattle.collect.proofs.CollectLaws.{kept-marks}
 use borrow.Author.Needs.{needs}

@@ -2,7 +2,7 @@
 use borrow.Author.Needs.{needs}
 use borrow.Author.Tests.{lt-ltb, le-ltb}
 use mathlib.Core.Path.{refl}
-use Rattle.table.specs.Check.{roomOf}
+use Rattle.table.specs.Room.{roomOf}
 use Rattle.table.proofs.named.room.Statement.{statement}
 use Rattle.table.proofs.named.room.Tie as tie
 

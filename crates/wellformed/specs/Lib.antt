@@ -1,0 +1,2 @@
+-- What the functions of the check are held to.
+pub mod Check
