@@ -5,8 +5,7 @@ use access::read::read;
 use access::set_root::set_root;
 use access::show::show_part;
 use analyse::analyse;
-use collect::clusters::collect_clusters;
-use collect::plain::collect_plain;
+use collect::collect;
 use heap::allocate::allocate;
 use heap::create::create;
 use layout::answers::Allocated;
@@ -103,9 +102,9 @@ pub fn run(
         Line::Root(j, w) => of_done(set_root(c, j, w, records, roots)),
         Line::Sink(i) => of_done(declare_sink(c, i, records, slots, roots)),
         Line::Analyse => of_analysed(analyse(c, records, slots, roots, work)),
-        Line::CollectPlain => of_collected(collect_plain(c, records, slots, roots, work, map)),
+        Line::CollectPlain => of_collected(collect(false, c, records, slots, roots, work, map)),
         Line::CollectClusters => {
-            of_collected(collect_clusters(c, records, slots, roots, work, map))
+            of_collected(collect(true, c, records, slots, roots, work, map))
         }
         Line::Wrote(_, _) => answer(0, 0, 0, 0, c),
         Line::Loaded(_, _) => answer(0, 0, 0, 0, c),

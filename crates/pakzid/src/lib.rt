@@ -135,7 +135,7 @@ pub extern "C" fn pakzid_collect_plain(
     ensures { λ a. ⌜ Collect.gives a (now (records .exit)) (now (slots .exit)) (now (work .exit)) (now (map .exit))
         ≡ Collect.collect Collect.plainly c (now (records .entry)) (now (slots .entry)) (now (roots .entry)) (now (work .entry)) (now (map .entry)) ⌝ }
 {
-    collect::plain::collect_plain(c, records, slots, roots, work, map)
+    collect::collect(false, c, records, slots, roots, work, map)
 }
 
 #[no_mangle]
@@ -150,5 +150,5 @@ pub extern "C" fn pakzid_collect_clusters(
     ensures { λ a. ⌜ Collect.gives a (now (records .exit)) (now (slots .exit)) (now (work .exit)) (now (map .exit))
         ≡ Collect.collect Collect.byClusters c (now (records .entry)) (now (slots .entry)) (now (roots .entry)) (now (work .entry)) (now (map .entry)) ⌝ }
 {
-    collect::clusters::collect_clusters(c, records, slots, roots, work, map)
+    collect::collect(true, c, records, slots, roots, work, map)
 }

@@ -1,7 +1,6 @@
 // The trials of docs/HEAP.md ("Trials") that are run and not proved, a line of output each. Each begins with buffers of zeros.
 use analyse::analyse;
-use collect::clusters::collect_clusters;
-use collect::plain::collect_plain;
+use collect::collect;
 use heap::allocate::allocate;
 use heap::create::create;
 use layout::answers::Control;
@@ -61,10 +60,15 @@ fn collecting(by_clusters: bool, work: &mut [u32]) -> u32 {
     let mut roots = [0u32; 1];
     let mut map = [0u64; 1];
     let c = create(1, 1, &mut records, &mut slots, &mut roots).control;
-    if by_clusters {
-        return collect_clusters(c, &mut records, &mut slots, &roots, work, &mut map).refusal;
-    }
-    collect_plain(c, &mut records, &mut slots, &roots, work, &mut map).refusal
+    collect(
+        by_clusters,
+        c,
+        &mut records,
+        &mut slots,
+        &roots,
+        work,
+        &mut map,
+    ).refusal
 }
 
 // The refusal of allocate with a free object left.

@@ -85,8 +85,8 @@ of-analysed-requires c κs = search needs
 enum-told-3 : tie.Need-enum-told-3
 enum-told-3 c = search needs
 
-collect-plain-requires : tie.Need-collect-plain-requires
-collect-plain-requires c κs = search needs
+collect-requires : tie.Need-collect-requires
+collect-requires c κs = search needs
 
 of-collected-requires : tie.Need-of-collected-requires
 of-collected-requires c κs = search needs
@@ -94,8 +94,8 @@ of-collected-requires c κs = search needs
 enum-told-4 : tie.Need-enum-told-4
 enum-told-4 c = search needs
 
-collect-clusters-requires : tie.Need-collect-clusters-requires
-collect-clusters-requires c κs = search needs
+collect-requires-2 : tie.Need-collect-requires-2
+collect-requires-2 c κs = search needs
 
 of-collected-requires-2 : tie.Need-of-collected-requires-2
 of-collected-requires-2 c κs = search needs
@@ -221,7 +221,7 @@ same-length-25 : tie.Need-same-length-25
 same-length-25 c = search needs
 
 returns-10 : tie.Need-returns-10
-returns-10 c = ends-plain _ _ _ _ _ _ _ _ _ _ _ _ _ (c .before .before .before .before .before .before .before .before .before .before .before .before .before .before .before .enum-told3 .given .1) (c .of-collected .ensures) (c .before .before .before .before .before .before .before .before .before .collect-plain .ensures)
+returns-10 c = ends-plain _ _ _ _ _ _ _ _ _ _ _ _ _ (c .before .before .before .before .before .before .before .before .before .before .before .before .before .before .before .enum-told3 .given .1) (c .of-collected .ensures) (c .before .before .before .before .before .before .before .before .before .collect .ensures)
 
 same-length-26 : tie.Need-same-length-26
 same-length-26 c = search needs
@@ -239,7 +239,7 @@ same-length-30 : tie.Need-same-length-30
 same-length-30 c = search needs
 
 returns-11 : tie.Need-returns-11
-returns-11 c = ends-clusters _ _ _ _ _ _ _ _ _ _ _ _ _ (c .before .before .before .before .before .before .before .before .before .before .before .before .before .before .before .enum-told4 .given .1) (c .of-collected2 .ensures) (c .before .before .before .before .before .before .before .before .before .collect-clusters .ensures)
+returns-11 c = ends-clusters _ _ _ _ _ _ _ _ _ _ _ _ _ (c .before .before .before .before .before .before .before .before .before .before .before .before .before .before .before .enum-told4 .given .1) (c .of-collected2 .ensures) (c .before .before .before .before .before .before .before .before .before .collect2 .ensures)
 
 returns-12 : tie.Need-returns-12
 returns-12 c = ends-wrote _ _ _ _ _ _ _ _ _ _ (c .before .enum-told5 .given .1) (c .answer2 .ensures)
@@ -281,10 +281,10 @@ run-spec =
     analyse-requires
     of-analysed-requires
     enum-told-3
-    collect-plain-requires
+    collect-requires
     of-collected-requires
     enum-told-4
-    collect-clusters-requires
+    collect-requires-2
     of-collected-requires-2
     enum-told-5
     answer-requires-2

@@ -1,7 +1,7 @@
 -- `count_kept` meets its contract.
 use borrow.Author.Needs.{needs}
-use Rattle.collect.proofs.call.count_kept.Statement.{statement}
-use Rattle.collect.proofs.call.count_kept.Tie as tie
+use Rattle.collect.proofs.count_kept.Statement.{statement}
+use Rattle.collect.proofs.count_kept.Tie as tie
 
 count-marked-requires : tie.Need-count-marked-requires
 count-marked-requires c κs = search needs

@@ -1,7 +1,7 @@
 -- `mark_reached` meets its contract.
 use borrow.Author.Needs.{needs}
-use Rattle.collect.proofs.call.mark_reached.Statement.{statement}
-use Rattle.collect.proofs.call.mark_reached.Tie as tie
+use Rattle.collect.proofs.mark_reached.Statement.{statement}
+use Rattle.collect.proofs.mark_reached.Tie as tie
 
 mark-members-requires : tie.Need-mark-members-requires
 mark-members-requires c κs = search needs

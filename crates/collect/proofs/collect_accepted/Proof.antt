@@ -4,8 +4,8 @@ use Rattle.layout.specs.Limits.{workLen}
 use Rattle.wellformed.proofs.CheckLaws.{accepted-part}
 use Rattle.collect.proofs.CollectLaws.{collected}
 use borrow.Author.Needs.{needs}
-use Rattle.collect.proofs.call.collect_accepted.Statement.{statement}
-use Rattle.collect.proofs.call.collect_accepted.Tie as tie
+use Rattle.collect.proofs.collect_accepted.Statement.{statement}
+use Rattle.collect.proofs.collect_accepted.Tie as tie
 
 work-len-requires : tie.Need-work-len-requires
 work-len-requires c κs = search needs

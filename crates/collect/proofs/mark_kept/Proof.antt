@@ -3,8 +3,8 @@ use Rattle.wellformed.proofs.CheckLaws.{accepted-sane}
 use Rattle.collect.proofs.AcceptLaws.{trace-able}
 use Rattle.collect.proofs.CollectLaws.{kept-marks}
 use borrow.Author.Needs.{needs}
-use Rattle.collect.proofs.call.mark_kept.Statement.{statement}
-use Rattle.collect.proofs.call.mark_kept.Tie as tie
+use Rattle.collect.proofs.mark_kept.Statement.{statement}
+use Rattle.collect.proofs.mark_kept.Tie as tie
 
 trace-requires : tie.Need-trace-requires
 trace-requires c κs =

@@ -2,8 +2,8 @@
 use mathlib.Core.Path.{sym, _∙_}
 use Rattle.collect.proofs.AcceptLaws.{tests-are}
 use borrow.Author.Needs.{needs}
-use Rattle.collect.proofs.call.refusal_of.Statement.{statement}
-use Rattle.collect.proofs.call.refusal_of.Tie as tie
+use Rattle.collect.proofs.refusal_of.Statement.{statement}
+use Rattle.collect.proofs.refusal_of.Tie as tie
 
 work-len-requires : tie.Need-work-len-requires
 work-len-requires c κs = search needs

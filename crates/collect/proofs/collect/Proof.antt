@@ -1,9 +1,9 @@
--- `collect_by` meets its contract.
+-- `collect` meets its contract.
 use Rattle.collect.proofs.AcceptLaws.{accepted}
 use Rattle.collect.proofs.CollectLaws.{collect-refused, collect-accepted}
 use borrow.Author.Needs.{needs}
-use Rattle.collect.proofs.call.collect_by.Statement.{statement}
-use Rattle.collect.proofs.call.collect_by.Tie as tie
+use Rattle.collect.proofs.collect.Statement.{statement}
+use Rattle.collect.proofs.collect.Tie as tie
 
 refusal-of-requires : tie.Need-refusal-of-requires
 refusal-of-requires c κs = search needs
@@ -52,8 +52,8 @@ returns-2 c =
     let collect-accepted-call = c .before .before .before .before .before .before .before .before .collect-accepted in
     collect-accepted (s .args .by) _ _ _ _ _ _ _ (refusal-of-call .ensures) (if1 .left) _ (collect-accepted-call .ensures)
 
-pub collect-by-spec : {M : Type 1} → statement M
-collect-by-spec =
+pub collect-spec : {M : Type 1} → statement M
+collect-spec =
     tie.close
     (tie.spec
     refusal-of-requires
