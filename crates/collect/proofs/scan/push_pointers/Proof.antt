@@ -1,6 +1,6 @@
 -- `push_pointers` meets its contract. The loop's invariant, `Pushing`: from here down it ends with the same words.
 use Prim.Native.Nat.{_+_, _-_, _≤_}
-use mathlib.Core.Path.{_≡_, refl}
+use mathlib.Core.Path.{_≡_, refl, sym, _∙_}
 use mathlib.Core.Bool.{true}
 use denote.Ref.{now}
 use lib.ListN.{length, getD, drop}
@@ -23,7 +23,7 @@ room-at c =
     let a = c .before .before .before .before .before .before .before .args in
     let l = c .before .before .before .before .loop in
     let t = c .before .before .before .loop-test .taken in
-    let e : within 1 (a .n) (getD (now (a .slots)) (a .from + (l .j - 1)) 0) ≡ true = cc in
+    let e : within 1 (a .n) (getD (now (a .slots)) (a .from + (l .j - 1)) 0) ≡ true = sym (c .before .within .ensures) ∙ c .if1 .taken in
     (pushing-room _ _ _ _ _ _ (c .before .before .before .before .before .before .before .pre) _ _ _ (l .inv) t _ refl e, pushing-inside _ _ _ _ _ _ (c .before .before .before .before .before .before .before .pre) _ _ _ (l .inv) t _ refl e)
 
 loop-holds : tie.Need-loop-holds Inv-loop μ-loop
@@ -61,7 +61,7 @@ loop-again c =
     let s = c .before .before .before .before .before .before .before in
     let l = c .before .before .before .before .loop in
     let test = c .before .before .before .loop-test in
-    pushing-kept _ _ _ _ _ _ (s .pre) _ _ _ (l .inv) (test .taken) _ refl (cc)
+    pushing-kept _ _ _ _ _ _ (s .pre) _ _ _ (l .inv) (test .taken) _ refl (sym (c .before .within .ensures) ∙ c .if1 .taken)
 
 loop-less-2 : tie.Need-loop-less-2 Inv-loop μ-loop
 loop-less-2 c = omega arith
@@ -71,7 +71,7 @@ loop-again-2 c =
     let s = c .before .before .before .before .before .before .before in
     let l = c .before .before .before .before .loop in
     let test = c .before .before .before .loop-test in
-    pushing-passed _ _ _ _ _ _ (s .pre) _ _ _ (l .inv) (test .taken) _ refl (cc)
+    pushing-passed _ _ _ _ _ _ (s .pre) _ _ _ (l .inv) (test .taken) _ refl (sym (c .before .within .ensures) ∙ c .if1 .left)
 
 same-length : tie.Need-same-length Inv-loop μ-loop
 same-length c = c .before .loop .inv .work-length
