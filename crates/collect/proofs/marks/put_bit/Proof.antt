@@ -1,4 +1,8 @@
 -- `put_bit` meets its contract.
+use Prim.Native.Nat.{ℕ, _-_}
+use mathlib.Core.Path.{ap}
+use denote.Ref.{now}
+use lib.ListN.{set}
 use borrow.Author.Needs.{needs}
 use Rattle.collect.proofs.marks.put_bit.Statement.{statement}
 use Rattle.collect.proofs.marks.put_bit.Tie as tie
@@ -28,7 +32,9 @@ same-length : tie.Need-same-length
 same-length c = search needs
 
 returns : tie.Need-returns
-returns c = cc
+returns c =
+    let a = c .before .before .before .args in
+    ap (λ (w : ℕ). set (now (a .records)) (a .x - 1) w) (c .with-bit .ensures)
 
 pub put-bit-spec : {M : Type 1} → statement M
 put-bit-spec =
