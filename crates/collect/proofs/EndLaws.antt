@@ -8,7 +8,7 @@ use mathlib.Core.List.{List, [], _∷_, _++_, append-assoc, append-nil, List·Me
 use native.Mathlib.Omega.{arith}
 use lib.ListN.{length, getD, take, drop}
 use lib.Seq.{drop-cons, take-suc}
-use Rattle.graph.specs.Numbers.{Obj, gather}
+use Rattle.graph.specs.Numbers.{Obj, gather, lowest}
 use Rattle.graph.specs.Heap.{Heap, pointers}
 use Rattle.graph.specs.Trace.{postponed, Walk, visit, step, stepBy, needed, finish}
 use Rattle.graph.specs.Trace as T
@@ -21,7 +21,7 @@ use Rattle.sweep.specs.Sweep.{unflagged}
 use Rattle.postponed.specs.Postponed as P
 use Rattle.postponed.proofs.PostponedLaws.{lowest-is}
 use Rattle.collect.specs.Marks.{flagsOf}
-use Rattle.collect.specs.State.{walkedHeap, heapFor, walkAt, endFrom, stepsFrom, pending, Objects, State, Ready, Moved, Followed, Drained, Retaken, Finished, lowestPostponed}
+use Rattle.collect.specs.State.{walkedHeap, heapFor, walkAt, endFrom, stepsFrom, pending, Objects, State, Ready, Moved, Followed, Drained, Finished}
 use Rattle.collect.proofs.MarkLaws.{view-same, flag-object}
 use Rattle.collect.proofs.PendingLaws.{pointers-append}
 use Rattle.collect.proofs.VisitLaws.{ready-moved}
@@ -259,6 +259,17 @@ sink-object n x false o = objects-none n
 
 -- ---- the lowest postponed object
 
+-- the lowest postponed object, 0 for none
+abbrev pub lowestPostponed : ℕ → List ℕ → ℕ
+lowestPostponed n recs = lowest (flagsOf n recs postponed) n
+
+-- the lowest postponed object was taken up, and what it leads to was visited
+record Retaken (by : Bool) (n : ℕ) (slots recs recs′ work′ : List ℕ) : Type 0 where
+  same : endFrom by n slots recs′ [] ≡ endFrom by n slots recs []
+  ready : Ready by n recs′ slots work′ (8 * n)
+  kept : unflagged n recs′ ≡ unflagged n recs
+  less : stepsFrom by n slots recs′ [] < stepsFrom by n slots recs []
+
 module _ (by : Bool) (n : ℕ) (slots recs work : List ℕ) (r : Ready by n recs slots work (8 * n)) where
   abbrev here : Walk
   here = walkAt n recs []
@@ -266,7 +277,7 @@ module _ (by : Bool) (n : ℕ) (slots recs work : List ℕ) (r : Ready by n recs
   calm : Safe (walkedHeap by n recs slots) here
   calm = record { todo-in = λ x m. absurd (List·Memᴰ·not-nil m) }
 
-  pub lowest-there : (x : ℕ) → ((i : ℕ) → getD work i 0 < 2 ^ 32) → x ≡ P.lowest n work → x ≡ lowestPostponed n recs
+  lowest-there : (x : ℕ) → ((i : ℕ) → getD work i 0 < 2 ^ 32) → x ≡ P.lowest n work → x ≡ lowestPostponed n recs
   lowest-there x fit e = e ∙ lowest-is n work (r .state .sized .room .most) fit (flagsOf n recs postponed) (r .state .mapped) (flag-object n recs postponed)
 
   module _ (o : ℕ) (is : o ≡ lowestPostponed n recs) (some : 1 ≤ o) where
@@ -275,7 +286,7 @@ module _ (by : Bool) (n : ℕ) (slots recs work : List ℕ) (r : Ready by n recs
         let e : lowestPostponed n recs ≡ suc (o - 1) = omega arith in
         subst (λ (x : ℕ). Obj n x × (flagsOf n recs postponed x ≡ true)) (sym is) (lowest-passes (flagsOf n recs postponed) n (o - 1) e)
 
-    pub lowest-object : Obj n o
+    lowest-object : Obj n o
     lowest-object = found .0
 
     module _
@@ -283,7 +294,7 @@ module _ (by : Bool) (n : ℕ) (slots recs work : List ℕ) (r : Ready by n recs
         (top₁ : ℕ)
         (v : Moved n slots recs work (8 * n) (T.take (walkedHeap by n recs slots) o) recs₁ work₁ top₁)
       where
-        pub ready-taken : Ready by n recs₁ slots work₁ top₁
+        ready-taken : Ready by n recs₁ slots work₁ top₁
         ready-taken = ready-moved by n slots recs work (8 * n) _ recs₁ work₁ top₁ (r .state .sized .room .recs-long) (r .linked) v
 
         stepped : step (walkedHeap by n recs slots) here ≡ walkAt n recs₁ (pending n work₁ top₁)
@@ -303,7 +314,7 @@ module _ (by : Bool) (n : ℕ) (slots recs work : List ℕ) (r : Ready by n recs
             at (inl e) = absurd (true≢false (sym (found .1) ∙ e .1 o (found .0)))
             at (inr f) = f .0
 
-        pub retaken : (recs₂ work₂ : List ℕ) → Drained by n slots recs₁ (pending n work₁ top₁) recs₂ work₂ → Retaken by n slots recs recs₂ work₂
+        retaken : (recs₂ work₂ : List ℕ) → Drained by n slots recs₁ (pending n work₁ top₁) recs₂ work₂ → Retaken by n slots recs recs₂ work₂
         retaken recs₂ work₂ d =
             let long = r .state .sized .room .recs-long in
             record {
@@ -339,18 +350,36 @@ module _ (by : Bool) (n : ℕ) (slots recs₀ work₀ : List ℕ) where
   retaking-here o r f l =
       record { same = refl; ready = r; kept = refl; lowest-now = lowest-there by n slots recs₀ work₀ r o f l; recs-length = refl; work-length = refl }
 
-  pub retaking-on : (recs work : List ℕ) (o : ℕ) → Retaking by n slots recs₀ work₀ recs work o → (recs′ work′ : List ℕ) (o′ : ℕ)
-      → Retaken by n slots recs recs′ work′ → ((i : ℕ) → getD work′ i 0 < 2 ^ 32) → o′ ≡ P.lowest n work′ → length recs′ ≡ length recs → length work′ ≡ length work
-      → Retaking by n slots recs₀ work₀ recs′ work′ o′
-  retaking-on recs work o g recs′ work′ o′ t f l a b =
-      record {
-        same = t .same ∙ g .same;
-        ready = t .ready;
-        kept = t .kept ∙ g .kept;
-        lowest-now = lowest-there by n slots recs′ work′ (t .ready) o′ f l;
-        recs-length = a ∙ g .recs-length;
-        work-length = b ∙ g .work-length;
-      }
+  module _ (recs work : List ℕ) (o : ℕ) (g : Retaking by n slots recs₀ work₀ recs work o) (some : 1 ≤ o) where
+    pub retaking-object : Obj n o
+    retaking-object = lowest-object by n slots recs work (g .ready) o (g .lowest-now) some
+
+    module _
+        (recs₁ work₁ : List ℕ)
+        (top₁ : ℕ)
+        (v : Moved n slots recs work (8 * n) (T.take (walkedHeap by n recs slots) o) recs₁ work₁ top₁)
+      where
+        pub retaking-ready : Ready by n recs₁ slots work₁ top₁
+        retaking-ready = ready-taken by n slots recs work (g .ready) o (g .lowest-now) some recs₁ work₁ top₁ v
+
+        module _ (recs₂ work₂ : List ℕ) (d : Drained by n slots recs₁ (pending n work₁ top₁) recs₂ work₂) where
+          turn : Retaken by n slots recs recs₂ work₂
+          turn = retaken by n slots recs work (g .ready) o (g .lowest-now) some recs₁ work₁ top₁ v recs₂ work₂ d
+
+          pub retaking-less : stepsFrom by n slots recs₂ [] < stepsFrom by n slots recs []
+          retaking-less = turn .less
+
+          pub retaking-on : (o′ : ℕ) → ((i : ℕ) → getD work₂ i 0 < 2 ^ 32) → o′ ≡ P.lowest n work₂ → length recs₂ ≡ length recs → length work₂ ≡ length work
+              → Retaking by n slots recs₀ work₀ recs₂ work₂ o′
+          retaking-on o′ f l a b =
+              record {
+                same = turn .same ∙ g .same;
+                ready = turn .ready;
+                kept = turn .kept ∙ g .kept;
+                lowest-now = lowest-there by n slots recs₂ work₂ (turn .ready) o′ f l;
+                recs-length = a ∙ g .recs-length;
+                work-length = b ∙ g .work-length;
+              }
 
   pub retaking-done : (recs work : List ℕ) (o : ℕ) → Retaking by n slots recs₀ work₀ recs work o → o ≡ 0 → Finished by n slots recs₀ recs
   unfolding view

@@ -33,22 +33,16 @@ use Rattle.collect.proofs.EndLaws.{objects-none, roots-next, sinks-next
 
 -- ---- one root
 
-pub root-none : (w : ℕ) → w ≡ 0 → pointers (w ∷ []) ≡ []
+root-none : (w : ℕ) → w ≡ 0 → pointers (w ∷ []) ≡ []
 unfolding pointers
 root-none w e = rw e refl
 
-pub root-one : (w : ℕ) → w ≢ 0 → pointers (w ∷ []) ≡ w ∷ []
+root-one : (w : ℕ) → w ≢ 0 → pointers (w ∷ []) ≡ w ∷ []
 unfolding pointers
 root-one w e = rw (ne-eqb w 0 e) refl
 
-pub root-named : (n w : ℕ) → w ≢ 0 → Objects n (pointers (w ∷ [])) → Obj n w
+root-named : (n w : ℕ) → w ≢ 0 → Objects n (pointers (w ∷ [])) → Obj n w
 root-named n w e h = h w (subst (λ (l : List ℕ). List·Memᴰ w l) (sym (root-one w e)) (List·Memᴰ·head refl))
-
-pub sink-taken : (b : Bool) (x : ℕ) → b ≡ true → cond b (x ∷ []) [] ≡ x ∷ []
-sink-taken b x e = rw e refl
-
-pub sink-passed : (b : Bool) (x : ℕ) → b ≡ false → cond b (x ∷ []) [] ≡ []
-sink-passed b x e = rw e refl
 
 -- ---- the loops over the starts
 
@@ -58,7 +52,7 @@ module _ (by : Bool) (n : ℕ) (slots recs₀ : List ℕ) where
   roots-begin work roots r = followed-none by n slots recs₀ work r (pointers (take 0 roots)) refl
 
   module _ (roots : List ℕ) (r i : ℕ) (less : i < r) (long : r ≤ length roots) (objects : Objects n (pointers (take r roots))) where
-    pub roots-object : Objects n (pointers (getD roots i 0 ∷ []))
+    roots-object : Objects n (pointers (getD roots i 0 ∷ []))
     roots-object x m =
         objects x
         (subst (λ (l : List ℕ). List·Memᴰ x l) (sym parts)
@@ -72,17 +66,32 @@ module _ (by : Bool) (n : ℕ) (slots recs₀ : List ℕ) where
             ∙ ap pointers (take-add (i + 1) (r - (i + 1)) roots)
             ∙ pointers-append (take (i + 1) roots) (take (r - (i + 1)) (drop (i + 1) roots))
 
-    pub roots-on : (recs₁ work₁ recs₂ work₂ : List ℕ) → Followed by n slots recs₀ (pointers (take i roots)) recs₁ work₁
+    roots-on : (recs₁ work₁ recs₂ work₂ : List ℕ) → Followed by n slots recs₀ (pointers (take i roots)) recs₁ work₁
         → Followed by n slots recs₁ (pointers (getD roots i 0 ∷ [])) recs₂ work₂ → Followed by n slots recs₀ (pointers (take (i + 1) roots)) recs₂ work₂
     roots-on recs₁ work₁ recs₂ work₂ f g =
         followed-as by n slots recs₀ _ _ recs₂ work₂ (roots-next roots i (omega arith))
         (followed-then by n slots recs₀ (pointers (take i roots)) (pointers (getD roots i 0 ∷ [])) recs₁ work₁ recs₂ work₂ roots-object f g)
 
+    pub root-object : getD roots i 0 ≢ 0 → Obj n (getD roots i 0)
+    root-object e = root-named n (getD roots i 0) e roots-object
+
+    -- the root at i names no object
+    pub root-passed : getD roots i 0 ≡ 0 → (recs₁ work₁ : List ℕ) → Followed by n slots recs₀ (pointers (take i roots)) recs₁ work₁
+        → Followed by n slots recs₀ (pointers (take (i + 1) roots)) recs₁ work₁
+    root-passed e recs₁ work₁ f =
+        roots-on recs₁ work₁ recs₁ work₁ f (followed-none by n slots recs₁ work₁ (f .ready) (pointers (getD roots i 0 ∷ [])) (root-none (getD roots i 0) e))
+
+    -- it names one
+    pub root-followed : getD roots i 0 ≢ 0 → (recs₁ work₁ recs₂ work₂ : List ℕ) → Followed by n slots recs₀ (pointers (take i roots)) recs₁ work₁
+        → Followed by n slots recs₁ (getD roots i 0 ∷ []) recs₂ work₂ → Followed by n slots recs₀ (pointers (take (i + 1) roots)) recs₂ work₂
+    root-followed e recs₁ work₁ recs₂ work₂ f g =
+        roots-on recs₁ work₁ recs₂ work₂ f (followed-as by n slots recs₁ _ _ recs₂ work₂ (root-one (getD roots i 0) e) g)
+
   pub sinks-begin : (work : List ℕ) (t : ℕ → Bool) → Ready by n recs₀ slots work (8 * n) → Followed by n slots recs₀ (gather 0 t (λ y. y ∷ [])) recs₀ work
   unfolding gather
   sinks-begin work t r = followed-none by n slots recs₀ work r (gather 0 t (λ y. y ∷ [])) refl
 
-  pub sinks-on : n ≤ length recs₀ → (x : ℕ) → x < n → (recs₁ work₁ recs₂ work₂ : List ℕ)
+  sinks-on : n ≤ length recs₀ → (x : ℕ) → x < n → (recs₁ work₁ recs₂ work₂ : List ℕ)
       → Followed by n slots recs₀ (gather x (view n recs₀ slots .sink) (λ y. y ∷ [])) recs₁ work₁
       → Followed by n slots recs₁ (cond (isSink (recOf n recs₁ (x + 1))) ((x + 1) ∷ []) []) recs₂ work₂
       → Followed by n slots recs₀ (gather (x + 1) (view n recs₀ slots .sink) (λ y. y ∷ [])) recs₂ work₂
@@ -92,6 +101,17 @@ module _ (by : Bool) (n : ℕ) (slots recs₀ : List ℕ) where
       (followed-then by n slots recs₀ (gather x (λ y. isSink (recOf n recs₀ y)) (λ y. y ∷ [])) (cond (isSink (recOf n recs₀ (x + 1))) ((x + 1) ∷ []) [])
       recs₁ work₁ recs₂ work₂ (sink-object n (x + 1) (isSink (recOf n recs₀ (x + 1))) (omega arith)) f
       (subst (λ (b : Bool). Followed by n slots recs₁ (cond b ((x + 1) ∷ []) []) recs₂ work₂) (sink-same n recs₀ recs₁ long (f .kept) (x + 1)) g))
+
+  module _ (long : n ≤ length recs₀) (x : ℕ) (less : x < n) (recs₁ work₁ : List ℕ)
+      (f : Followed by n slots recs₀ (gather x (view n recs₀ slots .sink) (λ y. y ∷ [])) recs₁ work₁) where
+    -- object x + 1 is no sink
+    pub sink-passed : isSink (recOf n recs₁ (x + 1)) ≡ false → Followed by n slots recs₀ (gather (x + 1) (view n recs₀ slots .sink) (λ y. y ∷ [])) recs₁ work₁
+    sink-passed e = sinks-on long x less recs₁ work₁ recs₁ work₁ f (followed-none by n slots recs₁ work₁ (f .ready) _ (rw e refl))
+
+    -- it is one
+    pub sink-followed : isSink (recOf n recs₁ (x + 1)) ≡ true → (recs₂ work₂ : List ℕ) → Followed by n slots recs₁ ((x + 1) ∷ []) recs₂ work₂
+        → Followed by n slots recs₀ (gather (x + 1) (view n recs₀ slots .sink) (λ y. y ∷ [])) recs₂ work₂
+    sink-followed e recs₂ work₂ g = sinks-on long x less recs₁ work₁ recs₂ work₂ f (rw e g)
 
 -- a loop that has come to its end
 pub followed-at : (by : Bool) (n : ℕ) (slots recs : List ℕ) (from : ℕ → List ℕ) (i k : ℕ) (recs′ work′ : List ℕ) → i ≤ k → k ≤ i

@@ -5,7 +5,7 @@ use mathlib.Core.Bool.{Bool, true, false, cond, _&&_}
 use mathlib.Core.List.{List, [], _++_, map, List·Memᴰ}
 use lib.ListN.{length, getD, take, drop}
 use Rattle.records.specs.Record.{cluster}
-use Rattle.graph.specs.Numbers.{Obj, sum, count, lowest}
+use Rattle.graph.specs.Numbers.{Obj, sum, count}
 use Rattle.graph.specs.Heap.{Heap, pointers, targets}
 use Rattle.graph.specs.Trace.{marked, postponed, reached, Walk, visitBy, needed, finish, traced}
 use Rattle.rules.specs.Buffers.{recOf}
@@ -113,17 +113,6 @@ pub record Followed (by : Bool) (n : ℕ) (slots recs from recs′ work′ : Lis
 pub record Drained (by : Bool) (n : ℕ) (slots recs from recs′ work′ : List ℕ) : Type 0 where
   pub followed : Followed by n slots recs from recs′ work′
   pub fewer : stepsFrom by n slots recs′ [] ≤ stepsFrom by n slots recs from
-
--- the lowest postponed object was taken up, and what it leads to was visited
-pub record Retaken (by : Bool) (n : ℕ) (slots recs recs′ work′ : List ℕ) : Type 0 where
-  pub same : endFrom by n slots recs′ [] ≡ endFrom by n slots recs []
-  pub ready : Ready by n recs′ slots work′ (8 * n)
-  pub kept : unflagged n recs′ ≡ unflagged n recs
-  pub less : stepsFrom by n slots recs′ [] < stepsFrom by n slots recs []
-
--- the lowest postponed object, 0 for none
-abbrev pub lowestPostponed : ℕ → List ℕ → ℕ
-lowestPostponed n recs = lowest (flagsOf n recs postponed) n
 
 -- no object is postponed any more: the walk has ended
 pub record Finished (by : Bool) (n : ℕ) (slots recs recs′ : List ℕ) : Type 0 where

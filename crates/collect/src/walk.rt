@@ -10,7 +10,7 @@ ghost use Rattle.graph.specs.Numbers.{Obj, gather};
 ghost use Rattle.graph.specs.Heap.{pointers};
 ghost use Rattle.rules.specs.Buffers.{recOf};
 ghost use Rattle.rules.specs.View.{view, startsIn};
-ghost use Rattle.collect.specs.State.{pending, Objects, Linked, Ready, Followed, Drained, Retaken, Finished, lowestPostponed, Traceable, Walked};
+ghost use Rattle.collect.specs.State.{pending, Objects, Linked, Ready, Followed, Drained, Finished, Traceable, Walked};
 use crate::visit::take_up;
 use crate::visit::visit;
 use crate::visit::visit_pending;
@@ -45,31 +45,6 @@ fn follow(by: bool, n: u32, records: &mut [u32], slots: &[u32], work: &mut [u32]
     drain(by, n, records, slots, work, top);
 }
 
-// Visits the object that a root names, if it names one.
-fn follow_root(by: bool, n: u32, records: &mut [u32], slots: &[u32], work: &mut [u32], w: u32)
-    requires { ⌜ Ready by n (now records) (now slots) (now work) (8 * n) ⌝ }
-    requires { ⌜ Objects n (pointers (w ∷ [])) ⌝ }
-    ensures { λ _. ⌜ Followed by n (now (slots .entry)) (now (records .entry)) (pointers (w ∷ [])) (now (records .exit)) (now (work .exit)) ⌝ }
-{
-    if w == 0 {
-        return;
-    }
-    follow(by, n, records, slots, work, w);
-}
-
-// Visits object x, if it is a sink.
-fn follow_sink(by: bool, n: u32, records: &mut [u32], slots: &[u32], work: &mut [u32], x: u32)
-    requires { ⌜ Ready by n (now records) (now slots) (now work) (8 * n) ⌝ }
-    requires { ⌜ Obj n x ⌝ }
-    ensures { λ _. ⌜ Followed by n (now (slots .entry)) (now (records .entry))
-        (cond (isSink (recOf n (now (records .entry)) x)) (x ∷ []) []) (now (records .exit)) (now (work .exit)) ⌝ }
-{
-    if is_sink(record_of(n, x, records)) {
-        follow(by, n, records, slots, work, x);
-        return;
-    }
-}
-
 // Visits the objects that the first r roots name, by index.
 fn follow_roots(
     by: bool,
@@ -87,8 +62,11 @@ fn follow_roots(
 {
     let mut i: usize = 0;
     while i < r as usize {
-        follow_root(by, n, records, slots, work, roots[i]);
+        let w = roots[i];
         i += 1;
+        if w != 0 {
+            follow(by, n, records, slots, work, w);
+        }
     }
 }
 
@@ -102,18 +80,10 @@ fn follow_sinks(by: bool, n: u32, records: &mut [u32], slots: &[u32], work: &mut
     let mut x: u32 = 0;
     while x < n {
         x += 1;
-        follow_sink(by, n, records, slots, work, x);
+        if is_sink(record_of(n, x, records)) {
+            follow(by, n, records, slots, work, x);
+        }
     }
-}
-
-// Takes up the lowest postponed object x and visits what it leads to.
-fn follow_lowest(by: bool, n: u32, records: &mut [u32], slots: &[u32], work: &mut [u32], x: u32)
-    requires { ⌜ Ready by n (now records) (now slots) (now work) (8 * n) ⌝ }
-    requires { ⌜ (x ≡ lowestPostponed n (now records)) × (1 ≤ x) ⌝ }
-    ensures { λ _. ⌜ Retaken by n (now (slots .entry)) (now (records .entry)) (now (records .exit)) (now (work .exit)) ⌝ }
-{
-    let top = take_up(by, n, records, slots, work, x);
-    drain(by, n, records, slots, work, top);
 }
 
 // Takes up the postponed objects, the lowest first, until none is left.
@@ -123,7 +93,8 @@ fn follow_postponed(by: bool, n: u32, records: &mut [u32], slots: &[u32], work: 
 {
     let mut x = lowest(n, work);
     while x != 0 {
-        follow_lowest(by, n, records, slots, work, x);
+        let top = take_up(by, n, records, slots, work, x);
+        drain(by, n, records, slots, work, top);
         x = lowest(n, work);
     }
 }

@@ -1,7 +1,8 @@
 -- `follow_postponed` meets its contract. The loop's invariant, `Retaking`: the walk ends as it does from the start of the loop, and x is the lowest postponed object.
+use mathlib.Core.Path.{_∙_}
 use mathlib.Core.List.{[]}
 use Rattle.collect.specs.State.{stepsFrom}
-use Rattle.collect.proofs.EndLaws.{Retaking, retaking-here, retaking-on, retaking-done}
+use Rattle.collect.proofs.EndLaws.{Retaking, retaking-here, retaking-object, retaking-ready, retaking-less, retaking-on, retaking-done}
 use borrow.Author.Needs.{needs}
 use native.Mathlib.Omega.{arith}
 use Rattle.collect.proofs.walk.follow_postponed.Statement.{statement}
@@ -22,26 +23,34 @@ loop-holds c =
     let known = c .before .before .slice-known2 .given in
     retaking-here _ _ _ _ _ _ (s .pre) (λ i. known i .fits) (c .lowest .ensures)
 
-follow-lowest-requires : tie.Need-follow-lowest-requires Inv-loop μ-loop
-follow-lowest-requires c κs =
-    let l = c .before .before .before .loop in
-    let g = l .inv in (g .ready, (g .lowest-now, omega arith))
+take-up-requires : tie.Need-take-up-requires Inv-loop μ-loop
+take-up-requires c κs =
+    let g = c .before .before .before .loop .inv in
+    (g .ready .state, retaking-object _ _ _ _ _ _ _ _ g (omega arith))
+
+drain-requires : tie.Need-drain-requires Inv-loop μ-loop
+drain-requires c κs =
+    let take-up-call = c .before .before .before .before .before .before .take-up in
+    retaking-ready _ _ _ _ _ _ _ _ (c .before .before .before .before .before .before .before .before .before .before .loop .inv) (omega arith) _ _ _ (take-up-call .ensures)
 
 lowest-requires-2 : tie.Need-lowest-requires-2 Inv-loop μ-loop
 lowest-requires-2 c κs = search needs
 
 loop-less : tie.Need-loop-less Inv-loop μ-loop
 loop-less c =
-    let follow-lowest-call = c .before .before .before .before .before .before .follow-lowest in
-    follow-lowest-call .ensures .less
+    let drain-call = c .before .before .before .before .before .before .drain in
+    let take-up-call = c .before .before .before .before .before .before .before .before .before .before .before .before .before .take-up in
+    retaking-less _ _ _ _ _ _ _ _ (c .before .before .before .before .before .before .before .before .before .before .before .before .before .before .before .before .before .loop .inv) (omega arith) _ _ _ (take-up-call .ensures) _ _ (drain-call .ensures)
 
 loop-again : tie.Need-loop-again Inv-loop μ-loop
 loop-again c =
-    let follow-lowest-call = c .before .before .before .before .before .before .follow-lowest in
-    let l = c .before .before .before .before .before .before .before .before .before .before .loop in
-    let k = follow-lowest-call .kept in
-    let known = c .before .before .slice-known4 .given in
-    retaking-on _ _ _ _ _ _ _ _ (l .inv) _ _ _ (follow-lowest-call .ensures) (λ i. known i .fits) (c .lowest2 .ensures) (k .1 .1 .0) (k .1 .1 .1 .1 .0)
+    let drain-call = c .before .before .before .before .before .before .drain in
+    let take-up-call = c .before .before .before .before .before .before .before .before .before .before .before .before .before .take-up in
+    let d = drain-call .kept in
+    let t = take-up-call .kept in
+    let known = c .before .before .slice-known6 .given in
+    retaking-on _ _ _ _ _ _ _ _ (c .before .before .before .before .before .before .before .before .before .before .before .before .before .before .before .before .before .loop .inv) (omega arith) _ _ _ (take-up-call .ensures) _ _ (drain-call .ensures) _ (λ i. known i .fits) (c .lowest2 .ensures)
+    (d .1 .1 .0 ∙ t .1 .1 .0) (d .1 .1 .1 .1 .0 ∙ t .1 .1 .1 .1 .0)
 
 same-length : tie.Need-same-length Inv-loop μ-loop
 same-length c = c .before .loop .inv .recs-length
@@ -60,7 +69,8 @@ follow-postponed-spec =
     μ-loop
     lowest-requires
     loop-holds
-    follow-lowest-requires
+    take-up-requires
+    drain-requires
     lowest-requires-2
     loop-less
     loop-again

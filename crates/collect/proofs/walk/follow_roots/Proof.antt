@@ -5,7 +5,7 @@ use mathlib.Core.Path.{_≡_, refl, _∙_}
 use lib.ListN.{length, take}
 use Rattle.graph.specs.Heap.{pointers}
 use Rattle.collect.specs.State.{Followed}
-use Rattle.collect.proofs.TraceLaws.{roots-begin, roots-object, roots-on, followed-at}
+use Rattle.collect.proofs.TraceLaws.{roots-begin, root-object, root-followed, root-passed, followed-at}
 use native.Mathlib.Omega.{arith}
 use Rattle.collect.proofs.walk.follow_roots.Statement.{statement}
 use Rattle.collect.proofs.walk.follow_roots.Tie as tie
@@ -22,37 +22,55 @@ loop-holds c =
     let s = c .before .before .before .before in
     (omega arith, roots-begin _ _ _ _ _ (now (s .args .roots)) (s .pre .0), refl, refl)
 
-mul-follow-root : tie.Need-mul-follow-root Inv-loop μ-loop
-mul-follow-root c = omega arith
+mul-w : tie.Need-mul-w Inv-loop μ-loop
+mul-w c = omega arith
 
-shared-slice-read-follow-root : tie.Need-shared-slice-read-follow-root Inv-loop μ-loop
-shared-slice-read-follow-root c = omega arith
-
-follow-root-requires : tie.Need-follow-root-requires Inv-loop μ-loop
-follow-root-requires c κs =
-    let l = c .before .before .before .before .loop in
-    let s = c .before .before .before .before .before .before .before .before .before in
-    let test = c .before .before .before .loop-test in
-    (l .inv .1 .ready, roots-object (s .args .by) (s .args .n) (now (s .args .slots)) (now (s .args .records)) (now (s .args .roots)) (s .args .r) (l .i) (test .taken) (s .pre .1 .0) (s .pre .1 .1))
+shared-slice-read-w : tie.Need-shared-slice-read-w Inv-loop μ-loop
+shared-slice-read-w c = omega arith
 
 add-i : tie.Need-add-i Inv-loop μ-loop
 add-i c = omega arith
+
+follow-requires : tie.Need-follow-requires Inv-loop μ-loop
+follow-requires c κs =
+    let l = c .before .before .before .before .before .loop in
+    let s = c .before .before .before .before .before .before .before .before .before .before in
+    let test = c .before .before .before .before .loop-test in
+    let a = s .args in
+    (l .inv .1 .ready, root-object (a .by) (a .n) (now (a .slots)) (now (a .records)) (now (a .roots)) (a .r) (l .i) (test .taken) (s .pre .1 .0) (s .pre .1 .1) (c .before .before .if1 .taken))
 
 loop-less : tie.Need-loop-less Inv-loop μ-loop
 loop-less c = omega arith
 
 loop-again : tie.Need-loop-again Inv-loop μ-loop
 loop-again c =
-    let the-l = c .before .before .before .before .before .before .before .before .before .loop in
-    let follow-root-call = c .before .before .before .before .follow-root in
-    let s = c .before .before .before .before .before .before .before .before .before .before .before .before .before .before in
-    let test = c .before .before .before .before .before .before .before .before .loop-test in
-    let l = the-l in
-    let k = follow-root-call .kept in (
+    let follow-call = c .before .before .before .before .follow in
+    let test = c .before .before .before .before .before .before .before .before .before .loop-test in
+    let l = c .before .before .before .before .before .before .before .before .before .before .loop in
+    let s = c .before .before .before .before .before .before .before .before .before .before .before .before .before .before .before in
+    let a = s .args in
+    let k = follow-call .kept in (
       omega arith,
-      roots-on _ _ _ _ (now (s .args .roots)) (s .args .r) (l .i) (test .taken) (s .pre .1 .0) (s .pre .1 .1) _ _ _ _ (l .inv .1) (follow-root-call .ensures),
+      root-followed (a .by) (a .n) (now (a .slots)) (now (a .records)) (now (a .roots)) (a .r) (l .i) (test .taken) (s .pre .1 .0) (s .pre .1 .1) (c .before .before .before .before .before .before .before .if1 .taken)
+          (l .records) (l .work) _ _ (l .inv .1) (follow-call .ensures),
       k .1 .1 .0 ∙ l .inv .2,
       k .1 .1 .1 .1 .0 ∙ l .inv .3,
+    )
+
+loop-less-2 : tie.Need-loop-less-2 Inv-loop μ-loop
+loop-less-2 c = omega arith
+
+loop-again-2 : tie.Need-loop-again-2 Inv-loop μ-loop
+loop-again-2 c =
+    let test = c .before .before .loop-test in
+    let l = c .before .before .before .loop in
+    let s = c .before .before .before .before .before .before .before .before in
+    let a = s .args in (
+      omega arith,
+      root-passed (a .by) (a .n) (now (a .slots)) (now (a .records)) (now (a .roots)) (a .r) (l .i) (test .taken) (s .pre .1 .0) (s .pre .1 .1) (c .if1 .left)
+          (l .records) (l .work) (l .inv .1),
+      l .inv .2,
+      l .inv .3,
     )
 
 same-length : tie.Need-same-length Inv-loop μ-loop
@@ -74,12 +92,14 @@ follow-roots-spec =
     Inv-loop
     μ-loop
     loop-holds
-    mul-follow-root
-    shared-slice-read-follow-root
-    follow-root-requires
+    mul-w
+    shared-slice-read-w
     add-i
+    follow-requires
     loop-less
     loop-again
+    loop-less-2
+    loop-again-2
     same-length
     same-length-2
     returns)

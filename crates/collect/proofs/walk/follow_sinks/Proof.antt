@@ -1,13 +1,15 @@
 -- `follow_sinks` meets its contract. The loop's invariant: the sinks among 1 to x were followed.
 use denote.Ref.{now}
 use Prim.Native.Nat.{_-_, _≤_}
-use mathlib.Core.Path.{_≡_, refl, _∙_}
+use mathlib.Core.Path.{_≡_, refl, sym, ap, _∙_}
 use mathlib.Core.List.{[], _∷_}
 use lib.ListN.{length}
+use Rattle.records.specs.Record.{isSink}
 use Rattle.graph.specs.Numbers.{gather}
 use Rattle.rules.specs.View.{view}
 use Rattle.collect.specs.State.{Followed}
-use Rattle.collect.proofs.TraceLaws.{sinks-begin, sinks-on, followed-at}
+use Rattle.collect.proofs.TraceLaws.{sinks-begin, sink-followed, sink-passed, followed-at}
+use borrow.Author.Needs.{needs}
 use native.Mathlib.Omega.{arith}
 use Rattle.collect.proofs.walk.follow_sinks.Statement.{statement}
 use Rattle.collect.proofs.walk.follow_sinks.Tie as tie
@@ -27,9 +29,15 @@ loop-holds c =
 add-x : tie.Need-add-x Inv-loop μ-loop
 add-x c = omega arith
 
-follow-sink-requires : tie.Need-follow-sink-requires Inv-loop μ-loop
-follow-sink-requires c κs =
-    let l = c .before .before .before .loop in
+record-of-requires : tie.Need-record-of-requires Inv-loop μ-loop
+record-of-requires c κs = search needs
+
+is-sink-requires : tie.Need-is-sink-requires Inv-loop μ-loop
+is-sink-requires c κs = search needs
+
+follow-requires : tie.Need-follow-requires Inv-loop μ-loop
+follow-requires c κs =
+    let l = c .before .before .before .before .before .before .before .loop in
     (l .inv .1 .ready, (omega arith, omega arith))
 
 loop-less : tie.Need-loop-less Inv-loop μ-loop
@@ -37,16 +45,34 @@ loop-less c = omega arith
 
 loop-again : tie.Need-loop-again Inv-loop μ-loop
 loop-again c =
-    let the-l = c .before .before .before .before .before .before .before .before .loop in
-    let follow-sink-call = c .before .before .before .before .follow-sink in
-    let s = c .before .before .before .before .before .before .before .before .before .before .before .before in
-    let test = c .before .before .before .before .before .before .before .loop-test in
-    let l = the-l in
-    let k = follow-sink-call .kept in (
+    let follow-call = c .before .before .before .before .follow in
+    let e = sym (c .before .before .before .before .before .before .before .before .is-sink .ensures ∙ ap isSink (c .before .before .before .before .before .before .before .before .before .record-of .ensures)) ∙ c .before .before .before .before .before .before .before .if1 .taken in
+    let test = c .before .before .before .before .before .before .before .before .before .before .before .loop-test in
+    let l = c .before .before .before .before .before .before .before .before .before .before .before .before .loop in
+    let s = c .before .before .before .before .before .before .before .before .before .before .before .before .before .before .before .before in
+    let a = s .args in
+    let k = follow-call .kept in (
       omega arith,
-      sinks-on _ _ _ _ (s .pre .state .sized .room .recs-long) _ (test .taken) _ _ _ _ (l .inv .1) (follow-sink-call .ensures),
+      sink-followed (a .by) (a .n) (now (a .slots)) (now (a .records)) (s .pre .state .sized .room .recs-long) (l .x) (test .taken) (l .records) (l .work) (l .inv .1)
+          e _ _ (follow-call .ensures),
       k .1 .1 .0 ∙ l .inv .2,
       k .1 .1 .1 .1 .0 ∙ l .inv .3,
+    )
+
+loop-less-2 : tie.Need-loop-less-2 Inv-loop μ-loop
+loop-less-2 c = omega arith
+
+loop-again-2 : tie.Need-loop-again-2 Inv-loop μ-loop
+loop-again-2 c =
+    let e = sym (c .before .is-sink .ensures ∙ ap isSink (c .before .before .record-of .ensures)) ∙ c .if1 .left in
+    let test = c .before .before .before .before .loop-test in
+    let l = c .before .before .before .before .before .loop in
+    let s = c .before .before .before .before .before .before .before .before .before in
+    let a = s .args in (
+      omega arith,
+      sink-passed (a .by) (a .n) (now (a .slots)) (now (a .records)) (s .pre .state .sized .room .recs-long) (l .x) (test .taken) (l .records) (l .work) (l .inv .1) e,
+      l .inv .2,
+      l .inv .3,
     )
 
 same-length : tie.Need-same-length Inv-loop μ-loop
@@ -69,9 +95,13 @@ follow-sinks-spec =
     μ-loop
     loop-holds
     add-x
-    follow-sink-requires
+    record-of-requires
+    is-sink-requires
+    follow-requires
     loop-less
     loop-again
+    loop-less-2
+    loop-again-2
     same-length
     same-length-2
     returns)
