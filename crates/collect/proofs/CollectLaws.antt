@@ -1,16 +1,18 @@
 -- The marks after the walk tell what the definition's walk tells, and the whole collection is the definition's.
 -- Assumes nothing.
-use Prim.Native.Nat.{ℕ, _-_, _≤_}
+use Prim.Native.Nat.{ℕ, _≤_}
 use mathlib.Core.Path.{_≡_, refl, sym, ap, _∙_}
 use mathlib.Core.Logic.{_≢_}
-use mathlib.Core.Bool.{Bool, true, false, not, cond, _&&_, _||_, true≢false}
-use mathlib.Core.List.{List}
+use mathlib.Core.Bool.{Bool, true, false, not, cond, _&&_, _||_, true≢false, or-assoc}
+use mathlib.Core.List.{List, [], _∷_}
 use native.Mathlib.Omega.{arith}
-use lib.Dec.{eqb}
+use lib.Dec.{eqb, ltb}
 use lib.ListN.{length}
-use borrow.Rule.Slice.PartMut.{midOf, putMid}
+use borrow.Author.Tests.{ltb-false, ne-eqb}
 use Rattle.layout.specs.declared.answers.Control.{Control}
 use Rattle.layout.specs.Limits.{slotsLen, workLen, mapLen}
+use Rattle.layout.specs.ControlRecord.{badControl}
+use Rattle.layout.proofs.BoolLaws.{or-split}
 use Rattle.records.specs.Record.{isMarked, isReached, cluster}
 use Rattle.layout.specs.Refusal.{first}
 use Rattle.layout.proofs.RefusalLaws.{outcome-zero, outcome-number}
@@ -18,25 +20,36 @@ use Rattle.graph.specs.Numbers.{Obj}
 use Rattle.graph.specs.Heap.{Heap}
 use Rattle.graph.specs.Trace.{marked, reached, Flags, traced, keeps, unclustered}
 use Rattle.graph.proofs.TraceKeep.{keeps-plain, traced-finished}
-use Rattle.rules.specs.Buffers.{recOf, zeros}
+use Rattle.rules.specs.Buffers.{short, recOf, zeros}
+use Rattle.rules.specs.WellFormed.{wellFormed}
 use Rattle.graph.proofs.TraceCorrect.{same-test}
 use Rattle.rules.specs.View.{view, startsIn}
 use Rattle.rules.specs.Collect as Collect
-use Rattle.rules.specs.Collect.{Outcome, gives, collectTests, afterWalk}
+use Rattle.rules.specs.Collect.{gives, collectTests}
 use Rattle.rules.proofs.WellFormedLaws.{Sane}
 use Rattle.rules.proofs.SaneLaws.{sane-low}
 use Rattle.rules.proofs.ViewLaws.{view-ranged}
-use Rattle.table.specs.Room.{Accepted}
-use Rattle.table.proofs.ClearedLaws.{zeros-lent}
+use Rattle.table.specs.Room.{Accepted, heapShort}
+use Rattle.wellformed.specs.Check.{heapTests}
+use Rattle.wellformed.proofs.CheckLaws.{accepted-sane}
+use Rattle.wellformed.proofs.CheckLaws as Check
 use Rattle.sweep.specs.Sweep.{unflagged, markedAt, markedCount, membersMarked, AfterSweep, Marked}
 use Rattle.sweep.proofs.MarkLaws.{unflagged-members, members-marked}
 use Rattle.sweep.proofs.SweptLaws.{sweep-ruled, kept-ruled}
-use Rattle.collect.specs.Marks.{flagsOf}
-use Rattle.collect.specs.State.{Traceable, Walked}
-use Rattle.collect.specs.Call.{kindOf, walked, Kept}
-use Rattle.collect.proofs.MarkLaws.{length-same, cluster-same}
+use Rattle.walk.specs.Marks.{flagsOf}
+use Rattle.walk.specs.State.{Traceable, Walked}
+use Rattle.walk.specs.Walk.{walkTests, AfterWalk}
+use Rattle.walk.proofs.AcceptLaws.{trace-able}
+use Rattle.collect.specs.Call.{kindOf, walked}
+use Rattle.walk.proofs.MarkLaws.{length-same, cluster-same}
 
 -- ---- the marks
+
+-- the marks of recs′ tell what it keeps, and k is how many objects it scanned; without clusters these are the marked
+pub record Kept (by : Bool) (n : ℕ) (from recs slots recs′ : List ℕ) (k : ℕ) : Type 0 where
+  pub marks : Marked n recs recs′ (walked by n from recs slots .kept) (walked by n from recs slots .heads)
+  pub scanned : k ≡ walked by n from recs slots .scanned
+  pub marked : by ≡ false → k ≡ markedCount n recs′
 
 module _ (n r : ℕ) (from recs slots roots work : List ℕ) (a : Traceable n from recs slots work) (s : Sane n r recs slots roots) (recs′ : List ℕ) where
   abbrev H : Heap
@@ -105,32 +118,52 @@ module _ (by : Bool) (c : Control) (recs slots roots work map : List ℕ) where
   abbrev from : List ℕ
   from = startsIn n (c .r) recs slots roots
 
-  abbrev ruled : Outcome
-  ruled = afterWalk c recs slots work map (walked by n from recs slots)
+  -- the tests are those of the walk, with the map besides
+  tests-are : (m : ℕ) → m ≡ mapLen n → first (collectTests c recs slots roots work map) ≡ first (walkTests c recs slots roots work (ltb (length map) m))
+  unfolding collectTests heapTests heapShort short
+  tests-are m e =
+      rw e
+      (ap (λ (b : Bool). first ((20, badControl c) ∷ (2, b) ∷ (21, not (wellFormed c recs slots roots)) ∷ []))
+      (or-assoc (heapShort n (c .r) recs slots roots) (short (workLen n) work) (short (mapLen n) map)))
 
-  pub collected : Accepted c recs slots roots work → mapLen n ≤ length map → (recs₁ : List ℕ) (scanned : ℕ) → Kept by n from recs slots recs₁ scanned
-      → length recs₁ ≡ length recs → (kept : ℕ) → kept ≡ cond by (markedCount n recs₁) scanned → (recs₂ slots₂ map₂ : List ℕ) (freed : ℕ)
-      → AfterSweep n recs₁ slots map recs₂ slots₂ map₂ freed → (k : ℕ) → k ≡ workLen n → (ys work₂ : List ℕ) → length ys ≡ length (midOf 0 (k - 0) work)
-      → work₂ ≡ zeros k (putMid 0 (k - 0) work ys)
-      → gives (record { refusal = 0; freed = freed; kept = kept; scanned = scanned; control = c }) recs₂ slots₂ work₂ map₂ ≡ ruled
-  unfolding workLen slotsLen
-  collected a map-long recs₁ scanned t len kept ke recs₂ slots₂ map₂ freed sw k ki ys work₂ yl we =
-      let long : n ≤ length recs₁ = omega (arith, a .room .recs-long) in
-      let f = sweep-ruled n recs recs₁ slots map _ _ (t .marks) (a .room .most) long (a .room .slots-long) map-long recs₂ slots₂ map₂ freed sw in
-      let q = ke ∙ either by (t .marked) ∙ kept-ruled n recs recs₁ slots map _ _ (t .marks) in
-      let w : work₂ ≡ zeros (workLen n) work = zeros-lent k (workLen n) work ys work₂ ki (omega (arith, a .work-long)) yl we in
-      rw (f .0, f .1, f .2, f .3, q, w, t .scanned) refl
-    where
-      either : (b : Bool) → (b ≡ false → scanned ≡ markedCount n recs₁) → cond b (markedCount n recs₁) scanned ≡ markedCount n recs₁
-      either true g = refl
-      either false g = g refl
+  module _ (m : ℕ) (em : m ≡ mapLen n) (k : ℕ) (recs₁ work₁ : List ℕ) (w : AfterWalk by c recs slots roots work (ltb (length map) m) k recs₁ work₁) where
+    answers : k ≡ first (collectTests c recs slots roots work map)
+    answers = w .refusal ∙ sym (tests-are m em)
 
-  pub collect-accepted : (k : ℕ) → k ≡ first (collectTests c recs slots roots work map) → k ≡ 0 → (o : Outcome) → o ≡ ruled
-      → o ≡ Collect.collect (kindOf by) c recs slots roots work map
-  unfolding Collect.collect collectTests
-  collect-accepted k e z o q = q ∙ sym (outcome-zero _ _ _ (sym e ∙ z))
+    pub refused : k ≢ 0
+        → gives (record { refusal = k; freed = 0; kept = 0; scanned = 0; control = c }) recs₁ slots work₁ map ≡ Collect.collect (kindOf by) c recs slots roots work map
+    unfolding Collect.collect collectTests
+    refused d =
+        let z = ne-eqb k 0 d in
+        let a : recs₁ ≡ recs = rw z at (w .records) in
+        let b : work₁ ≡ work = rw z at (w .words) in
+        rw (a, b) (sym (outcome-number _ _ _ k (sym answers) d))
 
-  pub collect-refused : (k : ℕ) → k ≡ first (collectTests c recs slots roots work map) → k ≢ 0
-      → gives (record { refusal = k; freed = 0; kept = 0; scanned = 0; control = c }) recs slots work map ≡ Collect.collect (kindOf by) c recs slots roots work map
-  unfolding Collect.collect collectTests
-  collect-refused k e d = sym (outcome-number _ _ _ k (sym e) d)
+    module _ (z : k ≡ 0) where
+      -- no test holds
+      fit : Accepted c recs slots roots work × (m ≤ length map)
+      unfolding short
+      fit =
+          let r = or-split (ltb (length work) (workLen n)) (ltb (length map) m) in
+          let p = Check.accepted c recs slots roots _ (sym (w .refusal) ∙ z) work (λ f. ltb-false _ _ (r f .0)) in
+          (p .0, ltb-false _ _ (r (p .1) .1))
+
+      pub collected : (scanned : ℕ) → scanned ≡ markedCount n recs₁ → (recs₂ : List ℕ) → recs₂ ≡ cond by (membersMarked n recs₁) recs₁ → length recs₂ ≡ length recs₁
+          → (kept : ℕ) → kept ≡ cond by (markedCount n recs₂) scanned → (recs₃ slots₃ map₃ : List ℕ) (freed : ℕ) → AfterSweep n recs₂ slots map recs₃ slots₃ map₃ freed
+          → gives (record { refusal = 0; freed = freed; kept = kept; scanned = scanned; control = c }) recs₃ slots₃ work₁ map₃
+          ≡ Collect.collect (kindOf by) c recs slots roots work map
+      unfolding Collect.collect collectTests slotsLen
+      collected scanned es recs₂ e₂ l₂ kept ek recs₃ slots₃ map₃ freed sw =
+          let a = fit .0 in
+          let d = w .walked z in
+          let t = kept-marks n (c .r) from recs slots roots work (trace-able c recs slots roots work a) (accepted-sane c recs slots roots work a) recs₁ by d recs₂ e₂ scanned es in
+          let u : unflagged n recs₁ ≡ unflagged n recs = d .kept ∙ sym (trace-able c recs slots roots work a .clear) in
+          let long : n ≤ length recs₂ = omega (arith, l₂, length-same n recs recs₁ u, a .room .recs-long) in
+          let f = sweep-ruled n recs recs₂ slots map _ _ (t .marks) (a .room .most) long (a .room .slots-long) (omega (arith, em, fit .1)) recs₃ slots₃ map₃ freed sw in
+          let q = ek ∙ either by (t .marked) ∙ kept-ruled n recs recs₂ slots map _ _ (t .marks) in
+          let y : work₁ ≡ zeros (workLen n) work = rw z at (w .words) in
+          rw (f .0, f .1, f .2, f .3, q, y, t .scanned) (sym (outcome-zero _ _ _ (sym answers ∙ z)))
+        where
+          either : (b : Bool) → (b ≡ false → scanned ≡ markedCount n recs₂) → cond b (markedCount n recs₂) scanned ≡ markedCount n recs₂
+          either true g = refl
+          either false g = g refl

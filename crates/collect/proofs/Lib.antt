@@ -1,12 +1,2 @@
--- ---- the flags in the records
-pub mod MarkLaws
--- ---- the moves of the walk
-pub mod PendingLaws
-pub mod MoveLaws
-pub mod VisitLaws
--- ---- from the starts to the end
-pub mod EndLaws
-pub mod TraceLaws
--- ---- the calls
-pub mod AcceptLaws
+-- ---- the call
 pub mod CollectLaws

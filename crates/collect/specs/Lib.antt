@@ -1,4 +1,2 @@
--- The walk of a collection in the lent words.
-pub mod Marks
-pub mod State
+-- What the functions of a collection are held to.
 pub mod Call

@@ -1,12 +1,15 @@
--- `collect` meets its contract.
-use Rattle.collect.proofs.AcceptLaws.{accepted}
-use Rattle.collect.proofs.CollectLaws.{collect-refused, collect-accepted}
+-- `collect::collect` walks, counts, marks the reached clusters and sweeps. Assumes nothing.
+use denote.Ref.{now}
+use Rattle.collect.proofs.CollectLaws.{refused, collected}
 use borrow.Author.Needs.{needs}
 use Rattle.collect.proofs.collect.Statement.{statement}
 use Rattle.collect.proofs.collect.Tie as tie
 
-refusal-of-requires : tie.Need-refusal-of-requires
-refusal-of-requires c κs = search needs
+map-len-requires : tie.Need-map-len-requires
+map-len-requires c κs = search needs
+
+walk-requires : tie.Need-walk-requires
+walk-requires c κs = search needs
 
 same-length : tie.Need-same-length
 same-length c = search needs
@@ -17,19 +20,27 @@ same-length-2 c = search needs
 same-length-3 : tie.Need-same-length-3
 same-length-3 c = search needs
 
-same-length-4 : tie.Need-same-length-4
-same-length-4 c = search needs
-
 returns : tie.Need-returns
 returns c =
-    let s = c .before .before .before .before .before .before .before .before .before .before .before in
-    collect-refused (s .args .by) _ _ _ _ _ _ _ (c .before .refusal-of .ensures) (c .if1 .taken)
+    let w = c .before .before .before .before .before in
+    let m = w .before .before .before .before in
+    let s = m .before .before .before .before .before .before in
+    refused (s .args .by) _ _ _ _ _ (now (s .args .map)) _ (m .map-len .ensures) _ _ _ (w .walk .ensures) (c .if1 .taken)
 
-collect-accepted-requires : tie.Need-collect-accepted-requires
-collect-accepted-requires c κs =
-    let if1 = c .before .before .before .before .if1 in
-    let refusal-of-call = c .before .before .before .before .before .refusal-of in
-    accepted _ _ _ _ _ _ _ (refusal-of-call .ensures) (if1 .left)
+count-marked-requires : tie.Need-count-marked-requires
+count-marked-requires c κs = search needs
+
+mark-reached-requires : tie.Need-mark-reached-requires
+mark-reached-requires c κs = search needs
+
+count-kept-requires : tie.Need-count-kept-requires
+count-kept-requires c κs = search needs
+
+sweep-requires : tie.Need-sweep-requires
+sweep-requires c κs = search needs
+
+same-length-4 : tie.Need-same-length-4
+same-length-4 c = search needs
 
 same-length-5 : tie.Need-same-length-5
 same-length-5 c = search needs
@@ -40,31 +51,34 @@ same-length-6 c = search needs
 same-length-7 : tie.Need-same-length-7
 same-length-7 c = search needs
 
-same-length-8 : tie.Need-same-length-8
-same-length-8 c = search needs
-
 returns-2 : tie.Need-returns-2
 returns-2 c =
-    let t = c .before .before .before .before .before .before .before .before .before .before .before .before .before in
-    let s = t .before .before .before .before .before .before .before .before .before .before .before in
-    let if1 = t .if1 in
-    let refusal-of-call = t .before .refusal-of in
-    let collect-accepted-call = c .before .before .before .before .before .before .before .before .collect-accepted in
-    collect-accepted (s .args .by) _ _ _ _ _ _ _ (refusal-of-call .ensures) (if1 .left) _ (collect-accepted-call .ensures)
+    let k = c .before .before .before .before .before .before .before .before .before .before in
+    let r = k .before .before .before .before in
+    let t = r .before .before in
+    let i = t .before .before in
+    let w = i .before .before .before .before .before in
+    let m = w .before .before .before .before in
+    let s = m .before .before .before .before .before .before in
+    collected (s .args .by) _ _ _ _ _ (now (s .args .map)) _ (m .map-len .ensures) _ _ _ (w .walk .ensures) (i .if1 .left)
+    _ (t .count-marked .ensures) _ (r .mark-reached .ensures) (r .mark-reached .kept .1 .1 .0) _ (k .count-kept .ensures) _ _ _ _ (c .before .before .before .before .before .before .sweep .ensures)
 
 pub collect-spec : {M : Type 1} → statement M
 collect-spec =
     tie.close
     (tie.spec
-    refusal-of-requires
+    map-len-requires
+    walk-requires
     same-length
     same-length-2
     same-length-3
-    same-length-4
     returns
-    collect-accepted-requires
+    count-marked-requires
+    mark-reached-requires
+    count-kept-requires
+    sweep-requires
+    same-length-4
     same-length-5
     same-length-6
     same-length-7
-    same-length-8
     returns-2)

@@ -1,0 +1,11 @@
+-- ---- the flags in the records
+pub mod MarkLaws
+-- ---- the moves of the walk
+pub mod PendingLaws
+pub mod MoveLaws
+pub mod VisitLaws
+-- ---- from the starts to the end
+pub mod EndLaws
+pub mod TraceLaws
+-- ---- the walk with its tests
+pub mod AcceptLaws
