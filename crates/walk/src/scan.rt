@@ -8,10 +8,11 @@ ghost use Rattle.graph.specs.Trace as T;
 ghost use Rattle.rules.specs.View.{view};
 ghost use Rattle.walk.specs.Marks.{flagsOf};
 ghost use Rattle.walk.specs.State.{pointersIn, linkAt, Pushable, Pushed, State, Ready, Moved};
-use crate::marks::mark;
+use crate::marks::put_bit;
 use layout::limits::within;
 use links::next_member;
 use links::top_member;
+use records::MARKED;
 use records::is_marked;
 use records::width_of;
 use table::clusters::record_of;
@@ -58,7 +59,7 @@ pub(crate) fn scan(
         (now (records .exit)) (now (work .exit)) r ⌝ }
 {
     let k = width_of(record_of(n, x, records)) as usize;
-    mark(records, x);
+    put_bit(records, x, MARKED, true);
     push_pointers(n, slots, work, 8 * (x as usize - 1), k, top)
 }
 

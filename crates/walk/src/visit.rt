@@ -11,12 +11,13 @@ ghost use Rattle.rules.specs.Buffers.{recOf};
 ghost use Rattle.rules.specs.View.{view};
 ghost use Rattle.walk.specs.Marks.{flagsOf};
 ghost use Rattle.walk.specs.State.{walkedHeap, State, Ready, Moved, MemberVisited};
-use crate::marks::postpone;
-use crate::marks::reach;
+use crate::marks::put_bit;
 use crate::scan::scan;
 use crate::scan::scan_outs;
 use crate::scan::scan_unmarked;
 use postponed::put;
+use records::POSTPONED;
+use records::REACHED;
 use records::cluster_of;
 use records::is_marked;
 use records::is_reached;
@@ -63,7 +64,7 @@ fn visit_head(
     if is_reached(record_of(n, h, records)) {
         return top;
     }
-    reach(records, h);
+    put_bit(records, h, REACHED, true);
     scan_outs(n, records, slots, work, top, h)
 }
 
@@ -75,7 +76,7 @@ fn visit_member(n: u32, records: &mut [u32], work: &mut [u32], x: u32)
     if is_settled(true, n, x, records) {
         return;
     }
-    postpone(records, x, true);
+    put_bit(records, x, POSTPONED, true);
     put(n, work, x, true);
 }
 
@@ -158,7 +159,7 @@ pub(crate) fn take_up(
         (now (records .exit)) (now (work .exit)) r ⌝ }
 {
     let settled = is_settled(by, n, x, records);
-    postpone(records, x, false);
+    put_bit(records, x, POSTPONED, false);
     put(n, work, x, false);
     let end = 8 * (n as usize);
     if settled {

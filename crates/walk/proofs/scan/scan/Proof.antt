@@ -15,8 +15,8 @@ width-of-requires c κs = search needs
 cast-k : tie.Need-cast-k
 cast-k c = search needs
 
-mark-requires : tie.Need-mark-requires
-mark-requires c κs = search needs
+put-bit-requires : tie.Need-put-bit-requires
+put-bit-requires c κs = search needs
 
 sub-push-pointers : tie.Need-sub-push-pointers
 sub-push-pointers c = search needs
@@ -42,10 +42,10 @@ returns c =
     let s = c .before .before .before .before .before .before .before .before .before .before .before .before .before .before in
     let width-of-call = c .before .before .before .before .before .before .before .before .width-of in
     let record-of-call = c .before .before .before .before .before .before .before .before .before .record-of in
-    let mark-call = c .before .before .before .before .before .before .mark in
+    let put-bit-call = c .before .before .before .before .before .before .put-bit in
     let push-pointers-call = c .before .before .push-pointers in
     scan-moved _ _ _ _ _ (s .pre .0) _ (s .pre .1 .0) (s .pre .1 .1) _ (width-of-call .ensures ∙ ap width (record-of-call .ensures)) _ _ _
-    (mark-call .ensures) (push-pointers-call .ensures) (push-pointers-call .kept .1 .1 .0)
+    (put-bit-call .ensures) (push-pointers-call .ensures) (push-pointers-call .kept .1 .1 .0)
 
 pub scan-spec : {M : Type 1} → statement M
 scan-spec =
@@ -54,7 +54,7 @@ scan-spec =
     record-of-requires
     width-of-requires
     cast-k
-    mark-requires
+    put-bit-requires
     sub-push-pointers
     mul-push-pointers
     push-pointers-requires

@@ -7,8 +7,8 @@ use Rattle.walk.proofs.visit.take_up.Tie as tie
 is-settled-requires : tie.Need-is-settled-requires
 is-settled-requires c κs = search needs
 
-postpone-requires : tie.Need-postpone-requires
-postpone-requires c κs = search needs
+put-bit-requires : tie.Need-put-bit-requires
+put-bit-requires c κs = search needs
 
 put-requires : tie.Need-put-requires
 put-requires c κs = search needs
@@ -24,19 +24,19 @@ same-length-2 c = search needs
 
 returns : tie.Need-returns
 returns c =
-    let postpone-call = c .before .before .before .before .before .before .before .postpone in
+    let put-bit-call = c .before .before .before .before .before .before .before .put-bit in
     let s = c .before .before .before .before .before .before .before .before .before .before .before .before .before .before in
     let put-call = c .before .before .before .put in
     let is-settled-call = c .before .before .before .before .before .before .before .before .before .is-settled in
-    rw (postpone-call .ensures) (take-dropped (s .args .by) _ _ _ _ _ (s .pre .0) _ (s .pre .1) _ (put-call .ensures) (put-call .kept .1 .0) _ (is-settled-call .ensures) (c .if1 .taken))
+    rw (put-bit-call .ensures) (take-dropped (s .args .by) _ _ _ _ _ (s .pre .0) _ (s .pre .1) _ (put-call .ensures) (put-call .kept .1 .0) _ (is-settled-call .ensures) (c .if1 .taken))
 
 scan-requires : tie.Need-scan-requires
 scan-requires c κs =
-    let postpone-call = c .before .before .before .before .before .before .before .before .before .postpone in
+    let put-bit-call = c .before .before .before .before .before .before .before .before .before .put-bit in
     let put-call = c .before .before .before .before .before .put in
     let s = c .before .before .before .before .before .before .before .before .before .before .before .before .before .before .before .before in
     let is-settled-call = c .before .before .before .before .before .before .before .before .before .before .before .is-settled in
-    let u = postpone-call .ensures in
+    let u = put-bit-call .ensures in
     let m = put-call in (
       rw u (state-taken (s .args .by) _ _ _ _ _ (s .pre .0) _ (s .pre .1) _ (m .ensures) (m .kept .1 .0)),
       (s .pre .1, rw u (still-unmarked (s .args .by) _ _ _ _ _ (s .pre .0) _ (s .pre .1) _ (m .ensures) (m .kept .1 .0) _ (is-settled-call .ensures) (c .before .before .if1 .left))),
@@ -56,17 +56,17 @@ returns-2 c =
     let put-call = t .before .before .before .put in
     let is-settled-call = u .before .before .is-settled in
     let if1 = t .if1 in
-    let postpone-call = u .postpone in
+    let put-bit-call = u .put-bit in
     let scan-call = c .before .before .before .before .scan in
     take-scanned (s .args .by) _ _ _ _ _ (s .pre .0) _ (s .pre .1) _ (put-call .ensures) (put-call .kept .1 .0) _ (is-settled-call .ensures) (if1 .left) _ _ _
-    (rw (postpone-call .ensures) at (scan-call .ensures))
+    (rw (put-bit-call .ensures) at (scan-call .ensures))
 
 pub take-up-spec : {M : Type 1} → statement M
 take-up-spec =
     tie.close
     (tie.spec
     is-settled-requires
-    postpone-requires
+    put-bit-requires
     put-requires
     mul-end
     same-length

@@ -22,14 +22,14 @@ returns c =
     let s = c .before .before .before .before .before .before .before in
     head-passed _ _ _ _ _ (s .pre .0 .state) _ (s .pre .1) (sym (c .before .is-reached .ensures ∙ ap isReached (c .before .before .record-of .ensures)) ∙ c .if1 .taken)
 
-reach-requires : tie.Need-reach-requires
-reach-requires c κs = search needs
+put-bit-requires : tie.Need-put-bit-requires
+put-bit-requires c κs = search needs
 
 scan-outs-requires : tie.Need-scan-outs-requires
 scan-outs-requires c κs =
-    let reach-call = c .before .before .before .before .reach in
+    let put-bit-call = c .before .before .before .before .put-bit in
     let s = c .before .before .before .before .before .before .before .before .before .before .before .before .before in
-    (rw (reach-call .ensures) (ready-reach _ _ _ _ _ (s .pre .0 .state) _ (s .pre .1) (s .pre .0 .linked)), s .pre .1)
+    (rw (put-bit-call .ensures) (ready-reach _ _ _ _ _ (s .pre .0 .state) _ (s .pre .1) (s .pre .0 .linked)), s .pre .1)
 
 same-length-2 : tie.Need-same-length-2
 same-length-2 c = search needs
@@ -45,10 +45,10 @@ returns-2 c =
     let is-reached-call = t .before .before .before .is-reached in
     let record-of-call = t .before .before .before .before .record-of in
     let if1 = t .before .before .if1 in
-    let reach-call = t .reach in
+    let put-bit-call = t .put-bit in
     let scan-outs-call = c .before .before .before .before .scan-outs in
     head-reached _ _ _ _ _ (s .pre .0 .state) _ (s .pre .1) (sym (is-reached-call .ensures ∙ ap isReached (record-of-call .ensures)) ∙ if1 .left) _ _ _
-    (rw (reach-call .ensures) at (scan-outs-call .ensures))
+    (rw (put-bit-call .ensures) at (scan-outs-call .ensures))
 
 pub visit-head-spec : {M : Type 1} → statement M
 visit-head-spec =
@@ -58,7 +58,7 @@ visit-head-spec =
     is-reached-requires
     same-length
     returns
-    reach-requires
+    put-bit-requires
     scan-outs-requires
     same-length-2
     same-length-3

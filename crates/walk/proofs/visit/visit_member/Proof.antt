@@ -15,8 +15,8 @@ returns c =
     let s = c .before .before .before .before .before in
     record { moved = λ slots top t. member-settled _ _ _ _ _ t _ (s .pre .1) _ (c .before .is-settled .ensures) (c .if1 .taken) }
 
-postpone-requires : tie.Need-postpone-requires
-postpone-requires c κs = search needs
+put-bit-requires : tie.Need-put-bit-requires
+put-bit-requires c κs = search needs
 
 put-requires : tie.Need-put-requires
 put-requires c κs = search needs
@@ -30,11 +30,11 @@ same-length-3 c = search needs
 returns-2 : tie.Need-returns-2
 returns-2 c =
     let put-call = c .before .before .put in
-    let postpone-call = c .before .before .before .before .before .before .postpone in
+    let put-bit-call = c .before .before .before .before .before .before .put-bit in
     let if1 = c .before .before .before .before .before .before .before .before .if1 in
     let is-settled-call = c .before .before .before .before .before .before .before .before .before .is-settled in
     let s = c .before .before .before .before .before .before .before .before .before .before .before .before .before in
-    rw (postpone-call .ensures)
+    rw (put-bit-call .ensures)
     (record { moved = λ slots top t. member-later _ _ _ _ _ t _ (s .pre .1) _ (is-settled-call .ensures) (if1 .left) _ (put-call .ensures) (put-call .kept .1 .0) })
 
 pub visit-member-spec : {M : Type 1} → statement M
@@ -44,7 +44,7 @@ visit-member-spec =
     is-settled-requires
     same-length
     returns
-    postpone-requires
+    put-bit-requires
     put-requires
     same-length-2
     same-length-3
