@@ -2,7 +2,7 @@
 -- Assumes nothing.
 use Prim.Native.Nat.{ℕ, suc, _+_, _*_, _/_, _%_, _≤_, _<_}
 use mathlib.Core.Path.{_≡_, refl, sym, ap, ap₂, _∙_}
-use mathlib.Core.Bool.{Bool, true, false, cond, not}
+use mathlib.Core.Bool.{Bool, true, false, cond, not, _&&_}
 use mathlib.Core.List.{List}
 use mathlib.Core.Logic.{_≢_}
 use native.Mathlib.Omega.{arith}
@@ -12,7 +12,7 @@ use Rattle.graph.specs.Numbers.{bit, sum, count}
 use Rattle.graph.proofs.NumberLaws.{count-le}
 use Rattle.table.specs.Clusters.{clusterOf}
 use Rattle.choices.specs.Choices.{overBy, lossBy}
-use Rattle.analyse.specs.Memory.{area}
+use Rattle.analyse.specs.Memory.{area, sizeIn}
 use Rattle.analyse.specs.Judge.{lossAt, newHeadAt, newMemberAt}
 
 loss-le : (s p : ℕ) → lossBy s p ≤ s
@@ -24,38 +24,36 @@ loss-le s p = go (overBy s p)
     go false = omega arith
 
 module _ (n : ℕ) (recs work : List ℕ) (h d : ℕ) (old : d ≡ clusterOf n recs h) where
-  pub loss-old : d ≢ 0 → (0 ≡ lossAt n recs work h) × (0 ≤ 4095)
+  pub loss-old : d ≢ 0 → 0 ≡ lossAt n recs work h
   unfolding lossAt
-  loss-old p = (rw (← old, ne-eqb d 0 p) refl, omega arith)
+  loss-old p = rw (← old, ne-eqb d 0 p) refl
 
-  pub head-old : d ≢ 0 → false ≡ newHeadAt n recs work h
+  pub head-is : (w : ℕ) → w ≡ area n n work h → (eqb d 0 && eqb (w % 4096) h) ≡ newHeadAt n recs work h
   unfolding newHeadAt
-  head-old p = rw (← old, ne-eqb d 0 p) refl
+  head-is w e = rw (← old, ← e) refl
 
-  pub member-old : d ≢ 0 → false ≡ newMemberAt n recs work h
+  pub member-is : (w : ℕ) → w ≡ area n n work h → (eqb d 0 && not (eqb (w % 4096) 0)) ≡ newMemberAt n recs work h
   unfolding newMemberAt
-  member-old p = rw (← old, ne-eqb d 0 p) refl
+  member-is w e = rw (← old, ← e) refl
 
   module _ (z : d ≡ 0) (w : ℕ) where
-    pub head-new : w ≡ area n n work h → eqb (w % 4096) h ≡ newHeadAt n recs work h
-    unfolding newHeadAt
-    head-new e = rw (← old, z, ← e) refl
-
-    pub member-new : w ≡ area n n work h → not (eqb (w % 4096) 0) ≡ newMemberAt n recs work h
-    unfolding newMemberAt
-    member-new e = rw (← old, z, ← e) refl
-
-    pub loss-other : w ≡ area n (9 * n) work h → w % 4096 ≢ h → (0 ≡ lossAt n recs work h) × (0 ≤ 4095)
+    pub loss-other : w ≡ area n (9 * n) work h → w % 4096 ≢ h → 0 ≡ lossAt n recs work h
     unfolding lossAt
-    loss-other e p = (rw (← old, z, ← e, ne-eqb (w % 4096) h p) refl, omega arith)
+    loss-other e p = rw (← old, z, ← e, ne-eqb (w % 4096) h p) refl
 
-    pub loss-new : w ≡ area n (9 * n) work h → w % 4096 ≡ h → (s p : ℕ) → s ≡ area n (8 * n) work h → p ≡ area n 0 work h → s / 4096 ≤ 4095
-        → (m : ℕ) → m ≡ lossBy (s / 4096) p → (m ≡ lossAt n recs work h) × (m ≤ 4095)
+    pub loss-new : w ≡ area n (9 * n) work h → w % 4096 ≡ h → (s p : ℕ) → s ≡ area n (8 * n) work h → p ≡ area n 0 work h
+        → (m : ℕ) → m ≡ lossBy (s / 4096) p → m ≡ lossAt n recs work h
     unfolding lossAt lossBy
-    loss-new e own s p ss ps few m is = (is ∙ rw (← old, z, head-is, ← ss, ← ps) refl, omega (arith, is, loss-le (s / 4096) p, few))
+    loss-new e own s p ss ps m is = is ∙ rw (← old, z, head-own, ← ss, ← ps) refl
       where
-        head-is : eqb (area n (9 * n) work h % 4096) h ≡ true
-        head-is = rw (← e) (eq-eqb (w % 4096) h own)
+        head-own : eqb (area n (9 * n) work h % 4096) h ≡ true
+        head-own = rw (← e) (eq-eqb (w % 4096) h own)
+
+pub loss-few : (n : ℕ) (work : List ℕ) (h s : ℕ) → s ≡ area n (8 * n) work h → sizeIn (area n (8 * n) work) h ≤ 4095 → (p m : ℕ) → m ≡ lossBy (s / 4096) p → m ≤ 4095
+loss-few n work h s e few p m is =
+    let a = loss-le (s / 4096) p in
+    let b : s / 4096 ≤ 4095 = rw e few in
+    omega arith
 
 -- ---- sums up to k
 

@@ -8,15 +8,16 @@ use mathlib.Core.Logic.{_≢_, inl, inr}
 use native.Mathlib.Decide.{ℕ-discrete}
 use native.Mathlib.Omega.{arith}
 use lib.Dec.{eqb, ltb, leb}
+use lib.ListN.{length}
 use borrow.Author.Tests.{eqb-true, le-leb, lt-leb}
 use Rattle.records.specs.Record.{isSink}
-use Rattle.graph.specs.Numbers.{bit, sum, count}
+use Rattle.graph.specs.Numbers.{bit}
 use Rattle.graph.specs.Heap.{Heap}
 use Rattle.graph.specs.Clusters.{size, keep, outBit, outsOf}
 use Rattle.graph.specs.Analysis.{isNew, newHead, over, few, stays, outLossOf}
 use Rattle.graph.specs.Invariant.{Sizes}
 use Rattle.graph.proofs.NumberLaws.{sum-ext, count-ext}
-use Rattle.rules.specs.Buffers.{eachFrom, zeros}
+use Rattle.rules.specs.Buffers.{eachFrom}
 use Rattle.rules.specs.View.{view, encodedRecord}
 use Rattle.rules.specs.Analyse.{rule, least}
 use Rattle.rules.proofs.ListLaws.{each-same}
@@ -24,28 +25,13 @@ use Rattle.table.specs.Clusters.{clusterOf}
 use Rattle.analyse.specs.Memory.{area, clusterIn, sizeIn}
 use Rattle.analyse.specs.Filling.{Filling}
 use Rattle.choices.specs.Choices.{overBy, lasts, settled}
-use Rattle.analyse.specs.Judge.{walkClusters, Tallying, Judgeable, Judged, leftOf, staysBy, staysIn, leftWord, lossAt, newHeadAt, newMemberAt}
-use Rattle.analyse.proofs.JudgeLaws.{judgeable-now, tally-start, judging-now}
-use Rattle.analyse.proofs.PartLaws.{zeros-filled}
+use Rattle.analyse.specs.Judge.{walkClusters, Tallying, Judgeable, Settled, Judged, leftOf, staysBy, staysIn, leftWord, lossAt, newHeadAt, newMemberAt}
+use Rattle.analyse.proofs.JudgeLaws.{judgeable-now, judging-now}
 
--- ---- before the counting
+module _ (n : ℕ) (recs slots work₀ : List ℕ) (J : Judgeable n recs slots work₀) where
+  -- ---- after the counting
 
-module _ (n : ℕ) (recs slots work₀ work₁ : List ℕ) (J : Judgeable n recs slots work₀) (zeroed : work₁ ≡ zeros n work₀) where
-  C : Filling n 0 (λ x. 0) work₀ work₁ n
-  C = zeros-filled n work₀ work₁ (omega (arith, J .sized .work-long)) zeroed
-
-  states-one : area n (9 * n) work₁ ≡ area n (9 * n) work₀
-  states-one = C .others (9 * n) (inr (omega arith))
-
-  links-one : area n (8 * n) work₁ ≡ area n (8 * n) work₀
-  links-one = C .others (8 * n) (inr (omega arith))
-
-  pub tally-may : Judgeable n recs slots work₁ × Tallying n recs slots work₁ work₁ 0
-  tally-may = (judgeable-now n recs slots work₀ work₁ (C .long) links-one states-one J, tally-start n recs slots work₀ work₁ C)
-
-  -- ---- after it
-
-  module _ (work₂ : List ℕ) (T : Tallying n recs slots work₁ work₂ n) where
+  module _ (work₂ : List ℕ) (T : Tallying n recs slots work₀ work₂ n) where
     abbrev H : Heap
     H = view n recs slots
 
@@ -53,16 +39,16 @@ module _ (n : ℕ) (recs slots work₀ work₁ : List ℕ) (J : Judgeable n recs
     cl = walkClusters n work₀
 
     states-two : area n (9 * n) work₂ ≡ area n (9 * n) work₀
-    states-two = T .others (9 * n) (omega arith) ∙ states-one
+    states-two = T .others (9 * n) (omega arith)
 
     links-two : area n (8 * n) work₂ ≡ area n (8 * n) work₀
-    links-two = T .others (8 * n) (omega arith) ∙ links-one
+    links-two = T .others (8 * n) (omega arith)
 
     pub decide-may : Judgeable n recs slots work₂
-    decide-may = judgeable-now n recs slots work₀ work₂ (T .long ∙ C .long) links-two states-two J
+    decide-may = judgeable-now n recs slots work₀ work₂ (T .long) links-two states-two J
 
     outs-is : (c : ℕ) → 1 ≤ c → c ≤ n → area n 0 work₂ c ≡ outsOf n (H .kids) (H .sink) cl c
-    outs-is c p q = T .entry c p q ∙ ap (λ (g : ℕ → ℕ). outsOf n (H .kids) (H .sink) (clusterIn g) c) states-one
+    outs-is c p q = T .entry c p q
 
     size-is : (c : ℕ) → c ≢ 0 → clusterOf n recs c ≡ 0 → sizeIn (area n (8 * n) work₂) c ≡ size n cl c
     unfolding Sizes view
@@ -123,8 +109,10 @@ module _ (n : ℕ) (recs slots work₀ work₁ : List ℕ) (J : Judgeable n recs
     word-high v false h = lt-leb 4096 (v + 0) (omega arith)
 
     module _ (work₃ : List ℕ) (D : Filling n n (leftWord n recs slots work₂) work₂ work₃ n) where
-      pub count-may : Judgeable n recs slots work₃
-      count-may = judging-now n recs slots work₂ work₃ (leftWord n recs slots work₂) n D decide-may
+      pub settle-may : (n ≤ length recs) × (10 * n ≤ length work₃) × (n ≤ 4095) × ((x : ℕ) → sizeIn (area n (8 * n) work₃) x ≤ 4095)
+      settle-may =
+          let K = judging-now n recs slots work₂ work₃ (leftWord n recs slots work₂) n D decide-may in
+          (J .sized .room .recs-long, omega (arith, K .sized .work-long), J .sized .room .most, K .small)
 
       note-is : (x : ℕ) → 1 ≤ x → x ≤ n → area n n work₃ x ≡ lf x + 4096 * bit (ob x)
       note-is x p q = D .filled x p q ∙ left-is x
@@ -161,13 +149,11 @@ module _ (n : ℕ) (recs slots work₀ work₁ : List ℕ) (J : Judgeable n recs
               ∙ ap₂ (λ (b : Bool) (s : ℕ). cond (eqb (cl h) h && b) s 0) (over-is h p q z) (size-is h (λ y. absurd (omega arith)) z))
           go false e = rw e refl
 
-      pub judged : (recs′ : List ℕ) (loss clusters members : ℕ) → recs′ ≡ eachFrom 1 n (λ x r. settled (area n n work₃ x) r) recs
-          → (loss ≡ sum n (lossAt n recs work₃)) × (clusters ≡ count n (newHeadAt n recs work₃)) × (members ≡ count n (newMemberAt n recs work₃))
-          → Judged n recs slots cl recs′ loss clusters members
+      pub judged : (recs′ : List ℕ) (loss clusters members : ℕ) → Settled n recs work₃ recs′ loss clusters members → Judged n recs slots cl recs′ loss clusters members
       unfolding outLossOf view newHeadAt newMemberAt
-      judged recs′ loss clusters members e f = record {
-        records = records-are recs′ e;
-        loss-is = f .0 ∙ sum-ext n _ _ (λ h p q. loss-same h p q);
-        clusters-is = f .1 ∙ count-ext n _ _ (λ h b. ap (λ (v : ℕ). eqb (clusterOf n recs h) 0 && eqb v h) (note-low h (b .0) (b .1)));
-        members-is = f .2 ∙ count-ext n _ _ (λ x b. ap (λ (v : ℕ). eqb (clusterOf n recs x) 0 && not (eqb v 0)) (note-low x (b .0) (b .1)));
+      judged recs′ loss clusters members S = record {
+        records = records-are recs′ (S .records);
+        loss-is = S .loss-is ∙ sum-ext n _ _ (λ h p q. loss-same h p q);
+        clusters-is = S .clusters-is ∙ count-ext n _ _ (λ h b. ap (λ (v : ℕ). eqb (clusterOf n recs h) 0 && eqb v h) (note-low h (b .0) (b .1)));
+        members-is = S .members-is ∙ count-ext n _ _ (λ x b. ap (λ (v : ℕ). eqb (clusterOf n recs x) 0 && not (eqb v 0)) (note-low x (b .0) (b .1)));
       }

@@ -10,6 +10,7 @@ use native.Mathlib.Omega.{arith}
 use lib.Dec.{ltb}
 use lib.ListN.{length, take}
 use borrow.Author.Tests.{ltb-false}
+use borrow.Rule.Slice.PartMut.{midOf, putMid}
 use Rattle.layout.specs.declared.answers.Control.{Control}
 use Rattle.layout.specs.declared.answers.Analysed.{Analysed}
 use Rattle.layout.specs.Limits.{workLen}
@@ -37,28 +38,26 @@ use Rattle.table.specs.Room.{heapShort}
 use Rattle.wellformed.specs.Check.{heapTests}
 use Rattle.wellformed.proofs.CheckLaws.{accepted-sane, accepted-sized}
 use Rattle.wellformed.proofs.CheckLaws as Check
+use Rattle.table.proofs.ClearedLaws.{zeros-lent}
 use Rattle.analyse.specs.Judge.{walkClusters, Judgeable, Judged, leftOf}
 
 -- ---- the tests
 
 module _ (c : Control) (recs slots roots work : List ℕ) where
-  abbrev answer : ℕ
-  answer = first (analyseTests c recs slots roots work)
+  module _ (u : ℕ) (us : u ≡ workLen (c .n)) (k : ℕ) (ks : k ≡ first (heapTests c recs slots roots (ltb (length work) u))) where
+    -- they are those of the whole heap, with the work words besides
+    tests-are : first (analyseTests c recs slots roots work) ≡ k
+    unfolding analyseTests heapTests heapShort short
+    tests-are = rw (← us) (sym ks)
 
-  -- they are those of the whole heap, with the work words besides
-  pub tests-are : (u : ℕ) → u ≡ workLen (c .n) → answer ≡ first (heapTests c recs slots roots (ltb (length work) u))
-  unfolding analyseTests heapTests heapShort short
-  tests-are u e = rw e refl
+    pub refused : k ≢ 0 → gives (record { refusal = k; clusters = 0; members = 0; control = c }) recs work ≡ Rules.analyse c recs slots roots work
+    unfolding Rules.analyse
+    refused z = sym (outcome-number _ _ (analyseTests c recs slots roots work) k tests-are z)
 
-  pub refused : (k : ℕ) → k ≡ answer → k ≢ 0
-      → gives (record { refusal = k; clusters = 0; members = 0; control = c }) recs work ≡ Rules.analyse c recs slots roots work
-  unfolding Rules.analyse
-  refused k e z = sym (outcome-number _ _ (analyseTests c recs slots roots work) k (sym e) z)
+    -- ---- what no refusal says
 
-  -- ---- what no refusal says
-
-  pub accepted : answer ≡ 0 → Accepted c recs slots roots work
-  accepted e = Check.accepted c recs slots roots _ (sym (tests-are (workLen (c .n)) refl) ∙ e) work (λ f. ltb-false _ _ f) .0
+    pub accepted : k ≡ 0 → Accepted c recs slots roots work
+    accepted e = Check.accepted c recs slots roots _ (sym ks ∙ e) work (λ f. rw us at (ltb-false (length work) u f)) .0
 
   module _ (A : Accepted c recs slots roots work) where
     pub cap-fits : (k : ℕ) → k ≡ workLen (c .n) → k ≤ length work
@@ -112,16 +111,19 @@ encoded-is : (H : Heap) (n : ℕ) (cl : ℕ → ℕ) (o : ℕ → Bool) (recs : 
 unfolding eachRecord
 encoded-is H n cl o recs s = records-alike n _ _ recs (λ x p q. ap (λ (b : Bool). encodedRecord (cl x) (o x) b false (recOf n recs x)) (s x))
 
-pub outcome : (c : Control) (recs slots roots work : List ℕ) → first (analyseTests c recs slots roots work) ≡ 0
-    → (m : ℕ) → m ≡ nextLimit c (usedCount (c .n) recs) → (recs′ work′ : List ℕ) (loss clusters members : ℕ)
-    → Judged (c .n) recs slots (formedFrom (c .n) recs slots m (startsIn (c .n) (c .r) recs slots roots)) recs′ loss clusters members → work′ ≡ zeros (workLen (c .n)) work
-    → (d : Control) → d ≡ withAnalysis m loss c
+pub outcome : (c : Control) (recs slots roots work : List ℕ) (u : ℕ) → u ≡ workLen (c .n) → (k : ℕ) → k ≡ first (heapTests c recs slots roots (ltb (length work) u)) → k ≡ 0
+    → (m : ℕ) → m ≡ nextLimit c (usedCount (c .n) recs) → (recs′ part work′ : List ℕ) (loss clusters members : ℕ)
+    → Judged (c .n) recs slots (formedFrom (c .n) recs slots m (startsIn (c .n) (c .r) recs slots roots)) recs′ loss clusters members
+    → length part ≡ length (midOf 0 (u - 0) work) → work′ ≡ zeros u (putMid 0 (u - 0) work part) → (d : Control) → d ≡ withAnalysis m loss c
     → gives (record { refusal = 0; clusters = clusters; members = members; control = d }) recs′ work′
     ≡ Rules.analyse c recs slots roots work
 unfolding Rules.analyse analysed limitAfter Graph.analyse walked leftClusters encoded view eachRecord
-outcome c recs slots roots work z m e recs′ work′ loss clusters members J w d q =
-    go m (sym e) J q ∙ sym (outcome-zero _ _ (analyseTests c recs slots roots work) z)
+outcome c recs slots roots work u us k ks z m e recs′ part work′ loss clusters members J l y d q =
+    go m (sym e) J q ∙ sym (outcome-zero _ _ (analyseTests c recs slots roots work) (tests-are c recs slots roots work u us k ks ∙ z))
   where
+    w : work′ ≡ zeros (workLen (c .n)) work
+    w = zeros-lent u (workLen (c .n)) work part work′ us (cap-fits c recs slots roots work (accepted c recs slots roots work u us k ks z) u us) l y
+
     H : Heap
     H = view (c .n) recs slots
 

@@ -2,7 +2,7 @@
 -- Assumes nothing.
 use Prim.Native.Nat.{ℕ, zero, suc, _+_, _-_, _*_, _/_, _%_, _^_, _≤_, _<_}
 use mathlib.Core.Path.{_≡_, refl, sym, ap, ap₂, _∙_, fun-ext, subst}
-use mathlib.Core.Bool.{Bool, true, false, cond, not, _&&_}
+use mathlib.Core.Bool.{Bool, true, false, cond, not, _&&_, _||_}
 use mathlib.Core.List.{List, [], _∷_, map}
 use mathlib.Core.Logic.{_≢_, inl, inr}
 use native.Mathlib.Decide.{ℕ-discrete, decLe}
@@ -10,7 +10,7 @@ use native.Mathlib.Omega.{arith}
 use lib.Dec.{eqb, ltb}
 use lib.ListN.{length, getD, take, drop, set, length-set, length-drop, drop-of-length-le}
 use lib.Seq.{drop-cons, getD-take, getD-drop, length-take-le}
-use borrow.Author.Tests.{eq-eqb, ne-eqb, lt-ltb}
+use borrow.Author.Tests.{eq-eqb, ne-eqb, lt-ltb, not-true, not-false}
 use Rattle.records.specs.Record.{isSink, width}
 use Rattle.graph.specs.Numbers.{bit, sum, upd}
 use Rattle.graph.specs.Clusters.{keep, leaves, outCount, outBit, outsOf}
@@ -19,14 +19,13 @@ use Rattle.graph.proofs.NumberLaws.{bit-le, upd-same, upd-other}
 use Rattle.graph.proofs.OutLaws.{outBit-keep, outBit-none}
 use Rattle.rules.specs.Buffers.{recOf}
 use Rattle.rules.specs.View.{view, target}
-use Rattle.rules.proofs.ViewLaws.{target-low}
 use Rattle.table.specs.Clusters.{clusterOf}
 use Rattle.choices.specs.Choices.{lasts}
 use Rattle.analyse.specs.Memory.{area, clusterIn, sizeIn}
 use Rattle.table.specs.Room.{Sized}
 use Rattle.analyse.specs.Filling.{Filling}
 use Rattle.analyse.specs.Judge.{walkClusters, outsAt, Tallying, Judgeable, staysBy, staysIn, leftWord}
-use Rattle.analyse.proofs.MemoryLaws.{area-put, area-below}
+use Rattle.analyse.proofs.MemoryLaws.{area-read, area-put, area-below}
 use Rattle.analyse.proofs.FillLaws.{area-zero, area-over}
 use Rattle.analyse.proofs.SlotLaws.{kids-at, resized}
 
@@ -48,9 +47,6 @@ module _ (n : ℕ) (recs : List ℕ) (cl : ℕ → ℕ) (c y : ℕ) where
     pub leaves-test : v ≡ false → (w : ℕ) → w % 4096 ≡ cl y → not (eqb (w % 4096) c) ≡ leaves sinks cl c y
     unfolding leaves
     leaves-test f w e = rw (ne-eqb y 0 p, ← is, f, e) refl
-
-pub target-fits : (n w t : ℕ) → t ≡ target n w → t ≤ n
-target-fits n w t e = omega (arith, target-low n w)
 
 -- ---- the words of an object, from the last to the first
 
@@ -136,12 +132,29 @@ tally-start n recs slots work₀ work f = record {
     go (suc c) (yes q) = omega (arith, f .filled (suc c) (omega arith) q)
     go (suc c) (no q) = omega (arith, area-over n 0 work (suc c) (omega (arith, q)))
 
--- what the count of one object asks
-pub tally-asks : (n : ℕ) (recs slots work₀ work : List ℕ) (k : ℕ) → Judgeable n recs slots work₀ → Tallying n recs slots work₀ work k → k < n
-    → Judgeable n recs slots work × (1 ≤ k + 1) × (k + 1 ≤ n) × ((c : ℕ) → area n 0 work c ≤ 8 * (k + 1 - 1))
-tally-asks n recs slots work₀ work k J t h =
-    let e : k + 1 - 1 ≡ k = omega arith in
-    (judgeable-now n recs slots work₀ work (t .long) (t .others (8 * n) (omega arith)) (t .others (9 * n) (omega arith)) J, omega arith, omega arith, λ c. rw e (t .most c))
+pub judging-cleared : (n : ℕ) (recs slots work₀ work : List ℕ) → Filling n 0 (λ x. 0) work₀ work n → Judgeable n recs slots work₀ → Judgeable n recs slots work
+judging-cleared n recs slots work₀ work f J =
+    judgeable-now n recs slots work₀ work (f .long) (f .others (8 * n) (inr (omega arith))) (f .others (9 * n) (inr (omega arith))) J
+
+-- the words before the counts were cleared tell the same clusters
+pub tally-end : (n : ℕ) (recs slots work₀ work₁ work : List ℕ) → Filling n 0 (λ x. 0) work₀ work₁ n → Tallying n recs slots work₁ work n → Tallying n recs slots work₀ work n
+tally-end n recs slots work₀ work₁ work f t = record {
+  entry = λ c p q. t .entry c p q
+      ∙ ap (λ (g : ℕ → ℕ). outsOf n (view n recs slots .kids) (view n recs slots .sink) (clusterIn g) c) (f .others (9 * n) (inr (omega arith)));
+  most = t .most;
+  others = λ b h. t .others b h ∙ f .others b (inr (omega arith));
+  long = t .long ∙ f .long;
+}
+
+count-read : (n : ℕ) (work : List ℕ) (c : ℕ) → c ≢ 0 → c ≤ n → getD work (c - 1) 0 ≡ area n 0 work c
+count-read n work c p q =
+    let e : c - 1 ≡ 0 + c - 1 = omega arith in
+    ap (λ (i : ℕ). getD work i 0) e ∙ area-read n 0 work c (omega (arith, p)) q
+
+count-put : (work : List ℕ) (c v : ℕ) → set work (c - 1) v ≡ set work (0 + c - 1) v
+count-put work c v =
+    let e : c - 1 ≡ 0 + c - 1 = omega arith in
+    ap (λ (i : ℕ). set work i v) e
 
 module _ (n : ℕ) (recs slots work₀ work : List ℕ) (x : ℕ) (low : 1 ≤ x) (T : Tallying n recs slots work₀ work (x - 1)) (w : ℕ)
     (read : w ≡ area n (9 * n) work x) where
@@ -163,7 +176,7 @@ module _ (n : ℕ) (recs slots work₀ work : List ℕ) (x : ℕ) (low : 1 ≤ x
       go zero p = absurd (omega arith)
       go (suc y) p = let e : suc y - 1 ≡ y = omega arith in rw e refl
 
-  pub tally-skip : c ≡ 0 → Tallying n recs slots work₀ work x
+  tally-skip : c ≡ 0 → Tallying n recs slots work₀ work x
   tally-skip z = record {
     entry = λ d p q.
         let b = ne-eqb (walkClusters n work₀ x) d (λ e. absurd (omega (arith, own-cluster))) in
@@ -174,7 +187,13 @@ module _ (n : ℕ) (recs slots work₀ work : List ℕ) (x : ℕ) (low : 1 ≤ x
   }
 
   module _ (nz : c ≢ 0) (fits : c ≤ n) (m p : ℕ) (ms : m ≡ outsAt n recs slots work x c) (few : m ≤ 8) (ps : p ≡ area n 0 work c)
-      (work′ : List ℕ) (room : n ≤ length work) (put : work′ ≡ set work (0 + c - 1) (p + m)) where
+      (room : n ≤ length work) where
+    abbrev work′ : List ℕ
+    work′ = set work (c - 1) (p + m)
+
+    put : work′ ≡ set work (0 + c - 1) (p + m)
+    put = count-put work c (p + m)
+
     counted : (d : ℕ) → area n 0 work′ d ≡ upd (area n 0 work) c (p + m) d
     counted d = ap (λ (l : List ℕ). area n 0 l d) put ∙ area-put n 0 work c (p + m) (omega (arith, nz)) fits (omega arith) d
 
@@ -182,7 +201,7 @@ module _ (n : ℕ) (recs slots work₀ work : List ℕ) (x : ℕ) (low : 1 ≤ x
     unfolding outsAt
     m-is = ms ∙ ap (λ (f : ℕ → ℕ). outCount (view n recs slots .sink) (clusterIn f) c (view n recs slots .kids x)) (T .others (9 * n) (omega arith))
 
-    pub tally-add : Tallying n recs slots work₀ work′ x
+    tally-add : Tallying n recs slots work₀ work′ x
     tally-add = record {
       entry = λ d a b. counted d ∙ go d a b (ℕ-discrete d c);
       most = λ d. rw (counted d) (top d (ℕ-discrete d c));
@@ -204,22 +223,67 @@ module _ (n : ℕ) (recs slots work₀ work : List ℕ) (x : ℕ) (low : 1 ≤ x
         top d (yes e) = rw (e, upd-same (area n 0 work) c (p + m)) (omega (arith, T .most c))
         top d (no e) = rw (upd-other (area n 0 work) c d (p + m) e) (omega (arith, T .most d))
 
-pub add-fits : (n : ℕ) (work : List ℕ) (x d p m : ℕ) → ((c : ℕ) → area n 0 work c ≤ 8 * (x - 1)) → x ≤ n → n ≤ 4095 → p ≡ area n 0 work d → m ≤ 8 → p + m < 2 ^ 32
-add-fits n work x d p m h q r e f = let a = h d in omega arith
-
 pub read-fits : (n : ℕ) (work : List ℕ) (x w : ℕ) → w ≡ area n (9 * n) work x → walkClusters n work x ≤ n → w % 4096 ≤ n
 read-fits n work x w e h = rw e h
 
+-- The out pointers of the objects 1 to k are counted, by the words after the counts were cleared.
+pub record Counting (n : ℕ) (recs slots work₀ work : List ℕ) (k : ℕ) : Type 0 where
+  pub start : Judgeable n recs slots work₀
+  pub counted : Tallying n recs slots work₀ work k
+  pub most : k ≤ n
+
+module _ (n : ℕ) (recs slots work₀ work : List ℕ) (k : ℕ) (S : Counting n recs slots work₀ work k) (h : k < n) where
+  judge-now : Judgeable n recs slots work
+  judge-now = judgeable-now n recs slots work₀ work (S .counted .long) (S .counted .others (8 * n) (omega arith)) (S .counted .others (9 * n) (omega arith)) (S .start)
+
+  abbrev own : ℕ
+  own = getD work (9 * n + (k + 1) - 1) 0
+
+  own-read : own ≡ area n (9 * n) work (k + 1)
+  own-read = area-read n (9 * n) work (k + 1) (omega arith) (omega arith)
+
+  own-fits : own % 4096 ≤ n
+  own-fits = read-fits n work (k + 1) own own-read (judge-now .fits (k + 1))
+
+  before : Tallying n recs slots work₀ work (k + 1 - 1)
+  before = let e : k + 1 - 1 ≡ k = omega arith in rw e (S .counted)
+
+  pub own-there : 9 * n + (k + 1) - 1 < length work
+  own-there = omega (arith, judge-now .sized .work-long)
+
+  pub count-asks : Sized n recs slots work × (1 ≤ k + 1) × (k + 1 ≤ n)
+  count-asks = (judge-now .sized, omega arith, omega arith)
+
+  pub count-skip : own % 4096 ≡ 0 → Counting n recs slots work₀ work (k + 1)
+  count-skip z = record { start = S .start; counted = tally-skip n recs slots work₀ work (k + 1) (omega arith) before own own-read z; most = omega arith }
+
+  module _ (nz : own % 4096 ≢ 0) where
+    pub count-there : own % 4096 - 1 < length work
+    count-there = omega (arith, own-fits, judge-now .sized .work-long, nz)
+
+    pub count-fits : (m : ℕ) → m ≤ 8 → getD work (own % 4096 - 1) 0 + m < 2 ^ 32
+    count-fits m few = let a = before .most (own % 4096) in omega (arith, few, count-read n work (own % 4096) nz own-fits, judge-now .sized .room .most)
+
+    pub count-turn : (m : ℕ) → m ≡ outsAt n recs slots work (k + 1) (own % 4096) → m ≤ 8
+        → Counting n recs slots work₀ (set work (own % 4096 - 1) (getD work (own % 4096 - 1) 0 + m)) (k + 1)
+    count-turn m ms few = record {
+      start = S .start;
+      counted = tally-add n recs slots work₀ work (k + 1) (omega arith) before own own-read nz own-fits m (getD work (own % 4096 - 1) 0) ms few
+          (count-read n work (own % 4096) nz own-fits) (omega (arith, judge-now .sized .work-long));
+      most = omega arith;
+    }
+
 -- ---- does a cluster stay?
 
-module _ (n : ℕ) (recs work : List ℕ) (c d : ℕ) (is : d ≡ clusterOf n recs c) where
-  pub stays-old : d ≢ 0 → true ≡ staysIn n recs work c
-  unfolding staysIn staysBy
-  stays-old p = rw (← is, ne-eqb d 0 p) refl
-
-  pub stays-new : d ≡ 0 → (w p : ℕ) → w ≡ area n (8 * n) work c → p ≡ area n 0 work c → (b : Bool) → b ≡ lasts (w / 4096) p → b ≡ staysIn n recs work c
-  unfolding staysIn staysBy
-  stays-new z w p ws ps b o = o ∙ rw (← is, z, ← ws, ← ps) refl
+pub stays-by : (n : ℕ) (recs work : List ℕ) (c d : ℕ) → d ≡ clusterOf n recs c → (w p : ℕ) → w ≡ area n (8 * n) work c → p ≡ area n 0 work c
+    → (b : Bool) → b ≡ lasts (w / 4096) p → (eqb d 0 && not b) ≡ not (staysIn n recs work c)
+unfolding staysIn staysBy
+stays-by n recs work c d is w p ws ps b o = rw (← is, ← ws, ← ps, ← o) (go (eqb d 0) b)
+  where
+    go : (e b : Bool) → (e && not b) ≡ not (not e || b)
+    go true true = refl
+    go true false = refl
+    go false b = refl
 
 -- ---- what an object is left with
 
@@ -249,19 +313,19 @@ module _ (n : ℕ) (recs slots work : List ℕ) (x c w : ℕ) (ws : w ≡ area n
       go true o e = rw (e, z) refl
       go false o e = refl
 
-  pub left-gone : (b : Bool) → b ≡ q c → b ≡ false → 0 ≡ leftWord n recs slots work x
-  left-gone b e f = sym (word-is ∙ rw (← e, f) refl)
+  module _ (b : Bool) (e : b ≡ not (q c)) where
+    pub left-gone : b ≡ true → 0 ≡ leftWord n recs slots work x
+    left-gone f = sym (word-is ∙ rw (not-true (q c) (sym e ∙ f)) refl)
 
-  module _ (nz : c ≢ 0) (b : Bool) (e : b ≡ q c) (f : b ≡ true) (m : ℕ) (ms : m ≡ outsAt n recs slots work x c) where
-    out-by : out x ≡ ltb 0 m
+    pub left-kept : c ≢ 0 → b ≡ false → (m : ℕ) → m ≡ outsAt n recs slots work x c → c + 4096 * bit (not (eqb m 0)) ≡ leftWord n recs slots work x
     unfolding outBit outsAt
-    out-by = rw (own-formed, ne-eqb c 0 nz, ← ms) refl
-
-    pub left-in : m ≡ 0 → c ≡ leftWord n recs slots work x
-    left-in z = sym (word-is ∙ rw (← e, f, out-by, z) (omega arith))
-
-    pub left-out : m ≢ 0 → c + 4096 ≡ leftWord n recs slots work x
-    left-out z = sym (word-is ∙ rw (← e, f, out-by, lt-ltb 0 m (omega (arith, z))) (omega arith))
+    left-kept nz f m ms =
+        let k : q c ≡ true = not-false (q c) (sym e ∙ f) in
+        sym (word-is ∙ rw (k, own-formed, ne-eqb c 0 nz, ← ms) (go (ℕ-discrete m 0)))
+      where
+        go : Dec (m ≡ 0) → c + 4096 * bit (ltb 0 m) ≡ c + 4096 * bit (not (eqb m 0))
+        go (yes z) = rw z refl
+        go (no z) = rw (ne-eqb m 0 z, lt-ltb 0 m (omega (arith, z))) refl
 
 -- ---- the pass that notes what each object is left with
 

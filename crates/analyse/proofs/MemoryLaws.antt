@@ -1,6 +1,6 @@
 -- What a store into the work words does to what they hold.
 -- Assumes nothing.
-use Prim.Native.Nat.{ℕ, suc, _+_, _-_, _*_, _/_, _%_, _≤_, _<_}
+use Prim.Native.Nat.{ℕ, suc, _+_, _-_, _*_, _/_, _%_, _≤_, _^_, _<_}
 use mathlib.Core.Path.{_≡_, refl, sym, ap, ap₂, _∙_, fun-ext}
 use mathlib.Core.List.{List, [], _∷_, _++_, map, map-append, append-assoc, List·Memᴰ, List·Memᴰ·head, List·Memᴰ·tail}
 use mathlib.Core.Logic.{_≢_}
@@ -14,7 +14,7 @@ use Rattle.graph.specs.Analysis.{Item, items}
 use Rattle.graph.proofs.NumberLaws.{upd-same, upd-other}
 use Rattle.rules.specs.Buffers.{recOf}
 use Rattle.rules.proofs.PlaceLaws.{rec-at, rec-put, rec-take}
-use Rattle.analyse.specs.Memory.{area, Memory, memOf, itemOf, visitWords, inFront, withState, withLink, counting}
+use Rattle.analyse.specs.Memory.{area, sizeIn, Memory, memOf, itemOf, visitWords, inFront, withState, withLink, counting}
 
 -- ---- one word for each object
 
@@ -130,12 +130,18 @@ pub counting-none : (e : ℕ) (f : ℕ → ℕ) → e ≡ 0 → counting e f ≡
 unfolding counting
 counting-none e f p = rw p refl
 
-pub counted : (n : ℕ) (work : List ℕ) → 10 * n + 64 ≤ length work → (e : ℕ) → e ≢ 0 → e ≤ n → (w : ℕ) → w ≡ area n (8 * n) work e
-    → (work′ : List ℕ) → work′ ≡ set work (8 * n + e - 1) (w + 4096)
-    → (top : ℕ) → memOf n work′ top ≡ withLink (counting e (area n (8 * n) work)) (memOf n work top)
-counted n work long e p q w i work′ j top =
-    ap (λ (l : List ℕ). memOf n l top) j ∙ put-link n work long e (w + 4096) top (omega (arith, p)) q
-    ∙ ap (λ (f : ℕ → ℕ). withLink f (memOf n work top)) (ap (λ (v : ℕ). upd (area n (8 * n) work) e (v + 4096)) i ∙ sym (counting-some e (area n (8 * n) work) p))
+module _ (n : ℕ) (work : List ℕ) (e : ℕ) (p : e ≢ 0) (q : e ≤ n) where
+  link-read : getD work (8 * n + e - 1) 0 ≡ area n (8 * n) work e
+  link-read = area-read n (8 * n) work e (omega (arith, p)) q
+
+  pub count-fits : sizeIn (area n (8 * n) work) e ≤ 4095 → getD work (8 * n + e - 1) 0 + 4096 < 2 ^ 32
+  count-fits h = let a = link-read in omega arith
+
+  pub counted : 10 * n + 64 ≤ length work → (top : ℕ)
+      → memOf n (set work (8 * n + e - 1) (getD work (8 * n + e - 1) 0 + 4096)) top ≡ withLink (counting e (area n (8 * n) work)) (memOf n work top)
+  counted long top =
+      put-link n work long e (getD work (8 * n + e - 1) 0 + 4096) top (omega (arith, p)) q
+      ∙ ap (λ (f : ℕ → ℕ). withLink f (memOf n work top)) (ap (λ (v : ℕ). upd (area n (8 * n) work) e (v + 4096)) link-read ∙ sym (counting-some e (area n (8 * n) work) p))
 
 pub not-counted : (n : ℕ) (work : List ℕ) (e : ℕ) → e ≡ 0
     → (top : ℕ) → memOf n work top ≡ withLink (counting e (area n (8 * n) work)) (memOf n work top)

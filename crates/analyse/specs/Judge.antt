@@ -7,7 +7,7 @@ use mathlib.Core.List.{List}
 use lib.Dec.{eqb}
 use lib.ListN.{length}
 use Rattle.records.specs.Record.{isSink}
-use Rattle.graph.specs.Numbers.{bit, count}
+use Rattle.graph.specs.Numbers.{bit, sum, count}
 use Rattle.graph.specs.Heap.{Heap}
 use Rattle.graph.specs.Clusters.{keep, outCount, outBit, outsOf}
 use Rattle.graph.specs.Analysis.{stays, outLossOf}
@@ -16,7 +16,7 @@ use Rattle.rules.specs.Buffers.{eachFrom}
 use Rattle.rules.specs.View.{view, encodedRecord}
 use Rattle.rules.specs.Analyse.{rule}
 use Rattle.table.specs.Clusters.{clusterOf}
-use Rattle.choices.specs.Choices.{overBy, lasts}
+use Rattle.choices.specs.Choices.{overBy, lasts, settled}
 use Rattle.analyse.specs.Memory.{area, clusterIn, sizeIn}
 use Rattle.table.specs.Room.{Sized}
 
@@ -70,6 +70,13 @@ newHeadAt n recs work h = eqb (clusterOf n recs h) 0 && eqb (area n n work h % 4
 -- x is in a new cluster that is left
 unfoldable pub newMemberAt : ℕ → List ℕ → List ℕ → ℕ → Bool
 newMemberAt n recs work x = eqb (clusterOf n recs x) 0 && not (eqb (area n n work x % 4096) 0)
+
+-- What the last pass leaves: every record is settled by its word, and the answers are counted.
+pub record Settled (n : ℕ) (recs work recs′ : List ℕ) (loss clusters members : ℕ) : Type 0 where
+  pub records : recs′ ≡ eachFrom 1 n (λ x r. settled (area n n work x) r) recs
+  pub loss-is : loss ≡ sum n (lossAt n recs work)
+  pub clusters-is : clusters ≡ count n (newHeadAt n recs work)
+  pub members-is : members ≡ count n (newMemberAt n recs work)
 
 -- the clusters of cl that are left
 abbrev pub leftOf : Heap → (ℕ → ℕ) → ℕ → ℕ

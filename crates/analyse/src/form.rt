@@ -3,11 +3,9 @@ ghost use Prim.Native.Nat.{_+_, _*_, _≤_};
 ghost use lib.ListN.{length, take};
 ghost use Rattle.rules.specs.View.{startsIn};
 ghost use Rattle.table.specs.Clusters.{clusterOf};
-ghost use Rattle.links.specs.Links.{linkWord};
 ghost use Rattle.analyse.specs.Filling.{Filling};
 ghost use Rattle.analyse.specs.Contracts.{Walking};
-ghost use Rattle.analyse.specs.Starts.{Formable, From, GoesOn, Fit, sinksBelow, sinkAt};
-use crate::memory::put_word;
+ghost use Rattle.analyse.specs.Starts.{Formable, From, GoesOn, Fit, sinksBelow};
 use crate::memory::record_at;
 use crate::walk::start;
 use links::link;
@@ -23,18 +21,9 @@ fn put_states(n: u32, records: &[u32], work: &mut [u32])
     while k < n {
         k += 1;
         let c = cluster_of(record_at(n, records, k));
-        put_word(n, work, 9 * n as usize, k, c);
+        let i = 9 * n as usize + k as usize - 1;
+        work[i] = c;
     }
-}
-
-// The link words of the older clusters.
-fn put_links(n: u32, records: &[u32], work: &mut [u32])
-    requires { ⌜ (n ≤ length (now records)) × (10 * n + 64 ≤ length (now work)) × (n ≤ 4095) ⌝ }
-    ensures { λ _. ⌜ Filling n (8 * n) (linkWord n (clusterOf n (now (records .entry)))) (now (work .entry)) (now (work .exit)) n ⌝ }
-{
-    let a = 8 * n as usize;
-    let b = 9 * n as usize;
-    link(false, n, records, &mut work[a..b]);
 }
 
 // The walk goes on from the first r roots.
@@ -57,16 +46,6 @@ fn from_roots(
     }
 }
 
-// The walk goes on from object x, if it is a sink.
-fn from_sink(n: u32, limit: u32, records: &[u32], slots: &[u32], work: &mut [u32], x: u32)
-    requires { ⌜ Walking n (now records) (now slots) limit (now work) (8 * n) × (1 ≤ x) × (x ≤ n) ⌝ }
-    ensures { λ _. ⌜ GoesOn n (now (records .entry)) (now (slots .entry)) limit (sinkAt n (now (records .entry)) (now (slots .entry)) x) (now (work .entry)) (now (work .exit)) ⌝ }
-{
-    if is_sink(record_at(n, records, x)) {
-        start(n, limit, records, slots, work, x);
-    }
-}
-
 // The walk goes on from the sinks.
 fn from_sinks(n: u32, limit: u32, records: &[u32], slots: &[u32], work: &mut [u32])
     requires { ⌜ Walking n (now records) (now slots) limit (now work) (8 * n) ⌝ }
@@ -75,7 +54,9 @@ fn from_sinks(n: u32, limit: u32, records: &[u32], slots: &[u32], work: &mut [u3
     let mut k: u32 = 0;
     while k < n {
         k += 1;
-        from_sink(n, limit, records, slots, work, k);
+        if is_sink(record_at(n, records, k)) {
+            start(n, limit, records, slots, work, k);
+        }
     }
 }
 
@@ -92,7 +73,9 @@ pub(crate) fn form(
     requires { ⌜ Formable n limit (now records) (now slots) (now work) (startsIn n r (now records) (now slots) (now roots)) × (r ≤ length (now roots)) ⌝ }
     ensures { λ _. ⌜ From n (now (records .entry)) (now (slots .entry)) limit (startsIn n r (now (records .entry)) (now (slots .entry)) (now (roots .entry))) (now (work .exit)) ⌝ }
 {
-    put_links(n, records, work);
+    let a = 8 * n as usize;
+    let b = 9 * n as usize;
+    link(false, n, records, &mut work[a..b]);
     put_states(n, records, work);
     from_roots(n, r, limit, records, slots, roots, work);
     from_sinks(n, limit, records, slots, work);

@@ -8,15 +8,16 @@ mod walk;
 ghost use mathlib.Core.Path.{_≡_};
 ghost use Prim.Native.Nat.{_≤_};
 ghost use lib.ListN.{length};
-ghost use Rattle.layout.specs.Refusal.{first};
 ghost use Rattle.rules.specs.View.{startsIn};
-ghost use Rattle.rules.specs.Analyse.{gives, analyseTests};
+ghost use Rattle.rules.specs.Analyse.{gives};
 ghost use Rattle.rules.specs.Analyse as Rules;
 ghost use Rattle.analyse.specs.Starts.{Formable, formedFrom};
 ghost use Rattle.analyse.specs.Judge.{Judged};
 use crate::form::form;
 use crate::judge::Found;
-use crate::judge::judge;
+use crate::judge::decide;
+use crate::judge::settle;
+use crate::judge::tally;
 use crate::limit::used_count;
 use choices::next_limit;
 use layout::answers::Analysed;
@@ -25,13 +26,6 @@ use layout::control::with_analysis;
 use layout::limits::work_len;
 use table::buffers::zero;
 use wellformed::heap_refusal;
-
-// The number of the first test that holds, 0 where none does.
-fn analyse_refusal(c: Control, records: &[u32], slots: &[u32], roots: &[u32], work: &[u32]) -> u32
-    ensures { λ k. ⌜ k ≡ first (analyseTests c (now (records .entry)) (now (slots .entry)) (now (roots .entry)) (now (work .entry))) ⌝ }
-{
-    heap_refusal(c, records, slots, roots, work.len() < work_len(c.n))
-}
 
 // The clusters are formed, and those that do not stay dissolved, with work words of just the length that this takes.
 fn form_and_judge(
@@ -47,7 +41,9 @@ fn form_and_judge(
     ensures { λ f. ⌜ Judged n (now (records .entry)) (now (slots .entry)) (formedFrom n (now (records .entry)) (now (slots .entry)) limit (startsIn n r (now (records .entry)) (now (slots .entry)) (now (roots .entry)))) (now (records .exit)) (f .loss) (f .clusters) (f .members) ⌝ }
 {
     form(n, r, limit, records, slots, roots, work);
-    judge(n, records, slots, work)
+    tally(n, records, slots, work);
+    decide(n, records, slots, work);
+    settle(n, records, work)
 }
 
 // Analyses the heap.
@@ -60,7 +56,8 @@ pub fn analyse(
 ) -> Analysed
     ensures { λ a. ⌜ gives a (now (records .exit)) (now (work .exit)) ≡ Rules.analyse c (now (records .entry)) (now (slots .entry)) (now (roots .entry)) (now (work .entry)) ⌝ }
 {
-    let refusal = analyse_refusal(c, records, slots, roots, work);
+    let cap = work_len(c.n);
+    let refusal = heap_refusal(c, records, slots, roots, work.len() < cap);
     if refusal != 0 {
         return Analysed {
             refusal: refusal,
@@ -70,7 +67,6 @@ pub fn analyse(
         };
     }
     let limit = next_limit(c, used_count(c.n, records));
-    let cap = work_len(c.n);
     let found = form_and_judge(c.n, c.r, limit, records, slots, roots, &mut work[0..cap]);
     zero(work, cap);
     Analysed {

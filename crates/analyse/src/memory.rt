@@ -1,7 +1,7 @@
 // One word for each object: its record, and one from word `base` of the work words on.
 ghost use mathlib.Core.Path.{_≡_};
-ghost use Prim.Native.Nat.{_+_, _-_, _≤_};
-ghost use lib.ListN.{length, set};
+ghost use Prim.Native.Nat.{_+_, _≤_};
+ghost use lib.ListN.{length};
 ghost use Rattle.rules.specs.Buffers.{recOf};
 ghost use Rattle.analyse.specs.Memory.{area};
 
@@ -17,11 +17,4 @@ pub(crate) fn word_of(n: u32, work: &[u32], base: usize, x: u32) -> u32
     ensures { λ w. ⌜ w ≡ area n base (now (work .entry)) x ⌝ }
 {
     work[base + x as usize - 1]
-}
-
-pub(crate) fn put_word(n: u32, work: &mut [u32], base: usize, x: u32, w: u32)
-    requires { ⌜ (1 ≤ x) × (x ≤ n) × (base + n ≤ length (now work)) ⌝ }
-    ensures { λ _. ⌜ now (work .exit) ≡ set (now (work .entry)) (base + x - 1) w ⌝ }
-{
-    work[base + x as usize - 1] = w;
 }

@@ -1,16 +1,15 @@
 // The walk of the analysis. A visit to make is one work word: the object, and above its 12 bits the cluster passed to it.
 ghost use mathlib.Core.Path.{_≡_};
 ghost use mathlib.Core.List.{[], _∷_};
-ghost use Prim.Native.Nat.{ℕ, _+_, _-_, _*_, _<_, _≤_};
+ghost use Prim.Native.Nat.{ℕ, _+_, _*_, _≤_};
 ghost use lib.ListN.{length};
 ghost use Rattle.rules.specs.Buffers.{recOf};
 ghost use Rattle.rules.specs.View.{view, target};
 ghost use Rattle.graph.specs.Numbers.{upd};
-ghost use Rattle.analyse.specs.Memory.{area, memOf, visitWords, sizeIn, inFront, withState, withLink, counting, walkOf};
+ghost use Rattle.analyse.specs.Memory.{area, memOf, visitWords, sizeIn, inFront, withState, withLink, counting};
 ghost use Rattle.table.specs.Room.{Sized};
-ghost use Rattle.analyse.specs.Contracts.{outKids, outsBelow, Chained, handled, goesTo, placed, Visiting, Walking, Visited, Walked};
+ghost use Rattle.analyse.specs.Contracts.{outKids, outsBelow, Chained, handled, goesTo, placed, Visiting, Walking, Visited};
 ghost use Rattle.analyse.specs.Starts.{GoesOn};
-use crate::memory::put_word;
 use crate::memory::record_at;
 use crate::memory::word_of;
 use links::next_member;
@@ -23,16 +22,6 @@ pub(crate) fn target_of(n: u32, w: u32) -> u32
     ensures { λ t. ⌜ t ≡ target n w ⌝ }
 {
     if w <= n { w } else { 0 }
-}
-
-// Puts a visit to object o, with the cluster c, in front of those from `top` on.
-fn push(n: u32, work: &mut [u32], top: usize, o: u32, c: u32) -> usize
-    requires { ⌜ (n ≤ 4095) × (10 * n + 64 ≤ length (now work)) × (0 < top) × (top ≤ 8 * n) × (o ≤ n) × (c ≤ n) ⌝ }
-    ensures { λ r. ⌜ (memOf n (now (work .exit)) r ≡ inFront ((o + 4096 * c) ∷ []) (memOf n (now (work .entry)) top)) × (r ≡ top - 1) ⌝ }
-{
-    let at = top - 1;
-    work[at] = o + 4096 * c;
-    at
 }
 
 // Puts visits to what object x points at, each with the cluster c, in front of the others.
@@ -56,7 +45,8 @@ fn push_kids(
     // What is put in front last is visited first: the words are taken from the last down.
     while j < w {
         j += 1;
-        at = push(n, work, at, target_of(n, slots[from + w - j]), c);
+        at -= 1;
+        work[at] = target_of(n, slots[from + w - j]) + 4096 * c;
     }
     at
 }
@@ -75,7 +65,8 @@ fn member(
     requires { ⌜ (1 ≤ x) × (x ≤ n) × (d ≤ n) × (top ≤ 8 * n) × (length (outKids (view n (now records) (now slots)) x) ≤ top) ⌝ }
     ensures { λ r. ⌜ (memOf n (now (work .exit)) r ≡ inFront (visitWords 0 (outKids (view n (now (records .entry)) (now (slots .entry))) x)) (withState (upd (area n (9 * n) (now (work .entry))) x (d + 4096)) (memOf n (now (work .entry)) top))) × (r + length (outKids (view n (now (records .entry)) (now (slots .entry))) x) ≡ top) ⌝ }
 {
-    put_word(n, work, 9 * n as usize, x, d + 4096);
+    let i = 9 * n as usize + x as usize - 1;
+    work[i] = d + 4096;
     if is_out(record_at(n, records, x)) {
         return push_kids(n, records, slots, work, x, 0, top);
     }
@@ -98,23 +89,15 @@ fn older(n: u32, records: &[u32], slots: &[u32], work: &mut [u32], d: u32, top: 
     at
 }
 
-// How many members the new cluster c has, 0 where c is none.
-fn size_of(n: u32, work: &[u32], c: u32) -> u32
-    requires { ⌜ (9 * n ≤ length (now work)) × (c ≤ n) × (n ≤ 4095) ⌝ }
-    ensures { λ s. ⌜ s ≡ sizeIn (area n (8 * n) (now (work .entry))) c ⌝ }
-{
-    if c == 0 {
-        return 0;
-    }
-    word_of(n, work, 8 * n as usize, c) / 4096
-}
-
 // The cluster that object o, with the record r and in no cluster, gets when c is passed to it; 0 for none.
 fn choose(n: u32, limit: u32, work: &[u32], r: u32, o: u32, c: u32) -> u32
     requires { ⌜ (9 * n ≤ length (now work)) × (c ≤ n) × (n ≤ 4095) ⌝ }
     ensures { λ e. ⌜ e ≡ goesTo limit r (area n (8 * n) (now (work .entry))) o c ⌝ }
 {
-    choices::choose(limit, r, size_of(n, work, c), o, c)
+    if c == 0 {
+        return choices::choose(limit, r, 0, o, c);
+    }
+    choices::choose(limit, r, word_of(n, work, 8 * n as usize, c) / 4096, o, c)
 }
 
 // Counts one more member of cluster e.
@@ -123,8 +106,8 @@ fn count(n: u32, work: &mut [u32], e: u32)
     ensures { λ _. ⌜ ((top : ℕ) → memOf n (now (work .exit)) top ≡ withLink (counting e (area n (8 * n) (now (work .entry)))) (memOf n (now (work .entry)) top)) ⌝ }
 {
     if e != 0 {
-        let w = word_of(n, work, 8 * n as usize, e);
-        put_word(n, work, 8 * n as usize, e, w + 4096);
+        let i = 8 * n as usize + e as usize - 1;
+        work[i] = work[i] + 4096;
     }
 }
 
@@ -146,7 +129,8 @@ fn place(
 {
     let e = choose(n, limit, work, record_at(n, records, o), o, c);
     count(n, work, e);
-    put_word(n, work, 9 * n as usize, o, e + 4096);
+    let i = 9 * n as usize + o as usize - 1;
+    work[i] = e + 4096;
     push_kids(n, records, slots, work, o, e, top)
 }
 
@@ -177,23 +161,15 @@ fn visit(
     place(n, limit, records, slots, work, o, c, top)
 }
 
-// Makes every visit.
-fn walk(n: u32, limit: u32, records: &[u32], slots: &[u32], work: &mut [u32], start: usize)
-    requires { ⌜ Walking n (now records) (now slots) limit (now work) start ⌝ }
-    ensures { λ _. ⌜ Walked n (now (records .entry)) (now (slots .entry)) limit (walkOf (memOf n (now (work .entry)) start)) (now (work .exit)) ⌝ }
-{
-    let mut top = start;
-    while top < 8 * n as usize {
-        let w = work[top];
-        top = visit(n, limit, records, slots, work, w % 4096, w / 4096, top + 1);
-    }
-}
-
 // The walk from one start, object o, to its end.
 pub(crate) fn start(n: u32, limit: u32, records: &[u32], slots: &[u32], work: &mut [u32], o: u32)
     requires { ⌜ Walking n (now records) (now slots) limit (now work) (8 * n) × (o ≤ n) ⌝ }
     ensures { λ _. ⌜ GoesOn n (now (records .entry)) (now (slots .entry)) limit (o ∷ []) (now (work .entry)) (now (work .exit)) ⌝ }
 {
-    let top = visit(n, limit, records, slots, work, o, 0, 8 * n as usize);
-    walk(n, limit, records, slots, work, top);
+    let end = 8 * n as usize;
+    let mut top = visit(n, limit, records, slots, work, o, 0, end);
+    while top < end {
+        let w = work[top];
+        top = visit(n, limit, records, slots, work, w % 4096, w / 4096, top + 1);
+    }
 }

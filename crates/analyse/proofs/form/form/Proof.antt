@@ -1,40 +1,73 @@
 -- `form` meets its contract. Assumes nothing.
+use mathlib.Core.Path.{_∙_}
+use native.Mathlib.Omega.{arith}
+use Rattle.analyse.proofs.PartLaws.{links-filled}
 use Rattle.analyse.proofs.StartLaws.{prepared, roots-fit, all-starts}
 use borrow.Author.Needs.{needs}
 use Rattle.analyse.proofs.form.form.Statement.{statement}
 use Rattle.analyse.proofs.form.form.Tie as tie
 
-put-links-requires : tie.Need-put-links-requires
-put-links-requires c κs = search needs
+mul-a : tie.Need-mul-a
+mul-a c = omega arith
+
+mul-b : tie.Need-mul-b
+mul-b c = omega arith
+
+mul-link : tie.Need-mul-link
+mul-link c = omega arith
+
+sub-link : tie.Need-sub-link
+sub-link c = omega arith
+
+part-link-start : tie.Need-part-link-start
+part-link-start c = omega arith
+
+part-link-end : tie.Need-part-link-end
+part-link-end c = omega (arith, c .before .before .before .before .pre .0 .sized .work-long)
+
+link-requires : tie.Need-link-requires
+link-requires c κs = search needs
 
 put-states-requires : tie.Need-put-states-requires
-put-states-requires c κs = search needs
+put-states-requires c κs =
+    let z = c .before .before .before .before .before .before .before .before .before .pre .0 .sized in
+    let l = links-filled _ _ _ _ (z .room .most) (z .room .recs-long) (z .work-long) (c .before .before .before .link .kept .1 .1 .1 .0) (c .before .before .before .link .ensures) in
+    (z .room .recs-long, omega (arith, l .long, z .work-long), z .room .most)
 
 from-roots-requires : tie.Need-from-roots-requires
 from-roots-requires c κs =
     let o = c .before .before .before .before .before .before .before .before .before .before .before .before .before in
-    let l = c .before .before .before .before .before .before .before .put-links .ensures in
-    let s = c .before .before .before .put-states .ensures in
-    (prepared _ _ _ _ _ _ _ _ (o .pre .0) l s .walked .walking, o .pre .1, roots-fit _ (o .args .r) _ _ (o .args .roots .now) (o .pre .0 .fit))
+    let z = o .pre .0 .sized in
+    let l = links-filled _ _ _ _ (z .room .most) (z .room .recs-long) (z .work-long) (c .before .before .before .before .before .before .before .link .kept .1 .1 .1 .0) (c .before .before .before .before .before .before .before .link .ensures) in
+    (prepared _ _ _ _ _ _ _ _ (o .pre .0) l (c .before .before .before .put-states .ensures) .walked .walking, o .pre .1, roots-fit _ (o .args .r) _ _ (o .args .roots .now) (o .pre .0 .fit))
 
 from-sinks-requires : tie.Need-from-sinks-requires
 from-sinks-requires c κs = c .before .before .before .from-roots .ensures .walking
 
 same-length : tie.Need-same-length
-same-length c = search needs
+same-length c =
+    let z = c .before .before .before .before .before .before .before .before .before .before .before .before .before .before .before .before .before .before .before .before .pre .0 .sized in
+    let l = links-filled _ _ _ _ (z .room .most) (z .room .recs-long) (z .work-long) (c .before .before .before .before .before .before .before .before .before .before .before .before .before .before .link .kept .1 .1 .1 .0) (c .before .before .before .before .before .before .before .before .before .before .before .before .before .before .link .ensures) in
+    c .before .before .from-sinks .kept .1 .1 .1 .1 .0 ∙ c .before .before .before .before .before .before .from-roots .kept .1 .1 .1 .1 .1 .1 .0 ∙ c .before .before .before .before .before .before .before .before .before .before .put-states .ensures .long ∙ l .long
 
 returns : tie.Need-returns
 returns c =
     let o = c .before .before .before .before .before .before .before .before .before .before .before .before .before .before .before .before .before .before .before .before in
-    let l = c .before .before .before .before .before .before .before .before .before .before .before .before .before .before .put-links .ensures in
-    let s = c .before .before .before .before .before .before .before .before .before .before .put-states .ensures in
-    all-starts _ _ _ _ (o .args .r) _ _ _ _ (c .before .before .before .before .before .before .from-roots .ensures) (c .before .before .from-sinks .ensures) (prepared _ _ _ _ _ _ _ _ (o .pre .0) l s)
+    let z = o .pre .0 .sized in
+    let l = links-filled _ _ _ _ (z .room .most) (z .room .recs-long) (z .work-long) (c .before .before .before .before .before .before .before .before .before .before .before .before .before .before .link .kept .1 .1 .1 .0) (c .before .before .before .before .before .before .before .before .before .before .before .before .before .before .link .ensures) in
+    all-starts _ _ _ _ (o .args .r) _ _ _ _ (c .before .before .before .before .before .before .from-roots .ensures) (c .before .before .from-sinks .ensures) (prepared _ _ _ _ _ _ _ _ (o .pre .0) l (c .before .before .before .before .before .before .before .before .before .before .put-states .ensures))
 
 pub form-spec : {M : Type 1} → statement M
 form-spec =
     tie.close
     (tie.spec
-    put-links-requires
+    mul-a
+    mul-b
+    mul-link
+    sub-link
+    part-link-start
+    part-link-end
+    link-requires
     put-states-requires
     from-roots-requires
     from-sinks-requires

@@ -1,6 +1,6 @@
 -- `put_states` meets its contract. Assumes nothing.
 use Prim.Native.Nat.{_*_, _-_, _≤_}
-use mathlib.Core.Path.{_≡_, ap, _∙_}
+use mathlib.Core.Path.{_≡_, refl, ap, _∙_}
 use Rattle.records.specs.Record.{cluster}
 use Rattle.table.specs.Clusters.{clusterOf}
 use Rattle.analyse.specs.Filling.{Filling}
@@ -28,19 +28,31 @@ record-at-requires c κs = (omega arith, omega (arith, c .loop-test .taken), c .
 cluster-of-requires : tie.Need-cluster-of-requires Inv-loop μ-loop
 cluster-of-requires c κs = search needs
 
-mul-put-word : tie.Need-mul-put-word Inv-loop μ-loop
-mul-put-word c = omega arith
+mul-i : tie.Need-mul-i Inv-loop μ-loop
+mul-i c = omega arith
 
-put-word-requires : tie.Need-put-word-requires Inv-loop μ-loop
-put-word-requires c κs = (omega arith, omega (arith, c .before .before .before .loop-test .taken), omega (arith, c .before .before .before .before .before .before .before .pre .1, c .before .before .before .before .loop .inv .0 .long))
+cast-i : tie.Need-cast-i Inv-loop μ-loop
+cast-i c = omega arith
+
+add-i : tie.Need-add-i Inv-loop μ-loop
+add-i c = omega arith
+
+sub-i : tie.Need-sub-i Inv-loop μ-loop
+sub-i c = omega arith
+
+mul-work : tie.Need-mul-work Inv-loop μ-loop
+mul-work c = omega arith
+
+slice-write-work : tie.Need-slice-write-work Inv-loop μ-loop
+slice-write-work c = omega (arith, c .before .before .loop-test .taken, c .before .before .before .before .before .before .pre .1, c .before .before .before .loop .inv .0 .long)
 
 loop-less : tie.Need-loop-less Inv-loop μ-loop
 loop-less c = omega arith
 
 loop-again : tie.Need-loop-again Inv-loop μ-loop
 loop-again c =
-    let h = c .before .before .before .before .before .before .loop-test .taken in
-    (fill-turn _ _ _ _ _ _ _ _ (c .before .before .before .before .before .before .before .loop .inv .0) h (omega (arith, c .before .before .before .before .before .before .before .before .before .before .pre .1)) (c .before .before .put-word .ensures) (c .before .before .before .before .cluster-of .ensures ∙ ap cluster (c .before .before .before .before .before .record-at .ensures)), omega (arith, h))
+    let h = c .before .before .loop-test .taken in
+    (fill-turn _ _ _ _ _ _ _ _ (c .before .before .before .loop .inv .0) h (omega (arith, c .before .before .before .before .before .before .pre .1)) refl (c .cluster-of .ensures ∙ ap cluster (c .before .record-at .ensures)), omega (arith, h))
 
 same-length : tie.Need-same-length Inv-loop μ-loop
 same-length c = c .before .loop .inv .0 .long
@@ -60,8 +72,12 @@ put-states-spec =
     add-k
     record-at-requires
     cluster-of-requires
-    mul-put-word
-    put-word-requires
+    mul-i
+    cast-i
+    add-i
+    sub-i
+    mul-work
+    slice-write-work
     loop-less
     loop-again
     same-length

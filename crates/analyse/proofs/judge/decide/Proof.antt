@@ -1,6 +1,6 @@
 -- `decide` meets its contract. Assumes nothing.
 use Prim.Native.Nat.{_-_, _≤_}
-use mathlib.Core.Path.{_≡_, _∙_}
+use mathlib.Core.Path.{_≡_, refl, _∙_}
 use Rattle.analyse.specs.Filling.{Filling}
 use Rattle.analyse.specs.Judge.{leftWord}
 use Rattle.analyse.proofs.FillLaws.{fill-start, fill-turn}
@@ -24,17 +24,29 @@ add-k c = omega arith
 left-requires : tie.Need-left-requires Inv-loop μ-loop
 left-requires c κs = (judging-now _ _ _ _ _ _ _ (c .before .before .loop .inv .0) (c .before .before .before .before .before .before .pre), omega arith, omega (arith, c .before .loop-test .taken))
 
-put-word-requires : tie.Need-put-word-requires Inv-loop μ-loop
-put-word-requires c κs = (omega arith, omega (arith, c .before .before .before .loop-test .taken), omega (arith, c .before .before .before .before .before .before .before .before .pre .sized .work-long, c .before .before .before .before .loop .inv .0 .long))
+cast-i : tie.Need-cast-i Inv-loop μ-loop
+cast-i c = omega arith
+
+add-i : tie.Need-add-i Inv-loop μ-loop
+add-i c = omega arith
+
+sub-i : tie.Need-sub-i Inv-loop μ-loop
+sub-i c = omega arith
+
+mul-work : tie.Need-mul-work Inv-loop μ-loop
+mul-work c = omega arith
+
+slice-write-work : tie.Need-slice-write-work Inv-loop μ-loop
+slice-write-work c = omega (arith, c .before .before .loop-test .taken, c .before .before .before .before .before .before .before .pre .sized .work-long, c .before .before .before .loop .inv .0 .long)
 
 loop-less : tie.Need-loop-less Inv-loop μ-loop
 loop-less c = omega arith
 
 loop-again : tie.Need-loop-again Inv-loop μ-loop
 loop-again c =
-    let h = c .before .before .before .before .before .before .loop-test .taken in
-    let g = c .before .before .before .before .before .before .before .loop .inv .0 in
-    (fill-turn _ _ _ _ _ _ _ _ g h (omega (arith, c .before .before .before .before .before .before .before .before .before .before .before .pre .sized .work-long)) (c .before .before .put-word .ensures) (c .before .before .before .before .left .ensures ∙ left-same _ _ _ _ _ _ _ g _), omega (arith, h))
+    let h = c .before .before .loop-test .taken in
+    let g = c .before .before .before .loop .inv .0 in
+    (fill-turn _ _ _ _ _ _ _ _ g h (omega (arith, c .before .before .before .before .before .before .before .pre .sized .work-long)) refl (c .left .ensures ∙ left-same _ _ _ _ _ _ _ g _), omega (arith, h))
 
 same-length : tie.Need-same-length Inv-loop μ-loop
 same-length c = c .before .loop .inv .0 .long
@@ -53,7 +65,11 @@ decide-spec =
     loop-holds
     add-k
     left-requires
-    put-word-requires
+    cast-i
+    add-i
+    sub-i
+    mul-work
+    slice-write-work
     loop-less
     loop-again
     same-length

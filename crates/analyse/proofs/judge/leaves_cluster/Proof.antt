@@ -3,7 +3,8 @@ use native.Mathlib.Omega.{arith}
 use mathlib.Core.Path.{ap, _∙_}
 use Prim.Native.Nat.{ℕ, _%_}
 use Rattle.records.specs.Record.{isSink}
-use Rattle.analyse.proofs.JudgeLaws.{leaves-none, leaves-sink, leaves-test, target-fits}
+use Rattle.analyse.proofs.JudgeLaws.{leaves-none, leaves-sink, leaves-test}
+use Rattle.analyse.proofs.PushLaws.{target-fits}
 use borrow.Author.Needs.{needs}
 use Rattle.analyse.proofs.judge.leaves_cluster.Statement.{statement}
 use Rattle.analyse.proofs.judge.leaves_cluster.Tie as tie

@@ -1,6 +1,8 @@
 -- `member` meets its contract. Assumes nothing.
+use Prim.Native.Nat.{_+_, _-_, _*_}
 use native.Mathlib.Omega.{arith}
-use mathlib.Core.Path.{ap, _∙_}
+use mathlib.Core.Path.{refl, ap, _∙_}
+use lib.ListN.{length-set}
 use Rattle.records.specs.Record.{isOut}
 use Rattle.analyse.proofs.SlotLaws.{resized}
 use Rattle.analyse.proofs.OlderLaws.{member-room, member-out, member-plain}
@@ -8,50 +10,64 @@ use borrow.Author.Needs.{needs}
 use Rattle.analyse.proofs.walk.member.Statement.{statement}
 use Rattle.analyse.proofs.walk.member.Tie as tie
 
-mul-put-word : tie.Need-mul-put-word
-mul-put-word c = search needs
+mul-i : tie.Need-mul-i
+mul-i c = omega arith
 
-add-put-word : tie.Need-add-put-word
-add-put-word c = search needs
+add-i : tie.Need-add-i
+add-i c = omega arith
 
-put-word-requires : tie.Need-put-word-requires
-put-word-requires c κs = search needs
+sub-i : tie.Need-sub-i
+sub-i c = omega (arith, c .before .before .before .pre .1 .0)
+
+add-work : tie.Need-add-work
+add-work c = search needs
+
+mul-work : tie.Need-mul-work
+mul-work c = omega arith
+
+slice-write-work : tie.Need-slice-write-work
+slice-write-work c = let s = c .before .before .before .pre in omega (arith, s .0 .work-long, s .1 .0, s .1 .1)
 
 record-at-requires : tie.Need-record-at-requires
-record-at-requires c κs = search needs
+record-at-requires c κs = let s = c .before .before .before .pre in (s .1 .0, s .1 .1, s .0 .room .recs-long)
 
 is-out-requires : tie.Need-is-out-requires
 is-out-requires c κs = search needs
 
 push-kids-requires : tie.Need-push-kids-requires
 push-kids-requires c κs =
-    let o = c .before .before .before .before .before .before .before .before .before .before .before in
+    let o = c .before .before .before .before .before .before .before in
     let s = o .pre in
-    (resized (s .0) (c .before .before .before .before .before .before .put-word .kept .1 .0), (s .1 .0, s .1 .1, omega arith, s .1 .3, member-room _ _ _ _ (s .0) _ (s .1 .0) (s .1 .1) (o .args .d) _ _ (c .before .before .is-out .ensures ∙ ap isOut (c .before .before .before .record-at .ensures)) (c .before .if1 .taken) (s .1 .4)))
+    (resized (s .0) (length-set (o .args .work .now) (9 * o .args .n + o .args .x - 1) (o .args .d + 4096)), (s .1 .0, s .1 .1, omega arith, s .1 .3, member-room _ _ _ _ (s .0) _ (s .1 .0) (s .1 .1) (o .args .d) _ _ (c .before .before .is-out .ensures ∙ ap isOut (c .before .before .before .record-at .ensures)) (c .before .if1 .taken) (s .1 .4)))
 
 same-length : tie.Need-same-length
-same-length c = search needs
+same-length c =
+    let a = c .before .before .before .before .before .before .before .before .before .before .args in
+    c .before .before .push-kids .kept .1 .1 .1 .0 ∙ length-set (a .work .now) (9 * a .n + a .x - 1) (a .d + 4096)
 
 returns : tie.Need-returns
 returns c =
-    let s = c .before .before .before .before .before .before .before .before .before .before .before .before .before .before .pre in
-    member-out _ _ _ _ (s .0) _ (s .1 .0) (s .1 .1) _ _ _ (c .before .before .before .before .before .is-out .ensures ∙ ap isOut (c .before .before .before .before .before .before .record-at .ensures)) _ (c .before .before .before .before .before .before .before .before .before .put-word .ensures) (c .before .before .before .before .if1 .taken) _ _ (c .before .before .push-kids .ensures .0) (c .before .before .push-kids .ensures .1)
+    let s = c .before .before .before .before .before .before .before .before .before .before .pre in
+    member-out _ _ _ _ (s .0) _ (s .1 .0) (s .1 .1) _ _ _ (c .before .before .before .before .before .is-out .ensures ∙ ap isOut (c .before .before .before .before .before .before .record-at .ensures)) _ refl (c .before .before .before .before .if1 .taken) _ _ (c .before .before .push-kids .ensures .0) (c .before .before .push-kids .ensures .1)
 
 same-length-2 : tie.Need-same-length-2
 same-length-2 c = search needs
 
 returns-2 : tie.Need-returns-2
 returns-2 c =
-    let s = c .before .before .before .before .before .before .before .before .before .before .pre in
-    member-plain _ _ _ _ (s .0) _ (s .1 .0) (s .1 .1) _ _ _ (c .before .is-out .ensures ∙ ap isOut (c .before .before .record-at .ensures)) _ (c .before .before .before .before .before .put-word .ensures) (c .if1 .left)
+    let s = c .before .before .before .before .before .before .pre in
+    member-plain _ _ _ _ (s .0) _ (s .1 .0) (s .1 .1) _ _ _ (c .before .is-out .ensures ∙ ap isOut (c .before .before .record-at .ensures)) _ refl (c .if1 .left)
 
 pub member-spec : {M : Type 1} → statement M
 member-spec =
     tie.close
     (tie.spec
-    mul-put-word
-    add-put-word
-    put-word-requires
+    mul-i
+    add-i
+    sub-i
+    add-work
+    mul-work
+    slice-write-work
     record-at-requires
     is-out-requires
     push-kids-requires
