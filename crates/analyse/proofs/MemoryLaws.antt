@@ -13,7 +13,8 @@ use Rattle.graph.specs.Numbers.{upd}
 use Rattle.graph.specs.Analysis.{Item, items}
 use Rattle.graph.proofs.NumberLaws.{upd-same, upd-other}
 use Rattle.rules.specs.Buffers.{recOf}
-use Rattle.rules.proofs.PlaceLaws.{rec-at, rec-put, rec-take}
+use Rattle.rules.proofs.PlaceLaws.{rec-put, rec-take}
+use Rattle.rules.proofs.BufferLaws.{recOf-get}
 use Rattle.analyse.specs.Memory.{area, sizeIn, Memory, memOf, itemOf, visitWords, inFront, withState, withLink, counting}
 
 -- ---- one word for each object
@@ -22,7 +23,7 @@ pub area-read : (n base : ℕ) (work : List ℕ) (x : ℕ) → 1 ≤ x → x ≤
 unfolding area
 area-read n base work x p q =
     let e : base + x - 1 ≡ base + (x - 1) = omega arith in
-    rw e (sym (getD-drop base work (x - 1) 0) ∙ rec-at n (drop base work) x p q)
+    rw e (sym (getD-drop base work (x - 1) 0) ∙ sym (recOf-get n (drop base work) x p q))
 
 pub area-put : (n base : ℕ) (work : List ℕ) (x v : ℕ) → 1 ≤ x → x ≤ n → base + n ≤ length work → (y : ℕ)
     → area n base (set work (base + x - 1) v) y ≡ upd (area n base work) x v y

@@ -13,7 +13,7 @@ use Rattle.graph.specs.Numbers.{bit}
 use Rattle.graph.proofs.NumberLaws.{bit-le}
 use Rattle.rules.specs.Buffers.{recOf, eachFrom}
 use Rattle.rules.proofs.PassLaws.{passFrom, pass-begin, pass-turn, pass-end}
-use Rattle.rules.proofs.PlaceLaws.{rec-at}
+use Rattle.rules.proofs.BufferLaws.{recOf-get}
 use Rattle.table.specs.Clusters.{clusterOf}
 use Rattle.choices.specs.Choices.{settled}
 use Rattle.analyse.specs.Memory.{area}
@@ -80,7 +80,7 @@ module _ (n : ℕ) (recs₀ work recs : List ℕ) (k loss clusters members : ℕ
   }
     where
       at : recOf n recs₀ (k + 1) ≡ getD recs₀ k 0
-      at = let e : k + 1 - 1 ≡ k = omega arith in sym (rec-at n recs₀ (k + 1) (omega arith) (omega arith)) ∙ ap (λ (i : ℕ). getD recs₀ i 0) e
+      at = let e : k + 1 - 1 ≡ k = omega arith in recOf-get n recs₀ (k + 1) (omega arith) (omega arith) ∙ ap (λ (i : ℕ). getD recs₀ i 0) e
 
       old : d ≡ clusterOf n recs₀ (k + 1)
       old = ds ∙ ap cluster (S .rest k (omega arith) ∙ sym at)

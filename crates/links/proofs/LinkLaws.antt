@@ -19,7 +19,8 @@ use Rattle.rules.specs.Buffers.{recOf, short, eachFrom, eachRecord, zeros}
 use Rattle.rules.proofs.StoreLaws.{recOf-zero}
 use Rattle.rules.proofs.BufferLaws.{zeros-from}
 use Rattle.rules.proofs.ListLaws.{recOf-above, recOf-each, drop-past}
-use Rattle.rules.proofs.PlaceLaws.{rec-at, rec-put, by-object}
+use Rattle.rules.proofs.PlaceLaws.{rec-put, by-object}
+use Rattle.rules.proofs.BufferLaws.{recOf-get}
 use Rattle.links.specs.Links.{topMember, linkedIn, linkedAt, nextMember, linkWord, links, linkable}
 use Rattle.links.specs.Linking.{firstAt, nextAt, Linking}
 use Rattle.links.proofs.MemberOrder.{top-le, top-up, top-own, next-is}
@@ -68,7 +69,7 @@ module _ (n : ℕ) (outs : Bool) (recs work : List ℕ) (x : ℕ) (most : n ≤ 
   cl = linkedAt outs n recs
 
   own : d ≡ cl x
-  own = is ∙ ap (linkedIn outs) (rec-at n recs x p q)
+  own = is ∙ ap (linkedIn outs) (sym (recOf-get n recs x p q))
 
   pub link-none : (b : Bool) → b ≡ within 1 n d → b ≡ false → Linking n cl work x
   unfolding nextMember
@@ -90,10 +91,10 @@ module _ (n : ℕ) (outs : Bool) (recs work : List ℕ) (x : ℕ) (most : n ≤ 
     some z = absurd (omega (arith, fits .0))
 
     here : getD work (x - 1) 0 ≡ recOf n work x
-    here = rec-at n work x p q
+    here = sym (recOf-get n work x p q)
 
     there : (l : List ℕ) → getD l (d - 1) 0 ≡ recOf n l d
-    there l = rec-at n l d (fits .0) (fits .1)
+    there l = sym (recOf-get n l d (fits .0) (fits .1))
 
     first-small : firstAt n work d < 4096
     first-small = omega (arith, L .first d some (fits .1), top-le cl d (x - 1))

@@ -25,9 +25,6 @@ upd-map f g o v x = go (eqb x o)
     go true = refl
     go false = refl
 
-pub rec-at : (n : ℕ) (l : List ℕ) (o : ℕ) → 1 ≤ o → o ≤ n → getD l (o - 1) 0 ≡ recOf n l o
-rec-at n l o p q = sym (recOf-get n l o p q)
-
 pub rec-put : (n : ℕ) (l : List ℕ) (o w : ℕ) → 1 ≤ o → o ≤ n → n ≤ length l → (x : ℕ) → recOf n (set l (o - 1) w) x ≡ upd (recOf n l) o w x
 unfolding recOf
 rec-put n l zero w p q r x = absurd (omega arith)
@@ -56,8 +53,8 @@ by-object n f l m e long rest h = ext-getD 0 m (eachFrom 1 n f l) (e ∙ sym (le
     go : (i : ℕ) → i < length m → Dec (i < n) → getD m i 0 ≡ getD (eachFrom 1 n f l) i 0
     go i p (yes q) =
         let s : suc i - 1 ≡ i = omega arith in
-        rw s at (rec-at n m (suc i) (omega arith) (omega arith) ∙ h (suc i) (omega arith) (omega arith)
-        ∙ ap (f (suc i)) (sym (rec-at n l (suc i) (omega arith) (omega arith))))
+        rw s at (sym (recOf-get n m (suc i) (omega arith) (omega arith)) ∙ h (suc i) (omega arith) (omega arith)
+        ∙ ap (f (suc i)) (recOf-get n l (suc i) (omega arith) (omega arith)))
         ∙ sym (get-each 1 n f l i 0 q (omega arith) ∙ ap (λ (y : ℕ). f y (getD l i 0)) (omega arith))
     go i p (no q) =
         let s : n + (i - n) ≡ i = omega (arith, q) in

@@ -20,7 +20,8 @@ use Rattle.graph.proofs.FlagLaws.{setFlag-same, setFlag-other, setFlag-apart}
 use Rattle.rules.specs.Buffers.{recOf, eight, usedWords, eachFrom, eachRecord}
 use Rattle.rules.specs.View.{target, view}
 use Rattle.rules.proofs.ListLaws.{length-each, drop-past, recOf-above}
-use Rattle.rules.proofs.PlaceLaws.{rec-at, rec-put, by-object}
+use Rattle.rules.proofs.PlaceLaws.{rec-put, by-object}
+use Rattle.rules.proofs.BufferLaws.{recOf-get}
 use Rattle.sweep.specs.Sweep.{unflaggedRecord, unflagged}
 use Rattle.sweep.proofs.UnflaggedLaws.{unflagged-cluster, rec-unflagged}
 use Rattle.walk.specs.Marks.{bitOf, flagsOf, putMark, flagged}
@@ -159,7 +160,7 @@ module _ (n : ℕ) (recs : List ℕ) (f : Flag) (o : ℕ) (b : Bool) (long : n �
   new = putFlag (bitOf f) b (recOf n recs o)
 
   put-is : putMark f o b recs ≡ set recs (o - 1) new
-  put-is = ap (λ (r : ℕ). set recs (o - 1) (putFlag (bitOf f) b r)) (rec-at n recs o (io .0) (io .1))
+  put-is = ap (λ (r : ℕ). set recs (o - 1) (putFlag (bitOf f) b r)) (sym (recOf-get n recs o (io .0) (io .1)))
 
   pub length-mark : length (putMark f o b recs) ≡ length recs
   length-mark = ap length put-is ∙ length-set recs (o - 1) new

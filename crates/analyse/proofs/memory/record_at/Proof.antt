@@ -1,5 +1,6 @@
 -- `record_at` meets its contract. Assumes nothing.
-use Rattle.rules.proofs.PlaceLaws.{rec-at}
+use mathlib.Core.Path.{sym}
+use Rattle.rules.proofs.BufferLaws.{recOf-get}
 use borrow.Author.Needs.{needs}
 use Rattle.analyse.proofs.memory.record_at.Statement.{statement}
 use Rattle.analyse.proofs.memory.record_at.Tie as tie
@@ -14,7 +15,7 @@ shared-slice-read-result : tie.Need-shared-slice-read-result
 shared-slice-read-result c = search needs
 
 returns : tie.Need-returns
-returns c = rec-at _ _ _ (c .before .pre .0) (c .before .pre .1)
+returns c = sym (recOf-get _ _ _ (c .before .pre .0) (c .before .pre .1))
 
 pub record-at-spec : {M : Type 1} → statement M
 record-at-spec =
