@@ -12,7 +12,6 @@ use borrow.Author.Tests.{ltb-false, ne-eqb}
 use Rattle.layout.specs.declared.answers.Control.{Control}
 use Rattle.layout.specs.Limits.{slotsLen, workLen, mapLen}
 use Rattle.layout.specs.ControlRecord.{badControl}
-use Rattle.layout.proofs.BoolLaws.{or-split}
 use Rattle.records.specs.Record.{isMarked, isReached, cluster}
 use Rattle.layout.specs.Refusal.{first}
 use Rattle.layout.proofs.RefusalLaws.{outcome-zero, outcome-number}
@@ -32,14 +31,13 @@ use Rattle.rules.proofs.ViewLaws.{view-ranged}
 use Rattle.table.specs.Room.{Accepted, heapShort}
 use Rattle.wellformed.specs.Check.{heapTests}
 use Rattle.wellformed.proofs.CheckLaws.{accepted-sane}
-use Rattle.wellformed.proofs.CheckLaws as Check
 use Rattle.sweep.specs.Sweep.{unflagged, markedAt, markedCount, membersMarked, AfterSweep, Marked}
 use Rattle.sweep.proofs.MarkLaws.{unflagged-members, members-marked}
 use Rattle.sweep.proofs.SweptLaws.{sweep-ruled, kept-ruled}
 use Rattle.walk.specs.Marks.{flagsOf}
 use Rattle.walk.specs.State.{Traceable, Walked}
 use Rattle.walk.specs.Walk.{walkTests, AfterWalk}
-use Rattle.walk.proofs.AcceptLaws.{trace-able}
+use Rattle.walk.proofs.AcceptLaws.{trace-able, accepted}
 use Rattle.collect.specs.Call.{kindOf, walked}
 use Rattle.walk.proofs.MarkLaws.{length-same, cluster-same}
 
@@ -143,10 +141,7 @@ module _ (by : Bool) (c : Control) (recs slots roots work map : List ℕ) where
       -- no test holds
       fit : Accepted c recs slots roots work × (m ≤ length map)
       unfolding short
-      fit =
-          let r = or-split (ltb (length work) (workLen n)) (ltb (length map) m) in
-          let p = Check.accepted c recs slots roots _ (sym (w .refusal) ∙ z) work (λ f. ltb-false _ _ (r f .0)) in
-          (p .0, ltb-false _ _ (r (p .1) .1))
+      fit = let p = accepted by c recs slots roots work (ltb (length map) m) (workLen n) k refl (w .refusal) z in (p .0, ltb-false _ _ (p .1))
 
       pub collected : (scanned : ℕ) → scanned ≡ markedCount n recs₁ → (recs₂ : List ℕ) → recs₂ ≡ cond by (membersMarked n recs₁) recs₁ → length recs₂ ≡ length recs₁
           → (kept : ℕ) → kept ≡ cond by (markedCount n recs₂) scanned → (recs₃ slots₃ map₃ : List ℕ) (freed : ℕ) → AfterSweep n recs₂ slots map recs₃ slots₃ map₃ freed

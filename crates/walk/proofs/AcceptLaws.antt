@@ -75,13 +75,17 @@ module _ (by : Bool) (c : Control) (recs slots roots work : List ℕ) (rest : Bo
         record { refusal = q ∙ tests-are w e; records = rw z refl; words = rw z refl; walked = λ y. absurd (d y) }
 
     module _ (z : k ≡ 0) where
-      pub accepted : Accepted c recs slots roots work
+      -- no test holds: the heap is accepted, and no slice besides is too short
+      pub accepted : Accepted c recs slots roots work × (rest ≡ false)
       unfolding short
-      accepted = Check.accepted c recs slots roots _ (sym (q ∙ tests-are w e) ∙ z) work (λ f. ltb-false _ _ (or-split (ltb (length work) (workLen (c .n))) rest f .0)) .0
+      accepted =
+          let r = or-split (ltb (length work) (workLen (c .n))) rest in
+          let p = Check.accepted c recs slots roots _ (sym (q ∙ tests-are w e) ∙ z) work (λ f. ltb-false _ _ (r f .0)) in
+          (p .0, r (p .1) .1)
 
       pub fits : w ≤ length work
       unfolding workLen
-      fits = omega (arith, e, accepted .work-long)
+      fits = omega (arith, e, accepted .0 .work-long)
 
       pub walked : (recs′ ys work′ : List ℕ) → Walked by (c .n) (startsOf c recs slots roots) recs slots recs′
           → length ys ≡ length (midOf 0 (w - 0) work) → work′ ≡ zeros w (putMid 0 (w - 0) work ys) → AfterWalk by c recs slots roots work rest 0 recs′ work′
@@ -89,7 +93,7 @@ module _ (by : Bool) (c : Control) (recs slots roots work : List ℕ) (rest : Bo
       walked recs′ ys work′ t l f =
           record {
             refusal = sym z ∙ q ∙ tests-are w e;
-            records = flagged-is (c .n) recs recs′ (endFlags by c recs slots roots) (accepted .room .recs-long) (t .kept) (t .flags-now);
-            words = zeros-lent w (workLen (c .n)) work ys work′ e (omega (arith, accepted .work-long)) l f;
+            records = flagged-is (c .n) recs recs′ (endFlags by c recs slots roots) (accepted .0 .room .recs-long) (t .kept) (t .flags-now);
+            words = zeros-lent w (workLen (c .n)) work ys work′ e (omega (arith, accepted .0 .work-long)) l f;
             walked = λ y. t;
           }

@@ -31,5 +31,5 @@ pub record AfterWalk (by : Bool) (c : Control) (recs slots roots work : List ℕ
   pub refusal : k ≡ first (walkTests c recs slots roots work rest)
   pub records : recs′ ≡ cond (eqb k 0) (flagged (c .n) (endFlags by c recs slots roots) recs) recs
   pub words : work′ ≡ cond (eqb k 0) (zeros (workLen (c .n)) work) work
-  -- the first two in the terms of the walk
+  -- the records of an accepted walk, in its own terms
   pub walked : k ≡ 0 → Walked by (c .n) (startsOf c recs slots roots) recs slots recs′

@@ -40,7 +40,7 @@ trace-requires c κs =
     let h = c .before .before .before .heap-refusal in
     let w = c .before .before .before .before .before .work-len in
     let s = c .before .before .before .before .before .before .before .before .before .before in
-    let a = accepted (s .args .by) _ _ _ _ (now (s .args .work)) (s .args .rest) _ _ (w .ensures) (h .ensures) (c .before .before .if1 .left) in
+    let a = accepted (s .args .by) _ _ _ _ (now (s .args .work)) (s .args .rest) _ _ (w .ensures) (h .ensures) (c .before .before .if1 .left) .0 in
     (trace-able _ _ _ _ _ (accepted-part _ _ _ _ _ a _ (w .ensures)), a .roots-long)
 
 zero-requires : tie.Need-zero-requires
