@@ -144,6 +144,12 @@ writer=$!
 refused "$out/pipe: Illegal seek" "$out/pipe"
 kill "$writer" 2>/dev/null || true
 wait "$writer" || true
-refused 'usage: replay LIST [LIST]'
-refused 'usage: replay LIST [LIST]' examples/trials.calls examples/trials.calls examples/trials.calls
+
+# How it is used: for no list and for three on standard error, for --help on standard output.
+usage='usage: replay LIST [LIST]
+Runs one call list plainly and as it is listed, or two call lists, and reports in two columns what was answered and what survives.'
+refused "$usage"
+refused "$usage" examples/trials.calls examples/trials.calls examples/trials.calls
+printf '%s\n' "$usage" | cmp - <("$replay" --help) || die "--help"
+
 echo "replay: ok"

@@ -1,7 +1,10 @@
 #!/usr/bin/env bash
-# The stored reports on the example levels are those of expected.c, which runs the calls by the C reference and the plain heap. That the
-# programs replay and levels print them is for rt, which runs both.
+# The stored reports on the example levels are those of the program replay, and those of expected.c, which runs the calls by the C
+# reference and the plain heap. That on trials.calls is stored beside the program, and rt compares it with what the program prints.
+#
+#   tests/replay/stored.sh PROGRAM
 set -euo pipefail
+replay=$(realpath -- "$1")
 cd "$(dirname "$0")/../.."
 out=build/replay
 mkdir -p "$out"
@@ -15,15 +18,18 @@ flags=(-std=c11 -O2 -Wall -Wextra -I include -I tests/reference)
 gcc "${flags[@]}" -o "$out/expected" tests/replay/expected.c tests/reference/reference.c tests/reference/plain.c
 gcc "${flags[@]}" -o "$out/level" tests/replay/level.c
 
-# The programs read copies of the lists.
-for list in crates/replay/data/*.calls crates/levels/data/*.calls; do
-    cmp "$list" "examples/$(basename "$list")" || die "$list is not the list of examples/"
-done
+cmp crates/replay/data/trials.calls examples/trials.calls || die "the program reads another list than examples/trials.calls"
 "$out/level" | cmp - examples/large.calls || die "level.c writes another list than examples/large.calls"
 
-"$out/expected" examples/trials.calls | cmp - crates/replay/stdout || die "trials.calls"
-{
-    "$out/expected" examples/switch-412.calls examples/switch-415.calls
-    "$out/expected" examples/large.calls
-} | cmp - crates/levels/stdout || die "the switch and the large level"
+# stored REPORT LIST [LIST]: expected.c and replay both print this report.
+stored() {
+    local report=$1
+    shift
+    "$out/expected" "$@" | cmp - "$report" || die "expected.c on $*"
+    "$replay" "$@" | cmp - "$report" || die "replay on $*"
+}
+
+stored crates/replay/stdout examples/trials.calls
+stored tests/replay/stored/switch.txt examples/switch-412.calls examples/switch-415.calls
+stored tests/replay/stored/large.txt examples/large.calls
 echo "stored reports: ok"

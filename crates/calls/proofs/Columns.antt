@@ -2,23 +2,26 @@
 -- Assumes nothing.
 use Prim.Native.Nat.{ℕ, zero, suc, _*_, _-_, _≤_}
 use mathlib.Core.Path.{_≡_, refl, sym, ap, _∙_, subst}
-use mathlib.Core.Bool.{true}
+use mathlib.Core.Bool.{true, false, not}
 use mathlib.Core.List.{List, [], _∷_}
+use native.Mathlib.Decide.{ℕ-discrete}
 use native.Mathlib.Omega.{arith}
-use lib.ListN.{length, take, drop}
+use lib.Dec.{eqb}
+use lib.ListN.{length, take, drop, getD, set}
+use borrow.Author.Tests.{eq-eqb, ne-eqb, eqb-false}
 use Rattle.layout.specs.Limits.{slotsLen, workLen, mapLen}
 use Rattle.records.specs.Record as R
 use Rattle.layout.specs.Field.{field}
 use Rattle.layout.specs.ControlRecord.{newControl}
 use Rattle.rules.specs.Buffers.{recOf, usedWords}
-use Rattle.rules.specs.Create as Create
 use Rattle.rules.specs.Show as Show
 use Rattle.rules.specs.Collect as Collect
-use Rattle.rules.specs.Calls as call
-use Rattle.rules.specs.Calls.{Call, Answer, gave, gotWord, gotWords, did, swept}
-use Rattle.rules.specs.Plain.{Plain, isFree, isSink, cellAt, wordsIn, plainSlots, plainCreated, plainStep, answer}
+use Rattle.rules.specs.Calls as rule
+use Rattle.rules.specs.Calls.{Answer, gave, gotWord, gotWords, did, swept}
+use Rattle.rules.specs.Plain.{Plain, Played, isFree, isSink, cellAt, wordsIn, plainSlots, plainCreated, plainStep, answer}
 use Rattle.rules.specs.Steps.{State, created, step}
 use Rattle.rules.specs.PlainOf.{plainOf}
+use Rattle.rules.proofs.BoolLaws.{or-true}
 use Rattle.rules.proofs.Invariant.{Inv}
 use Rattle.rules.proofs.Abstraction.{at-free, at-sink, at-words}
 use Rattle.rules.proofs.Simulation.{all-by, used-length, widths}
@@ -27,13 +30,14 @@ use Rattle.rules.proofs.CreateLaws.{accepted, zeroed-inv, zeroed-plain}
 use Rattle.rules.proofs.Calls.{step-inv}
 use Rattle.rules.proofs.Frames.{analyse-within, collect-within}
 use Rattle.rules.proofs.Demand3.{LentOne, sizes-kept, step-same, same-slots}
-use Rattle.lines.specs.declared.Line.{Line}
-use Rattle.lines.specs.declared.Line.the-variants as line
+use Rattle.lines.specs.declared.kinds.Call.{Call}
+use Rattle.lines.specs.Kinds as kind
+use Rattle.lines.specs.Kinds.{number, withNumber}
+use Rattle.calls.specs.declared.Ran.{Ran}
 use Rattle.calls.specs.Run as Run
 use Rattle.calls.specs.Run.{Outcome, run}
-use Rattle.calls.specs.Compare.{plainLine, isCompared, agrees}
-use Rattle.calls.specs.Columns.{next, NoCreate, EachNoCreate, Lent, SameHeap, shown, SameOutput, Columns, SameColumns}
-use Rattle.calls.proofs.CompareLaws.{agree-by}
+use Rattle.calls.specs.Compare.{plainCall, isCompared, agrees}
+use Rattle.calls.specs.Columns.{next, NoCreate, Lent, SameHeap, shown, SameOutput, Columns, creates, SameColumns}
 
 -- the heap that the buffers of a column hold
 abbrev stateOf : Outcome → State
@@ -83,11 +87,11 @@ same-heap n r P x y H K = record {
 
 -- ---- a call in one column
 
-record Called (n r : ℕ) (call : Call) (P : Plain) (x x′ : Outcome) : Type 0 where
+record Called (n r : ℕ) (call : rule.Call) (P : Plain) (x x′ : Outcome) : Type 0 where
   answers : step call (stateOf x) .answers ≡ plainStep call P .answers
   held : Held n r (plainStep call P .after) x′
 
-called : (n r : ℕ) (call : Call) (P : Plain) (x x′ : Outcome) → Held n r P x → stateOf x′ ≡ step call (stateOf x) .after
+called : (n r : ℕ) (call : rule.Call) (P : Plain) (x x′ : Outcome) → Held n r P x → stateOf x′ ≡ step call (stateOf x) .after
     → length (x′ .work) ≡ length (x .work) → length (x′ .map) ≡ length (x .map) → LentOne n call → Called n r call P x x′
 called n r call P x x′ H e w m h =
     let one : LentOne (x .answer .control .n) call = subst (λ (k : ℕ). LentOne k call) (sym (H .objects)) h in
@@ -104,47 +108,9 @@ called n r call P x x′ H e w m h =
       };
     }
 
--- a line that is no call
-idle : (n r : ℕ) (P : Plain) (x : Outcome) → Held n r P x → Held n r P (Run.idle (x .answer .control) (x .records) (x .slots) (x .roots) (x .work) (x .map))
-unfolding Run.idle
-idle n r P x H = record { inv = H .inv; objects = H .objects; roots = H .roots; plain = H .plain; lent = H .lent }
+-- ---- show
 
--- ---- the parts of answers
-
-abbrev number : List Answer → ℕ
-number [] = 0
-number (gave m x ∷ l) = m
-number (gotWord m x ∷ l) = m
-number (gotWords m x ∷ l) = m
-number (did m ∷ l) = m
-number (swept m f k map ∷ l) = m
-
-abbrev value : List Answer → ℕ
-value [] = 0
-value (gave m x ∷ l) = x
-value (gotWord m x ∷ l) = x
-value (gotWords m x ∷ l) = 0
-value (did m ∷ l) = 0
-value (swept m f k map ∷ l) = f
-
-abbrev keptIn : List Answer → ℕ
-keptIn [] = 0
-keptIn (gave m x ∷ l) = 0
-keptIn (gotWord m x ∷ l) = 0
-keptIn (gotWords m x ∷ l) = 0
-keptIn (did m ∷ l) = 0
-keptIn (swept m f k map ∷ l) = k
-
-abbrev words : List Answer → List ℕ
-words [] = []
-words (gave m x ∷ l) = []
-words (gotWord m x ∷ l) = []
-words (gotWords m x ∷ l) = x
-words (did m ∷ l) = []
-words (swept m f k map ∷ l) = map
-
--- ---- show: where the words stand, by the refusal and the words
-
+-- where the words of number i stand, by the refusal
 abbrev startBy : ℕ → ℕ → ℕ
 startBy i zero = 8 * (i - 1)
 startBy i (suc m) = 0
@@ -169,156 +135,208 @@ module _ (s : State) (I : Inv s) (i : ℕ) where
   unfolding Show.show
   show-words = all-by (λ (o : Show.Outcome). take (o .answer .length) (drop (o .answer .start) (s .slots)) ≡ o .words) _ _ _ (λ z. used-there i) (λ m. refl)
 
--- ---- a line in both columns
+-- ---- what a call tells
 
-record Paired (n r : ℕ) (l : Line) (x y : Outcome) : Type 0 where
+-- the refusal, the two values that are compared, and the words shown or the freed map
+abbrev Parts : Type 0
+Parts = ℕ × ℕ × ℕ × List ℕ
+
+-- those of an answer; i is the number that a show names
+abbrev parts : ℕ → List Answer → Parts
+parts i [] = (0, 0, 0, [])
+parts i (gave m x ∷ l) = (m, x, 0, [])
+parts i (gotWord m x ∷ l) = (m, x, 0, [])
+parts i (gotWords m x ∷ l) = (m, startBy i m, length x, x)
+parts i (did m ∷ l) = (m, 0, 0, [])
+parts i (swept m f k map ∷ l) = (m, f, k, map)
+
+-- the outcome has the parts p
+record Tells (n : ℕ) (l : Call) (p : Parts) (o : Outcome) : Type 0 where
+  refusal : o .answer .refusal ≡ p .0
+  first : o .answer .a ≡ p .1
+  second : o .answer .b ≡ p .2
+  words : l .kind ≡ kind.show → shown o ≡ p .3
+  freed : l .kind ≡ kind.collect → take (mapLen n) (o .map) ≡ p .3
+
+-- a column after a call that the plain heap plays as R
+record Column (n r : ℕ) (l : Call) (R : Played Plain) (o : Outcome) : Type 0 where
+  tells : Tells n l (parts (number 0 l) (R .answers)) o
+  held : Held n r (R .after) o
+
+column : (n r : ℕ) (l : Call) (q : rule.Call) (P : Plain) (x o : Outcome) → Called n r q P x o → Tells n l (parts (number 0 l) (step q (stateOf x) .answers)) o
+    → Column n r l (plainStep q P) o
+column n r l q P x o C T = record { tells = subst (λ (a : List Answer). Tells n l (parts (number 0 l) a) o) (C .answers) T; held = C .held }
+
+-- ---- a call in one column, by its kind
+
+-- the call with another kind
+abbrev ofKind : Call → ℕ → Call
+ofKind l k = record { kind = k; count = l .count; numbers = l .numbers }
+
+module _ (n r : ℕ) (P : Plain) (l : Call) (x : Outcome) (H : Held n r P x) where
+  -- a call that neither shows nor collects
+  simple : (k : ℕ) (q : rule.Call) → eqb k kind.collect ≡ false → stateOf (next (ofKind l k) x) ≡ step q (stateOf x) .after
+      → length (next (ofKind l k) x .work) ≡ length (x .work) → length (next (ofKind l k) x .map) ≡ length (x .map) → LentOne n q
+      → (next (ofKind l k) x .answer .refusal, next (ofKind l k) x .answer .a, next (ofKind l k) x .answer .b, shown (next (ofKind l k) x)) ≡ parts (number 0 l) (step q (stateOf x) .answers)
+      → Column n r (ofKind l k) (plainStep q P) (next (ofKind l k) x)
+  simple k q d s w m h e =
+      column n r (ofKind l k) q P x _ (called n r q P x _ H s w m h)
+      (record {
+        refusal = ap (λ (p : Parts). p .0) e;
+        first = ap (λ (p : Parts). p .1) e;
+        second = ap (λ (p : Parts). p .2) e;
+        words = λ _. ap (λ (p : Parts). p .3) e;
+        freed = λ z. absurd (eqb-false k kind.collect d z);
+      })
+
+  allocated : Column n r (ofKind l kind.allocate) (plainStep (rule.allocate (number 0 l)) P) (next (ofKind l kind.allocate) x)
+  unfolding next run Run.allocate step answer
+  allocated = simple kind.allocate (rule.allocate _) refl refl refl refl tt refl
+
+  was-read : Column n r (ofKind l kind.read) (plainStep (rule.read (number 0 l) (number 1 l)) P) (next (ofKind l kind.read) x)
+  unfolding next run Run.read step answer
+  was-read = simple kind.read (rule.read _ _) refl refl refl refl tt refl
+
+  was-shown : Column n r (ofKind l kind.show) (plainStep (rule.show (number 0 l)) P) (next (ofKind l kind.show) x)
+  unfolding next run Run.show step answer
+  was-shown =
+      column n r (ofKind l kind.show) (rule.show _) P x _ (called n r (rule.show _) P x _ H refl refl refl tt)
+      (record {
+        refusal = refl;
+        first = show-start (stateOf x) (H .inv) _;
+        second = show-length (stateOf x) (H .inv) _;
+        words = λ _. show-words (stateOf x) (H .inv) _;
+        freed = λ z. absurd (eqb-false kind.show kind.collect refl z);
+      })
+
+  written : Column n r (ofKind l kind.write) (plainStep (rule.write (number 0 l) (number 1 l) (number 2 l)) P) (next (ofKind l kind.write) x)
+  unfolding next run Run.write step answer
+  written = simple kind.write (rule.write _ _ _) refl refl refl refl tt refl
+
+  root-set : Column n r (ofKind l kind.root) (plainStep (rule.setRoot (number 0 l) (number 1 l)) P) (next (ofKind l kind.root) x)
+  unfolding next run Run.setRoot step answer
+  root-set = simple kind.root (rule.setRoot _ _) refl refl refl refl tt refl
+
+  sink-declared : Column n r (ofKind l kind.sink) (plainStep (rule.declareSink (number 0 l)) P) (next (ofKind l kind.sink) x)
+  unfolding next run Run.declareSink step answer
+  sink-declared = simple kind.sink (rule.declareSink _) refl refl refl refl tt refl
+
+  -- a collection of either kind: the plain heap does not look at it
+  collected : (way : Collect.Kind)
+      → Column n r (ofKind l kind.collect) (plainStep (rule.collect Collect.plainly [] []) P) (Run.collect (x .answer .control) (x .records) (x .slots) (x .roots) (x .work) (x .map) way)
+  unfolding Run.collect step answer plainStep
+  collected way =
+      let f = collect-within way (x .answer .control) (x .records) (x .slots) (x .roots) (x .work) (x .map) in
+      let C = called n r (rule.collect way (x .work) (x .map)) P x _ H refl (f .2 .0) (f .3 .0) (H .lent .0, H .lent .1, tt) in
+      column n r (ofKind l kind.collect) (rule.collect way (x .work) (x .map)) P x _ C
+      (record {
+        refusal = refl;
+        first = refl;
+        second = refl;
+        words = λ z. absurd (eqb-false kind.collect kind.show refl z);
+        freed = λ _. ap (λ (k : ℕ). take (mapLen k) (Collect.collect way (x .answer .control) (x .records) (x .slots) (x .roots) (x .work) (x .map) .map)) (sym (H .objects));
+      })
+
+  -- the outcome of a line that makes no call
+  abbrev same : Outcome
+  same = Run.idle (x .answer .control) (x .records) (x .slots) (x .roots) (x .work) (x .map)
+
+  idle : Held n r P same
+  unfolding Run.idle
+  idle = record { inv = H .inv; objects = H .objects; roots = H .roots; plain = H .plain; lent = H .lent }
+
+  idled : (l .kind ≡ kind.collect → ⊥) → next l x ≡ same → Column n r l (record { answers = []; after = P }) (next l x)
+  unfolding Run.idle
+  idled d e = rw e (record { tells = record { refusal = refl; first = refl; second = refl; words = λ _. refl; freed = λ z. absurd (d z) }; held = idle })
+
+-- ---- a call in both columns
+
+record Paired (n r : ℕ) (l : Call) (x y : Outcome) : Type 0 where
   after : Plain
-  agreed : agrees l (next l x .answer) (next (plainLine l) y .answer) ≡ true
-  output : SameOutput n l (next l x) (next (plainLine l) y)
+  agreed : agrees l (next l x .answer) (next (plainCall l) y .answer) ≡ true
+  output : SameOutput n l (next l x) (next (plainCall l) y)
   first : Held n r after (next l x)
-  second : Held n r after (next (plainLine l) y)
+  second : Held n r after (next (plainCall l) y)
 
-module _ (n r : ℕ) (P : Plain) (x y : Outcome) (H : Held n r P x) (K : Held n r P y) where
-  allocated : (width : ℕ) → Paired n r (line.Allocate width) x y
-  unfolding next run plainLine Run.allocate step answer
-  allocated width =
-      let a = called n r (call.allocate width) P x (next (line.Allocate width) x) H refl refl refl tt in
-      let b = called n r (call.allocate width) P y (next (line.Allocate width) y) K refl refl refl tt in
-      let e = a .answers ∙ sym (b .answers) in
-      record { after = plainStep (call.allocate width) P .after; agreed = agree-by (line.Allocate width) (next (line.Allocate width) x .answer) (next (line.Allocate width) y .answer) (ap number e) (ap value e) refl; output = tt; first = a .held; second = b .held }
+agree-by : (l : Call) (x y : Ran) → x .refusal ≡ y .refusal → x .a ≡ y .a → x .b ≡ y .b → agrees l x y ≡ true
+unfolding agrees
+agree-by l x y e f g = rw (eq-eqb _ _ e, eq-eqb _ _ f, eq-eqb _ _ g) (or-true (not (isCompared l)))
 
-  was-read : (i k : ℕ) → Paired n r (line.Read i k) x y
-  unfolding next run plainLine Run.read step answer
-  was-read i k =
-      let a = called n r (call.read i k) P x (next (line.Read i k) x) H refl refl refl tt in
-      let b = called n r (call.read i k) P y (next (line.Read i k) y) K refl refl refl tt in
-      let e = a .answers ∙ sym (b .answers) in
-      record { after = plainStep (call.read i k) P .after; agreed = agree-by (line.Read i k) (next (line.Read i k) x .answer) (next (line.Read i k) y .answer) (ap number e) (ap value e) refl; output = tt; first = a .held; second = b .held }
+paired : (n r : ℕ) (l : Call) (R : Played Plain) (x y : Outcome) → Column n r l R (next l x) → Column n r l R (next (plainCall l) y) → Paired n r l x y
+paired n r l R x y C D =
+    let T = C .tells in
+    let U = D .tells in
+    record {
+      after = R .after;
+      agreed = agree-by l _ _ (T .refusal ∙ sym (U .refusal)) (T .first ∙ sym (U .first)) (T .second ∙ sym (U .second));
+      output = record { words = λ e. T .words e ∙ sym (U .words e); freed = λ e. T .freed e ∙ sym (U .freed e) };
+      first = C .held;
+      second = D .held;
+    }
 
-  was-shown : (i : ℕ) → Paired n r (line.Show i) x y
-  unfolding next run plainLine Run.show step answer
-  was-shown i =
-      let a = called n r (call.show i) P x (next (line.Show i) x) H refl refl refl tt in
-      let b = called n r (call.show i) P y (next (line.Show i) y) K refl refl refl tt in
-      let e = a .answers ∙ sym (b .answers) in
-      let I = H .inv in
-      let J = K .inv in
-      record {
-        after = plainStep (call.show i) P .after;
-        agreed = agree-by (line.Show i) (next (line.Show i) x .answer) (next (line.Show i) y .answer) (ap number e)
-            (show-start (stateOf x) I i ∙ ap (startBy i) (ap number e) ∙ sym (show-start (stateOf y) J i))
-            (show-length (stateOf x) I i ∙ ap (λ (l : List Answer). length (words l)) e ∙ sym (show-length (stateOf y) J i));
-        output = show-words (stateOf x) I i ∙ ap words e ∙ sym (show-words (stateOf y) J i);
-        first = a .held;
-        second = b .held;
-      }
+-- the number of a collection that is run plainly
+first-zero : (l : List ℕ) → getD (set l 0 0) 0 0 ≡ 0
+first-zero [] = refl
+first-zero (w ∷ l) = refl
 
-  written : (i k w : ℕ) → Paired n r (line.Write i k w) x y
-  unfolding next run plainLine Run.write step answer
-  written i k w =
-      let a = called n r (call.write i k w) P x (next (line.Write i k w) x) H refl refl refl tt in
-      let b = called n r (call.write i k w) P y (next (line.Write i k w) y) K refl refl refl tt in
-      let e = a .answers ∙ sym (b .answers) in
-      record { after = plainStep (call.write i k w) P .after; agreed = agree-by (line.Write i k w) (next (line.Write i k w) x .answer) (next (line.Write i k w) y .answer) (ap number e) refl refl; output = tt; first = a .held; second = b .held }
+-- a kind is k, or not
+by-kind : (Q : ℕ → Type 0) (j k : ℕ) → Q k → ((j ≡ k → ⊥) → Q j) → Q j
+by-kind Q j k here there = go (ℕ-discrete j k)
+  where
+    go : Dec (j ≡ k) → Q j
+    go (yes e) = subst Q (sym e) here
+    go (no d) = there d
 
-  root-set : (j w : ℕ) → Paired n r (line.Root j w) x y
-  unfolding next run plainLine Run.setRoot step answer
-  root-set j w =
-      let a = called n r (call.setRoot j w) P x (next (line.Root j w) x) H refl refl refl tt in
-      let b = called n r (call.setRoot j w) P y (next (line.Root j w) y) K refl refl refl tt in
-      let e = a .answers ∙ sym (b .answers) in
-      record { after = plainStep (call.setRoot j w) P .after; agreed = agree-by (line.Root j w) (next (line.Root j w) x .answer) (next (line.Root j w) y .answer) (ap number e) refl refl; output = tt; first = a .held; second = b .held }
-
-  sink-declared : (i : ℕ) → Paired n r (line.Sink i) x y
-  unfolding next run plainLine Run.declareSink step answer
-  sink-declared i =
-      let a = called n r (call.declareSink i) P x (next (line.Sink i) x) H refl refl refl tt in
-      let b = called n r (call.declareSink i) P y (next (line.Sink i) y) K refl refl refl tt in
-      let e = a .answers ∙ sym (b .answers) in
-      record { after = plainStep (call.declareSink i) P .after; agreed = agree-by (line.Sink i) (next (line.Sink i) x .answer) (next (line.Sink i) y .answer) (ap number e) refl refl; output = tt; first = a .held; second = b .held }
+module _ (n r : ℕ) (P : Plain) (l : Call) (x y : Outcome) (H : Held n r P x) (K : Held n r P y) where
+  -- the same call in both columns
+  alike : (k : ℕ) (R : Played Plain) → plainCall (ofKind l k) ≡ ofKind l k → ((z : Outcome) → Held n r P z → Column n r (ofKind l k) R (next (ofKind l k) z)) → Paired n r (ofKind l k) x y
+  alike k R e f = paired n r (ofKind l k) R x y (f x H) (rw e (f y K))
 
   -- the plain heap leaves an analysis out
-  analysed : Paired n r line.Analyse x y
-  unfolding next run plainLine Run.analyse Run.idle step agrees isCompared plainStep
+  analysed : Paired n r (ofKind l kind.analyse) x y
+  unfolding next run plainCall Run.analyse Run.idle step agrees isCompared plainStep
   analysed =
       let f = analyse-within (x .answer .control) (x .records) (x .slots) (x .roots) (x .work) in
-      let a = called n r (call.analyse (x .work)) P x (next line.Analyse x) H refl (f .1 .0) refl tt in
-      record { after = P; agreed = refl; output = tt; first = a .held; second = idle n r P y K }
+      let C = called n r (rule.analyse (x .work)) P x (next (ofKind l kind.analyse) x) H refl (f .1 .0) refl tt in
+      record {
+        after = P;
+        agreed = refl;
+        output = record { words = λ z. absurd (eqb-false kind.analyse kind.show refl z); freed = λ z. absurd (eqb-false kind.analyse kind.collect refl z) };
+        first = C .held;
+        second = idle n r P l y K;
+      }
 
--- a collection of either kind in one column
-collected : (n r : ℕ) (P : Plain) (kind : Collect.Kind) (x : Outcome) → Held n r P x
-    → Called n r (call.collect kind (x .work) (x .map)) P x (Run.collect (x .answer .control) (x .records) (x .slots) (x .roots) (x .work) (x .map) kind)
-unfolding Run.collect step answer
-collected n r P kind x H =
-    let f = collect-within kind (x .answer .control) (x .records) (x .slots) (x .roots) (x .work) (x .map) in
-    called n r (call.collect kind (x .work) (x .map)) P x _ H refl (f .2 .0) (f .3 .0) (H .lent .0, H .lent .1, tt)
+  both-collected : Paired n r (ofKind l kind.collect) x y
+  unfolding next run plainCall withNumber
+  both-collected = paired n r _ _ x y (collected n r P l x H _) (rw first-zero (collected n r P l y K Collect.plainly))
 
--- the plain heap does not look at the kind of a collection
-module _ (n r : ℕ) (P : Plain) (kind : Collect.Kind) (x y : Outcome) (H : Held n r P x) (K : Held n r P y) where
-  abbrev x′ : Outcome
-  x′ = Run.collect (x .answer .control) (x .records) (x .slots) (x .roots) (x .work) (x .map) kind
+  abbrev Pair : ℕ → Type 0
+  Pair k = Paired n r (ofKind l k) x y
 
-  abbrev y′ : Outcome
-  y′ = Run.collect (y .answer .control) (y .records) (y .slots) (y .roots) (y .work) (y .map) Collect.plainly
+  pair : (l .kind ≡ kind.create → ⊥) → Paired n r l x y
+  unfolding next run plainCall
+  pair create =
+      by-kind Pair (l .kind) kind.allocate (alike kind.allocate _ refl (allocated n r P l)) λ allocate.
+      by-kind Pair (l .kind) kind.read (alike kind.read _ refl (was-read n r P l)) λ read.
+      by-kind Pair (l .kind) kind.show (alike kind.show _ refl (was-shown n r P l)) λ show.
+      by-kind Pair (l .kind) kind.write (alike kind.write _ refl (written n r P l)) λ write.
+      by-kind Pair (l .kind) kind.root (alike kind.root _ refl (root-set n r P l)) λ root.
+      by-kind Pair (l .kind) kind.sink (alike kind.sink _ refl (sink-declared n r P l)) λ sink.
+      by-kind Pair (l .kind) kind.analyse analysed λ analyse.
+      by-kind Pair (l .kind) kind.collect both-collected λ collect.
+      alike (l .kind) _ (rw (ne-eqb _ kind.analyse analyse, ne-eqb _ kind.collect collect) refl)
+      (λ z L. idled n r P l z L collect (rw (ne-eqb _ kind.create create, ne-eqb _ kind.allocate allocate, ne-eqb _ kind.read read, ne-eqb _ kind.show show, ne-eqb _ kind.write write, ne-eqb _ kind.root root, ne-eqb _ kind.sink sink, ne-eqb _ kind.analyse analyse, ne-eqb _ kind.collect collect) refl))
 
-  swept-alike : step (call.collect kind (x .work) (x .map)) (stateOf x) .answers ≡ step (call.collect Collect.plainly (y .work) (y .map)) (stateOf y) .answers
-  unfolding plainStep
-  swept-alike = collected n r P kind x H .answers ∙ sym (collected n r P Collect.plainly y K .answers)
+-- ---- lists of calls
 
-  swept-agreed : (l : Line) → agrees l (x′ .answer) (y′ .answer) ≡ true
-  unfolding Run.collect step answer
-  swept-agreed l = agree-by l (x′ .answer) (y′ .answer) (ap number swept-alike) (ap value swept-alike) (ap keptIn swept-alike)
-
-  swept-map : take (mapLen n) (x′ .map) ≡ take (mapLen n) (y′ .map)
-  unfolding Run.collect step answer
-  swept-map =
-      ap (λ (k : ℕ). take (mapLen k) (x′ .map)) (sym (H .objects)) ∙ ap words swept-alike
-      ∙ ap (λ (k : ℕ). take (mapLen k) (y′ .map)) (K .objects)
-
-  swept-after : Held n r (plainStep (call.collect Collect.plainly [] []) P .after) x′
-  unfolding plainStep
-  swept-after = collected n r P kind x H .held
-
-module _ (n r : ℕ) (P : Plain) (x y : Outcome) (H : Held n r P x) (K : Held n r P y) where
-  pair : (l : Line) → NoCreate l → Paired n r l x y
-  unfolding next run plainLine agrees isCompared
-  pair line.Nothing h = record { after = P; agreed = refl; output = tt; first = idle n r P x H; second = idle n r P y K }
-  pair (line.Create m k) h = absurd h
-  pair (line.Allocate width) h = allocated n r P x y H K width
-  pair (line.Read i k) h = was-read n r P x y H K i k
-  pair (line.Show i) h = was-shown n r P x y H K i
-  pair (line.Write i k w) h = written n r P x y H K i k w
-  pair (line.Root j w) h = root-set n r P x y H K j w
-  pair (line.Sink i) h = sink-declared n r P x y H K i
-  pair line.Analyse h = analysed n r P x y H K
-  pair line.CollectPlain h = record {
-    after = plainStep (call.collect Collect.plainly [] []) P .after;
-    agreed = swept-agreed n r P Collect.plainly x y H K line.CollectPlain;
-    output = swept-map n r P Collect.plainly x y H K;
-    first = swept-after n r P Collect.plainly x y H K;
-    second = swept-after n r P Collect.plainly y x K H;
-  }
-  pair line.CollectClusters h = record {
-    after = plainStep (call.collect Collect.plainly [] []) P .after;
-    agreed = swept-agreed n r P Collect.byClusters x y H K line.CollectClusters;
-    output = swept-map n r P Collect.byClusters x y H K;
-    first = swept-after n r P Collect.byClusters x y H K;
-    second = swept-after n r P Collect.plainly y x K H;
-  }
-  pair (line.Wrote s e) h = record { after = P; agreed = refl; output = tt; first = idle n r P x H; second = idle n r P y K }
-  pair (line.Loaded s e) h = record { after = P; agreed = refl; output = tt; first = idle n r P x H; second = idle n r P y K }
-  pair (line.Bad e) h = record { after = P; agreed = refl; output = tt; first = idle n r P x H; second = idle n r P y K }
-
--- ---- lists of lines
-
-columns : (n r : ℕ) (P : Plain) (lines : List Line) (x y : Outcome) → Held n r P x → Held n r P y → EachNoCreate lines → Columns n r lines x y
+columns : (n r : ℕ) (P : Plain) (calls : List Call) (x y : Outcome) → Held n r P x → Held n r P y → NoCreate calls → Columns n r calls x y
 columns n r P [] x y H K h = same-heap n r P x y H K
 columns n r P (l ∷ ls) x y H K h =
-    let p = pair n r P x y H K l (h .0) in
+    let p = pair n r P l x y H K (h .0) in
     (same-heap n r P x y H K, p .agreed, p .output, columns n r (p .after) ls _ _ (p .first) (p .second) (h .1))
 
 -- a create that is accepted
-begun : (n r : ℕ) (x : Outcome) → next (line.Create n r) x .answer .refusal ≡ 0 → Lent n x → Held n r (plainCreated n r) (next (line.Create n r) x)
+begun : (n r : ℕ) (x : Outcome) → next (creates n r) x .answer .refusal ≡ 0 → Lent n x → Held n r (plainCreated n r) (next (creates n r) x)
 unfolding next run Run.create newControl created
 begun n r x e h =
     let a = accepted n r (x .records) (x .slots) (x .roots) e in
@@ -331,4 +349,4 @@ begun n r x e h =
     }
 
 pub same-columns : SameColumns
-same-columns n r x y e f h k lines c = columns n r (plainCreated n r) lines _ _ (begun n r x e h) (begun n r y f k) c
+same-columns n r x y e f h k calls c = columns n r (plainCreated n r) calls _ _ (begun n r x e h) (begun n r y f k) c

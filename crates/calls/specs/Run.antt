@@ -1,6 +1,8 @@
--- What running a line of a call list answers and leaves in the buffers.
+-- What running a call of a list answers and leaves in the buffers.
 use Prim.Native.Nat.{ℕ}
+use mathlib.Core.Bool.{cond}
 use mathlib.Core.List.{List}
+use lib.Dec.{eqb}
 use Rattle.layout.specs.declared.answers.Control.{Control}
 use Rattle.rules.specs.Create as Create
 use Rattle.rules.specs.Allocate as Allocate
@@ -11,11 +13,12 @@ use Rattle.rules.specs.SetRoot as SetRoot
 use Rattle.rules.specs.DeclareSink as DeclareSink
 use Rattle.rules.specs.Analyse as Analyse
 use Rattle.rules.specs.Collect as Collect
-use Rattle.lines.specs.declared.Line.{Line}
-use Rattle.lines.specs.declared.Line.the-variants as line
+use Rattle.lines.specs.declared.kinds.Call.{Call}
+use Rattle.lines.specs.Kinds as kind
+use Rattle.lines.specs.Kinds.{number}
 use Rattle.calls.specs.declared.Ran.{Ran}
 
--- the answer and the buffers after the line
+-- the answer and the buffers after the call
 pub record Outcome : Type 0 where
   pub answer : Ran
   pub records : List ℕ
@@ -80,19 +83,20 @@ module _ (c : Control) (recs slots roots work map : List ℕ) where
       let o = Collect.collect kind c recs slots roots work map in
       gives (ran (o .answer .refusal) (o .answer .freed) (o .answer .kept) (o .answer .scanned) (o .answer .control)) (o .records) (o .slots) roots (o .work) (o .map)
 
-  -- the call of the line; a line without one does nothing
-  unfoldable pub run : Line → Outcome
-  run line.Nothing = idle
-  run (line.Create n r) = create n r
-  run (line.Allocate width) = allocate width
-  run (line.Read i k) = read i k
-  run (line.Show i) = show i
-  run (line.Write i k w) = write i k w
-  run (line.Root j w) = setRoot j w
-  run (line.Sink i) = declareSink i
-  run line.Analyse = analyse
-  run line.CollectPlain = collect Collect.plainly
-  run line.CollectClusters = collect Collect.byClusters
-  run (line.Wrote start length) = idle
-  run (line.Loaded start length) = idle
-  run (line.Bad expected) = idle
+  -- by clusters unless the number is 0
+  abbrev way : ℕ → Collect.Kind
+  way w = cond (eqb w 0) Collect.plainly Collect.byClusters
+
+  -- the call by its kind; a line that makes none does nothing
+  unfoldable pub run : Call → Outcome
+  run l =
+      cond (eqb (l .kind) kind.create) (create (number 0 l) (number 1 l))
+      (cond (eqb (l .kind) kind.allocate) (allocate (number 0 l))
+      (cond (eqb (l .kind) kind.read) (read (number 0 l) (number 1 l))
+      (cond (eqb (l .kind) kind.show) (show (number 0 l))
+      (cond (eqb (l .kind) kind.write) (write (number 0 l) (number 1 l) (number 2 l))
+      (cond (eqb (l .kind) kind.root) (setRoot (number 0 l) (number 1 l))
+      (cond (eqb (l .kind) kind.sink) (declareSink (number 0 l))
+      (cond (eqb (l .kind) kind.analyse) analyse
+      (cond (eqb (l .kind) kind.collect) (collect (way (number 0 l)))
+      idle))))))))

@@ -1,5 +1,6 @@
-// A line of a call list run on the buffers of a heap.
+// A call of a list run on the buffers of a heap.
 ghost use mathlib.Core.Path.{_≡_};
+ghost use Rattle.calls.specs.Compare.{plainCall, asRun};
 ghost use Rattle.calls.specs.Run as Run;
 use access::read::read;
 use access::set_root::set_root;
@@ -8,18 +9,10 @@ use analyse::analyse;
 use collect::collect;
 use heap::allocate::allocate;
 use heap::create::create;
-use layout::answers::Allocated;
-use layout::answers::Analysed;
-use layout::answers::Collected;
-use layout::answers::Control;
-use layout::answers::Done;
-use layout::answers::Part;
-use layout::answers::WordRead;
-use lines::Line;
+use layout::answers::*;
+use lines::kinds::*;
 use sinks::declare_sink;
 use writes::write::write;
-
-pub mod compare;
 
 // What a line answers: `refusal` is 0 for an accepted call. a, b, c: the object of allocate; the word of read; start and length of what show names;
 // clusters and members of an analysis; freed, kept and scanned of a collection. The others are 0.
@@ -31,7 +24,8 @@ pub struct Ran {
     pub control: Control,
 }
 
-fn answer(refusal: u32, a: u32, b: u32, c: u32, control: Control) -> Ran
+// An answer of these parts.
+pub fn answer(refusal: u32, a: u32, b: u32, c: u32, control: Control) -> Ran
     ensures { λ x. ⌜ x ≡ Run.ran refusal a b c control ⌝ }
 {
     Ran {
@@ -79,9 +73,29 @@ fn of_collected(a: Collected) -> Ran
     answer(a.refusal, a.freed, a.kept, a.scanned, a.control)
 }
 
-// The line's call; a line without one does nothing.
+// The call as a heap without clusters runs it: no analysis, and every collection plainly.
+pub fn plainly(call: Call) -> Call
+    ensures { λ r. ⌜ r ≡ plainCall call ⌝ }
+{
+    if call.kind == ANALYSE {
+        return no_call(0);
+    }
+    if call.kind == COLLECT {
+        return with_number(call, 0, 0);
+    }
+    call
+}
+
+// The call as a column runs it.
+pub fn as_run(call: Call, plain: bool) -> Call
+    ensures { λ r. ⌜ r ≡ asRun plain call ⌝ }
+{
+    if plain { plainly(call) } else { call }
+}
+
+// Runs the call; a line that makes none does nothing.
 pub fn run(
-    line: Line,
+    call: Call,
     c: Control,
     records: &mut [u32],
     slots: &mut [u32],
@@ -90,24 +104,20 @@ pub fn run(
     map: &mut [u64],
 ) -> Ran
     ensures { λ a. ⌜ Run.gives a (now (records .exit)) (now (slots .exit)) (now (roots .exit)) (now (work .exit)) (now (map .exit))
-        ≡ Run.run c (now (records .entry)) (now (slots .entry)) (now (roots .entry)) (now (work .entry)) (now (map .entry)) line ⌝ }
+        ≡ Run.run c (now (records .entry)) (now (slots .entry)) (now (roots .entry)) (now (work .entry)) (now (map .entry)) call ⌝ }
 {
-    match line {
-        Line::Nothing => answer(0, 0, 0, 0, c),
-        Line::Create(n, r) => of_done(create(n, r, records, slots, roots)),
-        Line::Allocate(width) => of_allocated(allocate(c, width, records, slots)),
-        Line::Read(i, k) => of_read(read(c, i, k, records, slots)),
-        Line::Show(i) => of_part(show_part(c, i, records, slots)),
-        Line::Write(i, k, w) => of_done(write(c, i, k, w, records, slots)),
-        Line::Root(j, w) => of_done(set_root(c, j, w, records, roots)),
-        Line::Sink(i) => of_done(declare_sink(c, i, records, slots, roots)),
-        Line::Analyse => of_analysed(analyse(c, records, slots, roots, work)),
-        Line::CollectPlain => of_collected(collect(false, c, records, slots, roots, work, map)),
-        Line::CollectClusters => {
-            of_collected(collect(true, c, records, slots, roots, work, map))
-        }
-        Line::Wrote(_, _) => answer(0, 0, 0, 0, c),
-        Line::Loaded(_, _) => answer(0, 0, 0, 0, c),
-        Line::Bad(_) => answer(0, 0, 0, 0, c),
+    let kind = call.kind;
+    let v = call.numbers;
+    match kind {
+        CREATE => of_done(create(v[0], v[1], records, slots, roots)),
+        ALLOCATE => of_allocated(allocate(c, v[0], records, slots)),
+        READ => of_read(read(c, v[0], v[1], records, slots)),
+        SHOW => of_part(show_part(c, v[0], records, slots)),
+        WRITE => of_done(write(c, v[0], v[1], v[2], records, slots)),
+        ROOT => of_done(set_root(c, v[0], v[1], records, roots)),
+        SINK => of_done(declare_sink(c, v[0], records, slots, roots)),
+        ANALYSE => of_analysed(analyse(c, records, slots, roots, work)),
+        COLLECT => of_collected(collect(v[0] != 0, c, records, slots, roots, work, map)),
+        _ => answer(0, 0, 0, 0, c),
     }
 }

@@ -1,5 +1,4 @@
 -- What a report decides.
-pub mod Kinds
 pub mod Turns
 pub mod Answers
 pub mod Survivors

@@ -1,6 +1,6 @@
 -- When two heaps have the same survivors.
 use Prim.Native.Nat.{ℕ, zero, suc}
-use mathlib.Core.Bool.{Bool, true, not, cond, _&&_, _||_, Bool·beq}
+use mathlib.Core.Bool.{Bool, true, _&&_, _||_, Bool·beq}
 use mathlib.Core.List.{List}
 use lib.Dec.{eqb, leb}
 use lib.ListN.{getD}
@@ -8,10 +8,9 @@ use Rattle.layout.specs.Limits.{slotsLen}
 use Rattle.records.specs.Record.{width, isSink}
 use Rattle.compare.specs.Answers.{samePart}
 
--- both free, or of the same width and both sinks or neither
+-- both free or neither, of the same width, and both sinks or neither
 unfoldable pub sameRecord : ℕ → ℕ → Bool
-sameRecord x y =
-    cond (eqb x 0) (eqb y 0) (not (eqb y 0) && (eqb (width x) (width y) && Bool·beq (isSink x) (isSink y)))
+sameRecord x y = Bool·beq (eqb x 0) (eqb y 0) && eqb (width x) (width y) && Bool·beq (isSink x) (isSink y)
 
 -- object i + 1: its record, and its eight slots unless it is free
 unfoldable pub sameObject : ℕ → List ℕ → List ℕ → List ℕ → List ℕ → Bool
@@ -20,16 +19,17 @@ sameObject i rec1 slot1 rec2 slot2 =
 
 -- root j of heaps of r1 and r2 roots: neither has it, or both with the same word
 unfoldable pub sameRoot : ℕ → ℕ → List ℕ → ℕ → List ℕ → Bool
-sameRoot j r1 root1 r2 root2 =
-    cond (leb r1 j) (leb r2 j) (not (leb r2 j) && eqb (getD root1 j 0) (getD root2 j 0))
+sameRoot j r1 root1 r2 root2 = Bool·beq (leb r1 j) (leb r2 j) && (leb r1 j || eqb (getD root1 j 0) (getD root2 j 0))
+
+-- p of the n numbers from i on
+unfoldable pub every : (ℕ → Bool) → ℕ → ℕ → Bool
+every p i zero = true
+every p i (suc n) = p i && every p (suc i) n
 
 -- the objects from i + 1 on, n of them
-unfoldable pub sameObjects : List ℕ → List ℕ → List ℕ → List ℕ → ℕ → ℕ → Bool
-sameObjects rec1 slot1 rec2 slot2 i zero = true
-sameObjects rec1 slot1 rec2 slot2 i (suc n) =
-    sameObject i rec1 slot1 rec2 slot2 && sameObjects rec1 slot1 rec2 slot2 (suc i) n
+abbrev pub sameObjects : List ℕ → List ℕ → List ℕ → List ℕ → ℕ → ℕ → Bool
+sameObjects rec1 slot1 rec2 slot2 = every (λ i. sameObject i rec1 slot1 rec2 slot2)
 
 -- the roots from j on, n of them
-unfoldable pub sameRoots : ℕ → List ℕ → ℕ → List ℕ → ℕ → ℕ → Bool
-sameRoots r1 root1 r2 root2 j zero = true
-sameRoots r1 root1 r2 root2 j (suc n) = sameRoot j r1 root1 r2 root2 && sameRoots r1 root1 r2 root2 (suc j) n
+abbrev pub sameRoots : ℕ → List ℕ → ℕ → List ℕ → ℕ → ℕ → Bool
+sameRoots r1 root1 r2 root2 = every (λ j. sameRoot j r1 root1 r2 root2)

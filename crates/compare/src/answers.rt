@@ -1,15 +1,59 @@
-// Whether the calls of a pair answered the same.
+// Whether the calls of a pair are the same, and answered the same.
 ghost use mathlib.Core.Path.{_≡_};
-ghost use Rattle.compare.specs.Answers.{samePart, sameValues, besides, sameAnswers};
-use crate::kinds::COLLECT_PLAIN;
-use crate::kinds::SHOW;
-use crate::kinds::parts_of;
-use crate::kinds::same_kind;
+ghost use Rattle.calls.specs.Compare.{agrees};
+ghost use Rattle.compare.specs.Answers.{sameList, sameCall, samePart, sameValues, besides, sameAnswers};
 use calls::Ran;
-use calls::compare::agree;
-use calls::compare::same_map;
-use calls::compare::same_words;
-use lines::Line;
+use lines::kinds::*;
+
+// Whether both have the same words, and as many.
+fn same_words(x: &[u32], y: &[u32]) -> bool
+    ensures { λ t. ⌜ t ≡ sameList (now (x .entry)) (now (y .entry)) ⌝ }
+{
+    if x.len() != y.len() {
+        return false;
+    }
+    let mut i = 0;
+    while i < x.len() {
+        if x[i] != y[i] {
+            return false;
+        }
+        i += 1;
+    }
+    true
+}
+
+fn same_map(x: &[u64], y: &[u64]) -> bool
+    ensures { λ t. ⌜ t ≡ sameList (now (x .entry)) (now (y .entry)) ⌝ }
+{
+    if x.len() != y.len() {
+        return false;
+    }
+    let mut i = 0;
+    while i < x.len() {
+        if x[i] != y[i] {
+            return false;
+        }
+        i += 1;
+    }
+    true
+}
+
+// Whether two calls are the same, numbers too.
+pub fn same_call(x: Call, y: Call) -> bool
+    ensures { λ t. ⌜ t ≡ sameCall x y ⌝ }
+{
+    let a = x.numbers;
+    let b = y.numbers;
+    (x.kind == y.kind) & same_words(&a, &b)
+}
+
+// Whether the answers of the call in two heaps are the same, as far as they count.
+fn agree(call: Call, x: Ran, y: Ran) -> bool
+    ensures { λ t. ⌜ t ≡ agrees call x y ⌝ }
+{
+    let compared = (CREATE <= call.kind) & (call.kind != ANALYSE);
+    !compared | ((x.refusal == y.refusal) & ((x.a == y.a) & (x.b == y.b)))
+}
 
 // Whether x has `count` words from start on and y as many from `other` on, and these are the same.
 pub(crate) fn same_part(x: &[u32], y: &[u32], start: usize, other: usize, count: u32) -> bool
@@ -33,7 +77,7 @@ pub(crate) fn same_part(x: &[u32], y: &[u32], start: usize, other: usize, count:
 
 // Whether what an accepted call gives besides its answer is the same: what was freed, or the slots that are shown.
 fn same_values(
-    kind: u32,
+    kind: usize,
     x: Ran,
     y: Ran,
     slots1: &[u32],
@@ -43,7 +87,7 @@ fn same_values(
 ) -> bool
     ensures { λ t. ⌜ t ≡ sameValues kind x y (now (slots1 .entry)) (now (map1 .entry)) (now (slots2 .entry)) (now (map2 .entry)) ⌝ }
 {
-    if COLLECT_PLAIN <= kind {
+    if kind == COLLECT {
         return same_map(map1, map2);
     }
     if kind == SHOW {
@@ -53,26 +97,21 @@ fn same_values(
 }
 
 // The answer y, but with the place of the part that x shows: shown words count, and not where they are.
-fn beside(kind: u32, x: Ran, y: Ran) -> Ran
+fn beside(kind: usize, x: Ran, y: Ran) -> Ran
     ensures { λ z. ⌜ z ≡ besides kind x y ⌝ }
 {
     if kind != SHOW {
         return y;
     }
-    let control = y.control;
-    Ran {
-        refusal: y.refusal,
-        a: x.a,
-        b: y.b,
-        c: y.c,
-        control,
-    }
+    let mut z = y;
+    z.a = x.a;
+    z
 }
 
 // Whether two calls are of the same kind and answered the same, as far as it counts.
 pub fn same_answers(
-    line: Line,
-    other: Line,
+    call: Call,
+    other: Call,
     x: Ran,
     y: Ran,
     slots1: &[u32],
@@ -80,18 +119,9 @@ pub fn same_answers(
     slots2: &[u32],
     map2: &[u64],
 ) -> bool
-    ensures { λ t. ⌜ t ≡ sameAnswers line other x y (now (slots1 .entry)) (now (map1 .entry)) (now (slots2 .entry)) (now (map2 .entry)) ⌝ }
+    ensures { λ t. ⌜ t ≡ sameAnswers call other x y (now (slots1 .entry)) (now (map1 .entry)) (now (slots2 .entry)) (now (map2 .entry)) ⌝ }
 {
-    let p = parts_of(line);
-    let q = parts_of(other);
-    if !same_kind(p.kind, q.kind) {
-        return false;
-    }
-    if !agree(line, x, beside(p.kind, x, y)) {
-        return false;
-    }
-    if x.refusal != 0 {
-        return true;
-    }
-    same_values(p.kind, x, y, slots1, map1, slots2, map2)
+    let answers = agree(call, x, beside(call.kind, x, y));
+    let values = same_values(call.kind, x, y, slots1, map1, slots2, map2);
+    (call.kind == other.kind) & answers & ((x.refusal != 0) | values)
 }

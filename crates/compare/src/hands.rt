@@ -2,16 +2,12 @@
 // The memory `hands` has a word for each object of each column: 0 until the column frees the object, FREED from then on, and once
 // it changes hands the line at which it does, above 16 bits for the place that named it.
 ghost use mathlib.Core.Path.{_≡_};
-ghost use lib.ListN.{getD};
-ghost use Rattle.compare.specs.Hands.{givenBy, collects, wordOf, noteFreed, keepOne, keepFreed, found, naming, isAgain, handed, noteGiven};
-use crate::kinds::ALLOCATE;
-use crate::kinds::COLLECT_PLAIN;
+ghost use lib.ListN.{getD, set};
+ghost use Rattle.compare.specs.Hands.{givenBy, collects, wordOf, keepOne, keepFreed, found, naming, isAgain, noteGiven};
 use crate::survivors::word_at;
 use bitmap::has_bit;
 use calls::Ran;
-
-// The words of both columns.
-pub const HANDS: usize = 8192;
+use lines::kinds::*;
 
 // A word of an object that was freed and has not changed hands: its place is none, and its line is 0, which no call has.
 pub const FREED: u64 = 65535;
@@ -37,45 +33,47 @@ fn word_of(is_left: bool, x: u32) -> usize
 }
 
 // The object that a call of this kind gave, 0 for none.
-pub fn given(is_there: bool, kind: u32, ran: Ran) -> u32
+pub fn given(is_there: bool, kind: usize, ran: Ran) -> u32
     ensures { λ x. ⌜ x ≡ givenBy «is_there» kind ran ⌝ }
 {
-    if !is_there {
-        return 0;
+    if is_there & (kind == ALLOCATE) {
+        ran.a
+    } else {
+        0
     }
-    if kind == ALLOCATE { ran.a } else { 0 }
 }
 
 // Whether a call of this kind was a collection that was accepted.
-pub fn did_collect(is_there: bool, kind: u32, ran: Ran) -> bool
+pub fn did_collect(is_there: bool, kind: usize, ran: Ran) -> bool
     ensures { λ t. ⌜ t ≡ collects «is_there» kind ran ⌝ }
 {
-    if !is_there {
-        return false;
-    }
-    if kind < COLLECT_PLAIN {
-        return false;
-    }
-    ran.refusal == 0
+    is_there & (kind == COLLECT) & (ran.refusal == 0)
 }
 
-// Notes that the object of word i was freed. One that changed hands stays as it is.
-fn note_freed(hands: &mut [u64], i: usize)
-    ensures { λ _. ⌜ now (hands .exit) ≡ noteFreed i (now (hands .entry)) ⌝ }
+// The word of object x of a column, 0 past the end.
+pub fn hand_of(hands: &[u64], is_left: bool, x: u32) -> u64
+    ensures { λ w. ⌜ w ≡ getD (now (hands .entry)) (wordOf «is_left» x) 0 ⌝ }
 {
+    let i = word_of(is_left, x);
+    if i < hands.len() { hands[i] } else { 0 }
+}
+
+// Stores the word of object x of a column, nothing past the end.
+fn set_hand(hands: &mut [u64], is_left: bool, x: u32, word: u64)
+    ensures { λ _. ⌜ now (hands .exit) ≡ set (now (hands .entry)) (wordOf «is_left» x) word ⌝ }
+{
+    let i = word_of(is_left, x);
     if i < hands.len() {
-        if hands[i] == 0 {
-            hands[i] = FREED;
-        }
+        hands[i] = word;
     }
 }
 
-// Notes that object i of a column was freed, if its map has it.
+// Notes that object i of a column was freed, if its map has it. One that changed hands stays as it is.
 fn keep_one(hands: &mut [u64], is_left: bool, map: &[u64], i: u32)
     ensures { λ _. ⌜ now (hands .exit) ≡ keepOne «is_left» (now (map .entry)) i (now (hands .entry)) ⌝ }
 {
-    if has_bit(map, i as usize) {
-        note_freed(hands, word_of(is_left, i));
+    if has_bit(map, i as usize) & (hand_of(hands, is_left, i) == 0) {
+        set_hand(hands, is_left, i, FREED);
     }
 }
 
@@ -131,42 +129,11 @@ fn is_again(hands: &[u64], is_left: bool, x: u32, y: u32, records: &[u32]) -> bo
     if x == y {
         return false;
     }
-    if hand_of(hands, is_left, x) != FREED {
-        return false;
-    }
-    word_at(records, x as usize - 1) != 0
+    (hand_of(hands, is_left, x) == FREED) & (word_at(records, x as usize - 1) != 0)
 }
 
-// The word of object x of a column.
-pub fn hand_of(hands: &[u64], is_left: bool, x: u32) -> u64
-    ensures { λ w. ⌜ w ≡ getD (now (hands .entry)) (wordOf «is_left» x) 0 ⌝ }
-{
-    hand_at(hands, word_of(is_left, x))
-}
-
-// The word at place i, 0 past the end.
-fn hand_at(hands: &[u64], i: usize) -> u64
-    ensures { λ w. ⌜ w ≡ getD (now (hands .entry)) i 0 ⌝ }
-{
-    if i < hands.len() { hands[i] } else { 0 }
-}
-
-// Notes that the object of word i changed hands at a line, unless no place names it.
-fn hand(hands: &mut [u64], i: usize, line: u64, place: usize)
-    ensures { λ _. ⌜ now (hands .exit) ≡ handed i line place (now (hands .entry)) ⌝ }
-{
-    if NOWHERE <= place {
-        return;
-    }
-    if LINES <= line {
-        return;
-    }
-    if i < hands.len() {
-        hands[i] = line * 65536 + place as u64;
-    }
-}
-
-// Notes whether the object x that a column was given at a line changed hands. The other column was given y, and has these buffers.
+// Notes whether the object x that a column was given at a line changed hands, where a place names it. The other column was given
+// y, and has these buffers.
 pub fn note_given(
     hands: &mut [u64],
     is_left: bool,
@@ -180,6 +147,11 @@ pub fn note_given(
     ensures { λ _. ⌜ now (hands .exit) ≡ noteGiven «is_left» x y line (now (records .entry)) (now (slots .entry)) (now (roots .entry)) (now (hands .entry)) ⌝ }
 {
     if is_again(hands, is_left, x, y, records) {
-        hand(hands, word_of(is_left, x), line, named_at(slots, roots, x));
+        let place = named_at(slots, roots, x);
+        if place < NOWHERE {
+            if line < LINES {
+                set_hand(hands, is_left, x, line * 65536 + place as u64);
+            }
+        }
     }
 }

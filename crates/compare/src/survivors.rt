@@ -14,20 +14,11 @@ pub fn word_at(words: &[u32], i: usize) -> u32
     if i < words.len() { words[i] } else { 0 }
 }
 
-// Whether two records have the same width and sink bit, or are both 0.
+// Whether two records are both 0 or neither, and have the same width and sink bit.
 fn same_record(x: u32, y: u32) -> bool
     ensures { λ t. ⌜ t ≡ sameRecord x y ⌝ }
 {
-    if x == 0 {
-        return y == 0;
-    }
-    if y == 0 {
-        return false;
-    }
-    if width_of(x) != width_of(y) {
-        return false;
-    }
-    is_sink(x) == is_sink(y)
+    ((x == 0) == (y == 0)) & (width_of(x) == width_of(y)) & (is_sink(x) == is_sink(y))
 }
 
 // Whether object i + 1 is free in both heaps, or the same in both.
@@ -36,27 +27,16 @@ pub fn same_object(i: u32, rec1: &[u32], slot1: &[u32], rec2: &[u32], slot2: &[u
 {
     let x = word_at(rec1, i as usize);
     let y = word_at(rec2, i as usize);
-    if !same_record(x, y) {
-        return false;
-    }
-    if x == 0 {
-        return true;
-    }
     let at = slots_len(i);
-    same_part(slot1, slot2, at, at, 8)
+    same_record(x, y) & ((x == 0) | same_part(slot1, slot2, at, at, 8))
 }
 
 // Whether root j is the same in two heaps of r1 and r2 roots.
 pub fn same_root(j: u32, r1: u32, root1: &[u32], r2: u32, root2: &[u32]) -> bool
     ensures { λ t. ⌜ t ≡ sameRoot j r1 (now (root1 .entry)) r2 (now (root2 .entry)) ⌝ }
 {
-    if r1 <= j {
-        return r2 <= j;
-    }
-    if r2 <= j {
-        return false;
-    }
-    word_at(root1, j as usize) == word_at(root2, j as usize)
+    let same = word_at(root1, j as usize) == word_at(root2, j as usize);
+    ((r1 <= j) == (r2 <= j)) & ((r1 <= j) | same)
 }
 
 // Whether the first 4095 objects are the same.

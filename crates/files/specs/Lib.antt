@@ -1,3 +1,2 @@
--- Lists that are read line by line, and their first reading.
+-- Lists that are read line by line.
 pub mod Reading
-pub mod Checking

@@ -1,3 +1,6 @@
--- Laws of lines, and the proofs of the functions.
-pub mod Trials
+-- Laws of these.
+pub mod WordLaws
+pub mod NumeralLaws
+pub mod KindLaws
 pub mod LineLaws
+pub mod Trials

@@ -1,31 +1,23 @@
 -- Laws of the table and of what follows the name of a call. Assumes nothing.
-use Prim.Native.Nat.{ℕ, _-_}
+use Prim.Native.Nat.{ℕ, zero, suc, _+_, _-_, _≤_, _<_}
 use mathlib.Core.Path.{_≡_, refl}
 use mathlib.Core.Bool.{true, false}
-use mathlib.Core.List.{List, _∷_}
+use mathlib.Core.List.{List}
+use native.Mathlib.Numerals.{add-one}
+use native.Mathlib.Omega.{arith}
 use lib.ListN.{take, drop}
-use borrow.Author.Tests.{eq-eqb, ne-eqb}
-use Rattle.tokens.specs.declared.words.Span.{Span}
-use Rattle.tokens.specs.declared.numbers.Number.{Number}
-use Rattle.lines.specs.declared.Next.{Next}
-use Rattle.lines.specs.declared.Next.the-variants as next
-use Rattle.lines.specs.declared.Call.{Call}
-use Rattle.lines.specs.declared.Line.{Line}
-use Rattle.lines.specs.declared.Line.the-variants.{Nothing, CollectPlain, CollectClusters, Bad}
-use Rattle.tokens.specs.Text.{bytes}
-use Rattle.tokens.specs.Word.{wordAt, none, text, sameBytes}
-use Rattle.tokens.specs.Numeral.{numeralOf, isHex, valueOf}
-use Rattle.lines.specs.Line.{aNumber, theEnd, aWay, aName, table, look, ended, nextOf, numberAt, andThen, named, way, follows, parsed}
-use Rattle.tokens.proofs.WordLaws.{text-none}
-
-module _ (w : List ℕ) (e : List ℕ × Call) (t : List (List ℕ × Call)) where
-  pub look-miss : sameBytes w (e .0) ≡ false → look (e ∷ t) w ≡ look t w
-  unfolding look
-  look-miss h = rw (h, look)
-
-  pub look-hit : sameBytes w (e .0) ≡ true → look (e ∷ t) w ≡ e .1
-  unfolding look
-  look-hit h = rw (h, look)
+use borrow.Author.Tests.{lt-ltb, le-ltb, eq-eqb, ne-eqb}
+use Rattle.lines.specs.declared.words.Span.{Span}
+use Rattle.lines.specs.declared.numbers.Number.{Number}
+use Rattle.lines.specs.declared.parse.Next.{Next}
+use Rattle.lines.specs.declared.parse.Next.the-variants as next
+use Rattle.lines.specs.declared.kinds.Call.{Call}
+use Rattle.lines.specs.Text.{bytes}
+use Rattle.lines.specs.Word.{wordAt, none, text, sameBytes}
+use Rattle.lines.specs.Numeral.{numeralOf, isHex, valueOf}
+use Rattle.lines.specs.Kinds.{table, create, collect, bare, noCall, withNumber}
+use Rattle.lines.specs.Line.{aCall, aNumber, theEnd, aWay, aName, ended, nextOf, numberAt, andThen, rowFrom, rowOf, numbersFrom, named, way, follows, parsed}
+use Rattle.lines.proofs.WordLaws.{text-none}
 
 -- the bytes of a word, as a part of the line
 abbrev part : List ℕ → Span → List ℕ
@@ -33,21 +25,21 @@ part s w = take (w .end - w .start) (drop (w .start) s)
 
 -- w is the next word of the line s
 module _ (s : List ℕ) (from : ℕ) (w : Span) (e : w ≡ wordAt s from) where
-  pub ended-yes : (l : Line) → w .start ≡ w .end → l ≡ ended s from l
+  pub ended-yes : (c : Call) → w .start ≡ w .end → c ≡ ended s from c
   unfolding ended none
-  ended-yes l q = rw (← e, eq-eqb (w .start) (w .end) q) refl
+  ended-yes c q = rw (← e, eq-eqb (w .start) (w .end) q) refl
 
-  pub ended-no : (l : Line) → (w .start ≡ w .end → ⊥) → Bad theEnd ≡ ended s from l
+  pub ended-no : (c : Call) → (w .start ≡ w .end → ⊥) → noCall theEnd ≡ ended s from c
   unfolding ended none
-  ended-no l d = rw (← e, ne-eqb (w .start) (w .end) d) refl
+  ended-no c d = rw (← e, ne-eqb (w .start) (w .end) d) refl
 
-  pub named-none : (f : ℕ → ℕ → Line) → w .start ≡ w .end → Bad aName ≡ named f s from
+  pub named-none : (c : Call) → w .start ≡ w .end → noCall aName ≡ named c s from
   unfolding named none
-  named-none f q = rw (← e, eq-eqb (w .start) (w .end) q) refl
+  named-none c q = rw (← e, eq-eqb (w .start) (w .end) q) refl
 
-  pub named-some : (f : ℕ → ℕ → Line) → (w .start ≡ w .end → ⊥) → ended s (w .end) (f (w .start) (w .end - w .start)) ≡ named f s from
+  pub named-some : (c : Call) → (w .start ≡ w .end → ⊥) → ended s (w .end) c ≡ named c s from
   unfolding named none
-  named-some f d = rw (← e, ne-eqb (w .start) (w .end) d) refl
+  named-some c d = rw (← e, ne-eqb (w .start) (w .end) d) refl
 
   pub number-none : w .start ≡ w .end → next.Bad aNumber ≡ numberAt s from
   unfolding numberAt valueOf sameBytes isHex numeralOf nextOf
@@ -57,38 +49,120 @@ module _ (s : List ℕ) (from : ℕ) (w : Span) (e : w ≡ wordAt s from) where
   unfolding numberAt text
   number-some n m p q = rw (← e, ← p, q) refl
 
-  pub way-none : w .start ≡ w .end → Bad aWay ≡ way s from
+  pub way-none : (c : Call) → w .start ≡ w .end → noCall aWay ≡ way c s from
   unfolding way sameBytes
-  way-none q = rw (← e, text-none s w q) refl
+  way-none c q = rw (← e, text-none s w q) refl
 
-  pub way-plain : sameBytes (part s w) (bytes "plain") ≡ true → ended s (w .end) CollectPlain ≡ way s from
+  pub way-plain : (c d : Call) → d ≡ withNumber 0 0 c → sameBytes (part s w) (bytes "plain") ≡ true → ended s (w .end) d ≡ way c s from
   unfolding way text
-  way-plain p = rw (← e, p) refl
+  way-plain c d f p = rw (f, ← e, p) refl
 
-  pub way-clusters : sameBytes (part s w) (bytes "plain") ≡ false → sameBytes (part s w) (bytes "clusters") ≡ true → ended s (w .end) CollectClusters ≡ way s from
+  pub way-clusters : (c d : Call) → d ≡ withNumber 0 1 c → sameBytes (part s w) (bytes "plain") ≡ false → sameBytes (part s w) (bytes "clusters") ≡ true
+      → ended s (w .end) d ≡ way c s from
   unfolding way text
-  way-clusters p q = rw (← e, p, q) refl
+  way-clusters c d f p q = rw (f, ← e, p, q) refl
 
-  pub way-other : sameBytes (part s w) (bytes "plain") ≡ false → sameBytes (part s w) (bytes "clusters") ≡ false → Bad aWay ≡ way s from
+  pub way-other : (c : Call) → sameBytes (part s w) (bytes "plain") ≡ false → sameBytes (part s w) (bytes "clusters") ≡ false → noCall aWay ≡ way c s from
   unfolding way text
-  way-other p q = rw (← e, p, q) refl
+  way-other c p q = rw (← e, p, q) refl
 
 -- n is the next number of the line s
-module _ (s : List ℕ) (from : ℕ) (k : ℕ → ℕ → Line) (n : Next) where
-  pub then-bad : (x : ℕ) → n ≡ numberAt s from → n ≡ next.Bad x → andThen (numberAt s from) k ≡ Bad x
+module _ (s : List ℕ) (from : ℕ) (k : ℕ → ℕ → Call) (n : Next) where
+  then-bad : (x : ℕ) → n ≡ numberAt s from → n ≡ next.Bad x → noCall x ≡ andThen (numberAt s from) k
   unfolding andThen
-  then-bad x p q = rw (← p, q, andThen)
+  then-bad x p q = rw (← p, q, andThen) refl
 
-  pub then-value : (v at : ℕ) → n ≡ numberAt s from → n ≡ next.Value v at → andThen (numberAt s from) k ≡ k v at
+  then-value : (v at : ℕ) → n ≡ numberAt s from → n ≡ next.Value v at → k v at ≡ andThen (numberAt s from) k
   unfolding andThen
-  then-value v at p q = rw (← p, q, andThen)
+  then-value v at p q = rw (← p, q, andThen) refl
+
+-- ---- rows of a table
+
+-- v is the next word of the table s
+module _ (s : List ℕ) (at : ℕ) (v : Span) (e : v ≡ wordAt s at) (kind : ℕ) (w : List ℕ) where
+  pub row-none : (left : ℕ) → 0 < left → v .start ≡ v .end → noCall aCall ≡ rowFrom left kind s at w
+  unfolding rowFrom none
+  row-none zero h q = absurd (omega arith)
+  row-none (suc left) h q = rw (← e, eq-eqb (v .start) (v .end) q) refl
+
+  pub row-bad : (left : ℕ) → 0 < left → (v .start ≡ v .end → ⊥) → (n : Next) (x : ℕ) → n ≡ numberAt s (v .end) → n ≡ next.Bad x
+      → noCall x ≡ rowFrom left kind s at w
+  unfolding rowFrom none
+  row-bad zero h d n x p q = absurd (omega arith)
+  row-bad (suc left) h d n x p q = rw (← e, ne-eqb (v .start) (v .end) d) (then-bad s (v .end) _ n x p q)
+
+  pub row-hit : (left : ℕ) → 0 < left → (v .start ≡ v .end → ⊥) → (n : Next) (count after : ℕ) → n ≡ numberAt s (v .end) → n ≡ next.Value count after
+      → sameBytes w (part s v) ≡ true → bare kind count ≡ rowFrom left kind s at w
+  unfolding rowFrom none text
+  row-hit zero h d n count after p q r = absurd (omega arith)
+  row-hit (suc left) h d n count after p q r =
+      rw (← e, ne-eqb (v .start) (v .end) d, r) (then-value s (v .end) _ n count after p q)
+
+  pub row-miss : (left : ℕ) → 0 < left → (v .start ≡ v .end → ⊥) → (n : Next) (count after : ℕ) → n ≡ numberAt s (v .end) → n ≡ next.Value count after
+      → sameBytes w (part s v) ≡ false → rowFrom (left - 1) (kind + 1) s after w ≡ rowFrom left kind s at w
+  unfolding rowFrom none text
+  row-miss zero h d n count after p q r = absurd (omega arith)
+  row-miss (suc left) h d n count after p q r =
+      let z : suc left - 1 ≡ left = omega arith in
+      rw (z, ← e, ne-eqb (v .start) (v .end) d, r, add-one kind) (then-value s (v .end) _ n count after p q)
+
+pub row-end : (s : List ℕ) (at kind : ℕ) (w : List ℕ) (left : ℕ) → left ≤ 0 → noCall aCall ≡ rowFrom left kind s at w
+unfolding rowFrom
+row-end s at kind w zero h = refl
+row-end s at kind w (suc left) h = absurd (omega arith)
+
+-- ---- numbers
+
+module _ (s : List ℕ) (at : ℕ) (c : Call) (count k : ℕ) where
+  pub numbers-bad : k < count → (n : Next) (x : ℕ) → n ≡ numberAt s at → n ≡ next.Bad x → noCall x ≡ numbersFrom (count - k) k c s at
+  unfolding numbersFrom
+  numbers-bad h n x p q =
+      let d : count - k ≡ suc (count - (k + 1)) = omega arith in
+      rw d (then-bad s at _ n x p q)
+
+  pub numbers-more : k < count → (n : Next) (v after : ℕ) → n ≡ numberAt s at → n ≡ next.Value v after → (c′ : Call) → c′ ≡ withNumber k v c
+      → numbersFrom (count - (k + 1)) (k + 1) c′ s after ≡ numbersFrom (count - k) k c s at
+  unfolding numbersFrom
+  numbers-more h n v after p q c′ f =
+      let d : count - k ≡ suc (count - (k + 1)) = omega arith in
+      rw (f, d, add-one k) (then-value s at _ n v after p q)
+
+  pub numbers-end : count ≤ k → ended s at c ≡ numbersFrom (count - k) k c s at
+  unfolding numbersFrom
+  numbers-end h =
+      let d : count - k ≡ 0 = omega arith in
+      rw d refl
+
+pub numbers-all : (s : List ℕ) (at : ℕ) (c : Call) (count : ℕ) → numbersFrom (count - 0) 0 c s at ≡ numbersFrom count 0 c s at
+numbers-all s at c count =
+    let d : count - 0 ≡ count = omega arith in
+    rw d refl
+
+-- ---- the line
+
+module _ (c : Call) (s : List ℕ) (at : ℕ) where
+  pub follow-none : c .kind ≡ 0 → c ≡ follows c s at
+  unfolding follows
+  follow-none e = rw (eq-eqb (c .kind) 0 e) refl
+
+  pub follow-name : (c .kind ≡ 0 → ⊥) → c .kind < create → named c s at ≡ follows c s at
+  unfolding follows
+  follow-name d h = rw (ne-eqb (c .kind) 0 d, lt-ltb (c .kind) create h) refl
+
+  pub follow-way : (c .kind ≡ 0 → ⊥) → create ≤ c .kind → c .kind ≡ collect → way c s at ≡ follows c s at
+  unfolding follows
+  follow-way d h e = rw (ne-eqb (c .kind) 0 d, le-ltb (c .kind) create h, eq-eqb (c .kind) collect e) refl
+
+  pub follow-numbers : (c .kind ≡ 0 → ⊥) → create ≤ c .kind → (c .kind ≡ collect → ⊥) → numbersFrom (c .count) 0 c s at ≡ follows c s at
+  unfolding follows
+  follow-numbers d h f = rw (ne-eqb (c .kind) 0 d, le-ltb (c .kind) create h, ne-eqb (c .kind) collect f) refl
 
 -- w is the first word of the line s
 module _ (s : List ℕ) (w : Span) (e : w ≡ wordAt s 0) where
-  pub line-none : w .start ≡ w .end → Nothing ≡ parsed s
+  pub line-none : w .start ≡ w .end → noCall 0 ≡ parsed s
   unfolding parsed none
   line-none q = rw (← e, eq-eqb (w .start) (w .end) q) refl
 
-  pub line-some : (w .start ≡ w .end → ⊥) → (c m : Call) → c ≡ look table (part s w) → c ≡ m → follows m s (w .end) ≡ parsed s
+  pub line-some : (w .start ≡ w .end → ⊥) → (c : Call) → c ≡ rowOf table (part s w) → follows c s (w .end) ≡ parsed s
   unfolding parsed none text
-  line-some d c m p q = rw (← e, ne-eqb (w .start) (w .end) d, ← p, q) refl
+  line-some d c p = rw (← e, ne-eqb (w .start) (w .end) d, ← p) refl

@@ -1,18 +1,18 @@
 -- The call that a line makes, or what was expected where the line first goes wrong.
-use Prim.Native.Nat.{ℕ, _-_}
-use mathlib.Core.Bool.{true, false, cond}
-use mathlib.Core.List.{List, [], _∷_}
-use Rattle.tokens.specs.Text.{bytes}
-use Rattle.tokens.specs.Word.{wordAt, none, text, sameBytes}
-use Rattle.tokens.specs.Numeral.{valueOf}
-use Rattle.tokens.specs.declared.numbers.Number.{Number}
-use Rattle.tokens.specs.declared.numbers.Number.the-variants as number
-use Rattle.lines.specs.declared.Next.{Next}
-use Rattle.lines.specs.declared.Next.the-variants as next
-use Rattle.lines.specs.declared.Call.{Call}
-use Rattle.lines.specs.declared.Call.the-variants as call
-use Rattle.lines.specs.declared.Line.{Line}
-use Rattle.lines.specs.declared.Line.the-variants.{Nothing, Create, Allocate, Read, Show, Write, Root, Sink, Analyse, CollectPlain, CollectClusters, Wrote, Loaded, Bad}
+use Prim.Native.Nat.{ℕ, zero, suc}
+use mathlib.Core.Bool.{cond}
+use mathlib.Core.List.{List}
+use lib.Dec.{eqb, ltb}
+use lib.ListN.{length}
+use Rattle.lines.specs.Text.{bytes}
+use Rattle.lines.specs.Word.{wordAt, none, text, sameBytes}
+use Rattle.lines.specs.Numeral.{valueOf}
+use Rattle.lines.specs.declared.numbers.Number.{Number}
+use Rattle.lines.specs.declared.numbers.Number.the-variants as number
+use Rattle.lines.specs.declared.parse.Next.{Next}
+use Rattle.lines.specs.declared.parse.Next.the-variants as next
+use Rattle.lines.specs.declared.kinds.Call.{Call}
+use Rattle.lines.specs.Kinds.{table, create, collect, bare, noCall, withNumber}
 
 -- what a bad line should have had at the place where it goes wrong
 abbrev pub aCall : ℕ
@@ -36,30 +36,9 @@ aWay = 5
 abbrev pub aName : ℕ
 aName = 6
 
--- the name of each call
-unfoldable pub table : List (List ℕ × Call)
-table =
-    (bytes "create", call.Create)
-    ∷ (bytes "allocate", call.Allocate)
-    ∷ (bytes "read", call.Read)
-    ∷ (bytes "show", call.Show)
-    ∷ (bytes "write", call.Write)
-    ∷ (bytes "root", call.Root)
-    ∷ (bytes "sink", call.Sink)
-    ∷ (bytes "analyse", call.Analyse)
-    ∷ (bytes "collect", call.Collect)
-    ∷ (bytes "wrote", call.Wrote)
-    ∷ (bytes "loaded", call.Loaded)
-    ∷ []
-
--- the call that a word names: that of the first entry with its bytes
-unfoldable pub look : List (List ℕ × Call) → List ℕ → Call
-look [] w = call.Unknown
-look (e ∷ t) w = elim (sameBytes w (e .0)) [ true ↦ e .1 | false ↦ look t w ]
-
--- l, if no word is left at `at`
-unfoldable pub ended : List ℕ → ℕ → Line → Line
-ended s at l = cond (none (wordAt s at)) l (Bad theEnd)
+-- the call c, if no word is left at `at`
+unfoldable pub ended : List ℕ → ℕ → Call → Call
+ended s at c = cond (none (wordAt s at)) c (noCall theEnd)
 
 -- a number, or what was expected in its place
 unfoldable pub nextOf : Number → ℕ → Next
@@ -72,52 +51,47 @@ unfoldable pub numberAt : List ℕ → ℕ → Next
 numberAt s at = nextOf (valueOf (text s (wordAt s at))) (wordAt s at .end)
 
 -- what k makes of the number at hand and the place after it
-unfoldable pub andThen : Next → (ℕ → ℕ → Line) → Line
-andThen (next.Bad e) k = Bad e
+unfoldable pub andThen : Next → (ℕ → ℕ → Call) → Call
+andThen (next.Bad e) k = noCall e
 andThen (next.Value v at) k = k v at
 
--- one number and the end of the line
-unfoldable pub one : (ℕ → Line) → List ℕ → ℕ → Line
-one f s at = andThen (numberAt s at) (λ v after. ended s after (f v))
+-- the call that the word w names: the first of `left` rows of the table from `at` on that begins with it, by its place from `kind` on
+unfoldable pub rowFrom : ℕ → ℕ → List ℕ → ℕ → List ℕ → Call
+rowFrom zero kind s at w = noCall aCall
+rowFrom (suc left) kind s at w =
+    let v = wordAt s at in
+    cond (none v) (noCall aCall)
+    (andThen (numberAt s (v .end)) (λ count after. cond (sameBytes w (text s v)) (bare kind count) (rowFrom left (suc kind) s after w)))
 
--- two numbers and the end of the line
-unfoldable pub two : (ℕ → ℕ → Line) → List ℕ → ℕ → Line
-two f s at = andThen (numberAt s at) (λ v after. one (f v) s after)
+-- no table has more rows than bytes
+unfoldable pub rowOf : List ℕ → List ℕ → Call
+rowOf s w = rowFrom (length s) 1 s 0 w
 
--- three numbers and the end of the line
-unfoldable pub three : (ℕ → ℕ → ℕ → Line) → List ℕ → ℕ → Line
-three f s at = andThen (numberAt s at) (λ v after. two (f v) s after)
+-- the call c with `left` numbers more, from the k-th on, and the end of the line
+unfoldable pub numbersFrom : ℕ → ℕ → Call → List ℕ → ℕ → Call
+numbersFrom zero k c s at = ended s at c
+numbersFrom (suc left) k c s at = andThen (numberAt s at) (λ v after. numbersFrom left (suc k) (withNumber k v c) s after)
 
--- a name, and the end of the line: f has the name's start and its length
-unfoldable pub named : (ℕ → ℕ → Line) → List ℕ → ℕ → Line
-named f s at =
+-- a name, and the end of the line
+unfoldable pub named : Call → List ℕ → ℕ → Call
+named c s at = cond (none (wordAt s at)) (noCall aName) (ended s (wordAt s at .end) c)
+
+-- `plain` or `clusters`, as 0 or 1, and the end of the line
+unfoldable pub way : Call → List ℕ → ℕ → Call
+way c s at =
     let w = wordAt s at in
-    cond (none w) (Bad aName) (ended s (w .end) (f (w .start) (w .end - w .start)))
+    cond (sameBytes (text s w) (bytes "plain")) (ended s (w .end) (withNumber 0 0 c))
+    (cond (sameBytes (text s w) (bytes "clusters")) (ended s (w .end) (withNumber 0 1 c)) (noCall aWay))
 
--- `plain` or `clusters`, and the end of the line
-unfoldable pub way : List ℕ → ℕ → Line
-way s at =
-    let w = wordAt s at in
-    cond (sameBytes (text s w) (bytes "plain")) (ended s (w .end) CollectPlain)
-    (cond (sameBytes (text s w) (bytes "clusters")) (ended s (w .end) CollectClusters) (Bad aWay))
-
--- what follows the name of a call
-unfoldable pub follows : Call → List ℕ → ℕ → Line
-follows call.Create = two Create
-follows call.Allocate = one Allocate
-follows call.Read = two Read
-follows call.Show = one Show
-follows call.Write = three Write
-follows call.Root = two Root
-follows call.Sink = one Sink
-follows call.Analyse = λ s at. ended s at Analyse
-follows call.Collect = way
-follows call.Wrote = named Wrote
-follows call.Loaded = named Loaded
-follows call.Unknown = λ s at. Bad aCall
+-- what follows the name of the call c
+unfoldable pub follows : Call → List ℕ → ℕ → Call
+follows c s at =
+    cond (eqb (c .kind) 0) c
+    (cond (ltb (c .kind) create) (named c s at)
+    (cond (eqb (c .kind) collect) (way c s at) (numbersFrom (c .count) 0 c s at)))
 
 -- the line s: its first word names the call
-unfoldable pub parsed : List ℕ → Line
+unfoldable pub parsed : List ℕ → Call
 parsed s =
     let w = wordAt s 0 in
-    cond (none w) Nothing (follows (look table (text s w)) s (w .end))
+    cond (none w) (noCall 0) (follows (rowOf table (text s w)) s (w .end))

@@ -18,15 +18,6 @@ abbrev μ-loop : tie.MeasureT-loop
 loop-holds : tie.Need-loop-holds Inv-loop μ-loop
 loop-holds c = (refl, refl)
 
-keep-one-requires : tie.Need-keep-one-requires Inv-loop μ-loop
-keep-one-requires c κs = search needs
-
-add-i : tie.Need-add-i Inv-loop μ-loop
-add-i c = omega arith
-
-loop-less : tie.Need-loop-less Inv-loop μ-loop
-loop-less c = omega arith
-
 loop-again : tie.Need-loop-again Inv-loop μ-loop
 loop-again c = let k = c .before .before .keep-one .ensures in let l = c .before .before .before .before .before .loop in (rw k (keep-length _ _ _ _) ∙ l .inv .0, rw k (keep-step _ _ _ _ _ (c .before .before .before .before .loop-test .taken)) ∙ l .inv .1)
 
@@ -43,9 +34,9 @@ keep-freed-spec =
     Inv-loop
     μ-loop
     loop-holds
-    keep-one-requires
-    add-i
-    loop-less
+    (λ c κs. search needs)
+    (λ c. omega arith)
+    (λ c. omega arith)
     loop-again
     same-length
     returns)

@@ -5,9 +5,6 @@ use Rattle.compare.specs.Hands.{wordOf}
 use Rattle.compare.proofs.hands.word_of.Statement.{statement}
 use Rattle.compare.proofs.hands.word_of.Tie as tie
 
-add-result : tie.Need-add-result
-add-result c = search needs
-
 returns : tie.Need-returns
 unfolding wordOf
 returns c = rw (c .if1 .taken) refl
@@ -17,4 +14,4 @@ unfolding wordOf
 returns-2 c = rw (c .if1 .left) refl
 
 pub word-of-spec : {M : Type 1} → statement M
-word-of-spec = tie.close (tie.spec add-result returns returns-2)
+word-of-spec = tie.close (tie.spec (λ c. search needs) returns returns-2)

@@ -5,7 +5,7 @@ use mathlib.Core.Path.{_≡_, refl, sym, _∙_}
 use Prim.Native.Nat.{_-_}
 use borrow.Author.Tests.{not-true, not-false}
 use Rattle.compare.specs.Survivors.{sameObjects}
-use Rattle.compare.proofs.DecideLaws.{objects-step, objects-stop, objects-end}
+use Rattle.compare.proofs.DecideLaws.{every-step, every-stop, every-end}
 use Rattle.compare.proofs.survivors.same_objects.Statement.{statement}
 use Rattle.compare.proofs.survivors.same_objects.Tie as tie
 
@@ -18,23 +18,14 @@ abbrev μ-loop : tie.MeasureT-loop
 loop-holds : tie.Need-loop-holds Inv-loop μ-loop
 loop-holds c = refl
 
-same-object-requires : tie.Need-same-object-requires Inv-loop μ-loop
-same-object-requires c κs = search needs
-
 returns : tie.Need-returns Inv-loop μ-loop
-returns c = objects-stop _ _ _ _ _ _ (c .before .before .loop-test .taken) (sym (c .before .same-object .ensures) ∙ not-true _ (c .if1 .taken)) ∙ c .before .before .before .loop .inv
-
-add-i : tie.Need-add-i Inv-loop μ-loop
-add-i c = omega arith
-
-loop-less : tie.Need-loop-less Inv-loop μ-loop
-loop-less c = omega arith
+returns c = every-stop _ _ _ (c .before .before .loop-test .taken) (sym (c .before .same-object .ensures) ∙ not-true _ (c .if1 .taken)) ∙ c .before .before .before .loop .inv
 
 loop-again : tie.Need-loop-again Inv-loop μ-loop
-loop-again c = objects-step _ _ _ _ _ _ (c .before .before .loop-test .taken) (sym (c .before .same-object .ensures) ∙ not-false _ (c .if1 .left)) ∙ c .before .before .before .loop .inv
+loop-again c = every-step _ _ _ (c .before .before .loop-test .taken) (sym (c .before .same-object .ensures) ∙ not-false _ (c .if1 .left)) ∙ c .before .before .before .loop .inv
 
 returns-2 : tie.Need-returns-2 Inv-loop μ-loop
-returns-2 c = objects-end _ _ _ _ _ _ (c .loop-test .left) ∙ c .before .loop .inv
+returns-2 c = every-end _ _ _ (c .loop-test .left) ∙ c .before .loop .inv
 
 pub same-objects-spec : {M : Type 1} → statement M
 same-objects-spec =
@@ -43,9 +34,9 @@ same-objects-spec =
     Inv-loop
     μ-loop
     loop-holds
-    same-object-requires
+    (λ c κs. search needs)
     returns
-    add-i
-    loop-less
+    (λ c. omega arith)
+    (λ c. omega arith)
     loop-again
     returns-2)

@@ -5,7 +5,7 @@ use mathlib.Core.Path.{_≡_, refl, sym, _∙_}
 use Prim.Native.Nat.{_-_}
 use borrow.Author.Tests.{not-true, not-false}
 use Rattle.compare.specs.Survivors.{sameRoots}
-use Rattle.compare.proofs.DecideLaws.{roots-step, roots-stop, roots-end}
+use Rattle.compare.proofs.DecideLaws.{every-step, every-stop, every-end}
 use Rattle.compare.proofs.survivors.same_roots.Statement.{statement}
 use Rattle.compare.proofs.survivors.same_roots.Tie as tie
 
@@ -18,23 +18,14 @@ abbrev μ-loop : tie.MeasureT-loop
 loop-holds : tie.Need-loop-holds Inv-loop μ-loop
 loop-holds c = refl
 
-same-root-requires : tie.Need-same-root-requires Inv-loop μ-loop
-same-root-requires c κs = search needs
-
 returns : tie.Need-returns Inv-loop μ-loop
-returns c = roots-stop _ _ _ _ _ _ (c .before .before .loop-test .taken) (sym (c .before .same-root .ensures) ∙ not-true _ (c .if1 .taken)) ∙ c .before .before .before .loop .inv
-
-add-j : tie.Need-add-j Inv-loop μ-loop
-add-j c = omega arith
-
-loop-less : tie.Need-loop-less Inv-loop μ-loop
-loop-less c = omega arith
+returns c = every-stop _ _ _ (c .before .before .loop-test .taken) (sym (c .before .same-root .ensures) ∙ not-true _ (c .if1 .taken)) ∙ c .before .before .before .loop .inv
 
 loop-again : tie.Need-loop-again Inv-loop μ-loop
-loop-again c = roots-step _ _ _ _ _ _ (c .before .before .loop-test .taken) (sym (c .before .same-root .ensures) ∙ not-false _ (c .if1 .left)) ∙ c .before .before .before .loop .inv
+loop-again c = every-step _ _ _ (c .before .before .loop-test .taken) (sym (c .before .same-root .ensures) ∙ not-false _ (c .if1 .left)) ∙ c .before .before .before .loop .inv
 
 returns-2 : tie.Need-returns-2 Inv-loop μ-loop
-returns-2 c = roots-end _ _ _ _ _ _ (c .loop-test .left) ∙ c .before .loop .inv
+returns-2 c = every-end _ _ _ (c .loop-test .left) ∙ c .before .loop .inv
 
 pub same-roots-spec : {M : Type 1} → statement M
 same-roots-spec =
@@ -43,9 +34,9 @@ same-roots-spec =
     Inv-loop
     μ-loop
     loop-holds
-    same-root-requires
+    (λ c κs. search needs)
     returns
-    add-j
-    loop-less
+    (λ c. omega arith)
+    (λ c. omega arith)
     loop-again
     returns-2)

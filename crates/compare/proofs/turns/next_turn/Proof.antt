@@ -14,12 +14,9 @@ returns-2 : tie.Need-returns-2
 unfolding nextTurn
 returns-2 c = rw (ne-eqb _ 2 (c .before .if1 .left), eq-eqb _ 2 (c .if2 .taken)) refl
 
-paired-requires : tie.Need-paired-requires
-paired-requires c κs = search needs
-
 returns-3 : tie.Need-returns-3
 unfolding nextTurn
 returns-3 c = c .paired .ensures ∙ rw (ne-eqb _ 2 (c .before .before .if1 .left), ne-eqb _ 2 (c .before .if2 .left)) refl
 
 pub next-turn-spec : {M : Type 1} → statement M
-next-turn-spec = tie.close (tie.spec returns returns-2 paired-requires returns-3)
+next-turn-spec = tie.close (tie.spec returns returns-2 (λ c κs. search needs) returns-3)

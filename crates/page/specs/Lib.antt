@@ -1,2 +1,0 @@
--- Lines on the page.
-pub mod Page

@@ -1,2 +1,0 @@
--- What the report prints of a call.
-pub mod Phrases

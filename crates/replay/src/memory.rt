@@ -1,0 +1,20 @@
+// The memory of a report. A buffer of a heap, of the size of the largest heap, is there twice: 0 is the left column, and 1 the right one.
+
+// A page, the cells of a row, the name of a build, or the bytes of a list that are at hand.
+pub(crate) type Text = [u8; 65536];
+
+// The names of the builds that wrote and that loaded.
+pub(crate) type Names = [Text; 2];
+
+pub(crate) type Records = [[u32; 4095]; 2];
+
+pub(crate) type Slots = [[u32; 32760]; 2];
+
+pub(crate) type Roots = [[u32; 64]; 2];
+
+// Every call leaves its work words at 0, so that both columns can use the same.
+pub(crate) type Work = [u32; 41014];
+
+pub(crate) type Map = [[u64; 64]; 2];
+
+pub(crate) type Hands = [u64; 8192];

@@ -1,3 +1,0 @@
--- Rows of three cells.
-pub mod Columns
-pub mod Survivors

@@ -1,3 +1,0 @@
--- Laws of these.
-pub mod WordLaws
-pub mod NumeralLaws

@@ -1,2 +1,0 @@
--- The words of a report.
-pub mod Words
