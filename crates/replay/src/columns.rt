@@ -92,7 +92,7 @@ fn next(
         &mut records[side],
         &mut slots[side],
         &mut roots[side],
-        work,
+        &mut work[side],
         &mut map[side],
     );
     Column {

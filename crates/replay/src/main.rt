@@ -78,7 +78,7 @@ fn report(a: Check, c: Check, one: bool, page: &mut Text, at: usize) {
     let mut recs = [[0u32; 4095]; 2];
     let mut slots = [[0u32; 32760]; 2];
     let mut roots = [[0u32; 64]; 2];
-    let mut work = [0u32; 41014];
+    let mut work = [[0u32; 41014]; 2];
     let mut map = [[0u64; 64]; 2];
     let b = play(
         begin(a.source.fd, c.source.fd, one, at),

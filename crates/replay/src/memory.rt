@@ -12,8 +12,7 @@ pub(crate) type Slots = [[u32; 32760]; 2];
 
 pub(crate) type Roots = [[u32; 64]; 2];
 
-// Every call leaves its work words at 0, so that both columns can use the same.
-pub(crate) type Work = [u32; 41014];
+pub(crate) type Work = [[u32; 41014]; 2];
 
 pub(crate) type Map = [[u64; 64]; 2];
 

@@ -3,6 +3,11 @@ use crate::memory::*;
 use crate::text::*;
 use files::*;
 
+// The widths of the cells: that of a call, and those of two answers.
+const CALL: usize = 31;
+
+const ANSWER: usize = 30;
+
 // Behind this place the page is written out. A line is shorter than what is left.
 const FULL: usize = 49152;
 
@@ -81,12 +86,12 @@ fn padded(page: &mut Text, at: usize, cells: &Text, from: usize, to: usize, room
 
 // The next line of the row from these places on, where its cells end at those.
 fn row_line(page: &mut Text, cells: &Text, from: Row, ends: Row) -> Row {
-    let a = line_stop(cells, from.call, ends.call, 31);
-    let b = line_stop(cells, from.left, ends.left, 30);
-    let c = line_stop(cells, from.right, ends.right, 30);
-    let first = padded(page, from.at, cells, from.call, a, 31);
+    let a = line_stop(cells, from.call, ends.call, CALL);
+    let b = line_stop(cells, from.left, ends.left, ANSWER);
+    let c = line_stop(cells, from.right, ends.right, ANSWER);
+    let first = padded(page, from.at, cells, from.call, a, CALL);
     let bar = text(page, first, b" | ");
-    let second = padded(page, bar, cells, from.left, b, 30);
+    let second = padded(page, bar, cells, from.left, b, ANSWER);
     let last = form(page, second, b" |\n | ", (from.right < c) as usize, 0);
     let end = copy(page, last, cells, from.right, c);
     Row {
