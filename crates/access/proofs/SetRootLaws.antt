@@ -1,12 +1,12 @@
 -- What the tests of set root answer at each end. Assumes nothing.
-use Prim.Native.Nat.{ℕ, _-_, _^_, _≤_, _<_}
+use Prim.Native.Nat.{ℕ, _-_, _≤_, _<_}
 use mathlib.Core.Path.{_≡_, refl, sym, ap, _∙_}
 use mathlib.Core.Bool.{Bool, true, false, cond, not, _&&_, _||_}
 use mathlib.Core.List.{List}
 use mathlib.Core.Logic.{_≢_}
 use native.Mathlib.Omega.{arith}
 use lib.ListN.{length, getD, set}
-use borrow.Author.Tests.{lt-ltb, le-ltb, le-leb, lt-leb, ltb-false, leb-false, leb-true, eqb-true, ne-eqb}
+use borrow.Author.Tests.{lt-ltb, le-ltb, le-leb, lt-leb, ltb-false, leb-false, eqb-true, ne-eqb}
 use Rattle.layout.specs.declared.answers.Control.{Control}
 use Rattle.layout.specs.declared.words.Word.{Word}
 use Rattle.layout.specs.declared.words.Word.the-variants.{Nil, Object, Immediate, Illegal}
@@ -15,7 +15,7 @@ use Rattle.layout.specs.Word.{isNil, isPointer, isImmediate, legalWord, sortOf}
 use Rattle.layout.specs.ControlRecord.{badControl}
 use Rattle.layout.specs.Refusal.{first}
 use Rattle.layout.proofs.ControlLaws.{control-facts}
-use Rattle.layout.proofs.WordLaws.{Says, sort-says}
+use Rattle.layout.proofs.WordLaws.{Says, sort-says, immediate-bounds}
 use Rattle.layout.proofs.LimitLaws.{within-true, below-within, above-within}
 use Rattle.layout.proofs.RefusalLaws.{first-passed, outcome-zero, outcome-number}
 use Rattle.rules.specs.Buffers.{short, recOf}
@@ -33,12 +33,12 @@ unfolding isNil isPointer
 nil-no-pointer n w z = let e = eqb-true w 0 z in below-within 1 n w (omega arith)
 
 immediate-no-nil : (w : ℕ) → isImmediate w ≡ true → isNil w ≡ false
-unfolding isImmediate isNil
-immediate-no-nil w h = let l = leb-true (2 ^ 31) w h in ne-eqb w 0 (λ (e : w ≡ 0). omega arith)
+unfolding isNil
+immediate-no-nil w h = let l = immediate-bounds w h .0 in ne-eqb w 0 (λ (e : w ≡ 0). omega arith)
 
 immediate-no-pointer : (n w : ℕ) → n ≤ 4095 → isImmediate w ≡ true → isPointer n w ≡ false
-unfolding isImmediate isPointer
-immediate-no-pointer n w k h = let l = leb-true (2 ^ 31) w h in above-within 1 n w (omega arith)
+unfolding isPointer
+immediate-no-pointer n w k h = let l = immediate-bounds w h .0 in above-within 1 n w (omega arith)
 
 illegal-neither : (n w : ℕ) → legalWord n w ≡ false → (isNil w ≡ false) × (isPointer n w ≡ false)
 unfolding legalWord

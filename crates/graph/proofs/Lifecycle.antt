@@ -22,17 +22,23 @@ use Rattle.graph.proofs.State.{Good, clustered, keep-fewer}
 unfoldable pub created : ℕ → Heap
 created n = record { n = n; kids = λ x. []; sink = λ x. false; written = λ x. false; cluster = λ x. 0; out = λ x. false }
 
-pub create-good : (n : ℕ) → Good (created n) 0
-unfolding created clustered Connected
-create-good n = record {
-  conn = λ y c e p. absurd (p (sym e));
-  zero-none = refl;
-  closed = λ x y m. absurd (List·Memᴰ·not-nil m);
-  range = λ x p. absurd (p refl);
-  sinks = λ x e. refl;
-  exact = λ x. sym (outBit-none (λ x. []) (λ x. false) (λ x. 0) x refl);
-  losses = let a = count-le n (λ x. not (eqb 0 0)) in omega arith;
+-- a heap without clusters, as one just created or loaded is
+pub unclustered-good : (H : Heap) → ((x : ℕ) → H .cluster x ≡ 0) → ((x : ℕ) → H .out x ≡ false)
+    → ((x y : ℕ) → List·Memᴰ y (H .kids x) → y ≤ H .n) → Good H 0
+unfolding clustered Connected
+unclustered-good H none out closed = record {
+  conn = λ y c e p. absurd (p (sym e ∙ none y));
+  zero-none = none 0;
+  closed = closed;
+  range = λ x p. absurd (p (none x));
+  sinks = λ x e. none x;
+  exact = λ x. out x ∙ sym (outBit-none (H .kids) (H .sink) (H .cluster) x (none x));
+  losses = let a = count-le (H .n) (λ x. not (eqb (H .cluster x) 0)) in omega arith;
 }
+
+pub create-good : (n : ℕ) → Good (created n) 0
+unfolding created
+create-good n = unclustered-good (created n) (λ x. refl) (λ x. refl) (λ x y m. absurd (List·Memᴰ·not-nil m))
 
 -- ---- allocate: an object of no cluster gets other pointers
 

@@ -1,13 +1,13 @@
 -- The sort of a word, from the tests of the word and back. Assumes nothing.
-use Prim.Native.Nat.{ℕ, _^_, _≤_}
+use Prim.Native.Nat.{ℕ, _^_, _≤_, _<_}
 use mathlib.Core.Path.{_≡_, refl}
 use mathlib.Core.Bool.{Bool, true, false, cond, _&&_, _||_, or-true}
 use native.Mathlib.Omega.{arith}
 use lib.Dec.{leb}
-use borrow.Author.Tests.{le-leb, lt-leb, leb-true, ne-eqb}
+use borrow.Author.Tests.{le-leb, lt-leb, lt-ltb, leb-true, ltb-true, ne-eqb}
 use Rattle.layout.specs.Limits.{objectMax}
 use Rattle.layout.specs.Word.{isNil, isPointer, isImmediate, legalWord, sortOf}
-use Rattle.layout.proofs.BoolLaws.{or-split}
+use Rattle.layout.proofs.BoolLaws.{or-split, and-split}
 use Rattle.layout.proofs.LimitLaws.{within-true, above-within}
 use Rattle.layout.specs.declared.words.Word.{Word}
 use Rattle.layout.specs.declared.words.Word.the-variants.{Nil, Object, Immediate, Illegal}
@@ -15,6 +15,18 @@ use Rattle.layout.specs.declared.words.Word.the-variants.{Nil, Object, I
 pub pointer-bound : (n w : ℕ) → isPointer n w ≡ true → w ≤ n
 unfolding isPointer
 pointer-bound n w e = within-true 1 n w e .1
+
+pub immediate-bounds : (w : ℕ) → isImmediate w ≡ true → (2 ^ 31 ≤ w) × (w < 2 ^ 32)
+unfolding isImmediate
+immediate-bounds w e = let b = and-split _ _ e in (leb-true (2 ^ 31) w (b .0), ltb-true w (2 ^ 32) (b .1))
+
+pub is-immediate : (w : ℕ) → 2 ^ 31 ≤ w → w < 2 ^ 32 → isImmediate w ≡ true
+unfolding isImmediate
+is-immediate w l h = rw (le-leb (2 ^ 31) w l, lt-ltb w (2 ^ 32) h) refl
+
+pub not-immediate : (w : ℕ) → w < 2 ^ 31 → isImmediate w ≡ false
+unfolding isImmediate
+not-immediate w h = rw (lt-leb (2 ^ 31) w h) refl
 
 -- ---- the four sorts, in a heap of n ≤ 4,095 objects
 
@@ -32,9 +44,9 @@ module _ (n w : ℕ) (h : n ≤ objectMax) where
       rw (ne-eqb w 0 (λ q. omega arith), e, le-leb w objectMax (omega arith)) refl
 
   pub sort-immediate : isImmediate w ≡ true → sortOf n w ≡ Immediate
-  unfolding sortOf isNil isPointer isImmediate
+  unfolding sortOf isNil isPointer
   sort-immediate e =
-      let b : 2 ^ 31 ≤ w = leb-true (2 ^ 31) w e in
+      let b = immediate-bounds w e .0 in
       rw (ne-eqb w 0 (λ q. omega arith), above-within 1 n w (omega arith), e) refl
 
   pub sort-illegal : legalWord n w ≡ false → sortOf n w ≡ Illegal
@@ -45,8 +57,7 @@ module _ (n w : ℕ) (h : n ≤ objectMax) where
       rw (t .0, t .1, s .1) refl
 
   pub pointer-not-immediate : isPointer n w ≡ true → isImmediate w ≡ false
-  unfolding isPointer isImmediate
-  pointer-not-immediate e = let b = within-true 1 n w e .1 in lt-leb (2 ^ 31) w (omega arith)
+  pointer-not-immediate e = let b = pointer-bound n w e in not-immediate w (omega arith)
 
   pub pointer-legal : isPointer n w ≡ true → legalWord n w ≡ true
   unfolding legalWord

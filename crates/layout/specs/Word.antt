@@ -1,7 +1,7 @@
 -- A word ("The heap"): nil, an object number or an immediate; no other is legal.
 use mathlib.Core.Bool.{Bool, _&&_, _||_, cond}
 use Prim.Native.Nat.{ℕ, _^_}
-use lib.Dec.{eqb, leb}
+use lib.Dec.{eqb, leb, ltb}
 use Rattle.layout.specs.Limits.{objectMax, within}
 use Rattle.layout.specs.declared.words.Word.{Word}
 use Rattle.layout.specs.declared.words.Word.the-variants.{Nil, Object, Immediate, Illegal}
@@ -14,9 +14,9 @@ isNil w = eqb w 0
 unfoldable pub isPointer : ℕ → ℕ → Bool
 isPointer n w = within 1 n w
 
--- a value of the game's own ("The heap")
+-- a value of the game's own ("The heap"): from 0x80000000 up, as far as 32 bits go
 unfoldable pub isImmediate : ℕ → Bool
-isImmediate w = leb (2 ^ 31) w
+isImmediate w = leb (2 ^ 31) w && ltb w (2 ^ 32)
 
 -- what a used slot may hold in a heap of n objects, as far as the word alone tells
 unfoldable pub legalWord : ℕ → ℕ → Bool

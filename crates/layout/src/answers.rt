@@ -12,7 +12,7 @@ pub struct Control {
     pub out_loss: u32,
 }
 
-// What create, write, set root and declare sink answer.
+// What create, write, set root, declare sink and load answer.
 #[repr(C)]
 pub struct Done {
     pub refusal: u32,
@@ -64,5 +64,13 @@ pub struct Collected {
     pub freed: u32,
     pub kept: u32,
     pub scanned: u32,
+    pub control: Control,
+}
+
+// What save answers: how long the image is, in bytes.
+#[repr(C)]
+pub struct Saved {
+    pub refusal: u32,
+    pub length: u32,
     pub control: Control,
 }

@@ -36,6 +36,13 @@ pub const FULL: u32 = 24;
 
 pub const LOSS_FULL: u32 = 25;
 
+// Refusals of an image.
+pub const IMAGE_CUT: u32 = 26;
+
+pub const BAD_IMAGE: u32 = 27;
+
+pub const UNKNOWN_KIND: u32 = 28;
+
 // Whether n or r is outside its range.
 pub fn bad_sizes(n: u32, r: u32) -> bool
     ensures { λ b. ⌜ b ≡ badSizes n r ⌝ }

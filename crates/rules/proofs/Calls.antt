@@ -4,10 +4,10 @@ use Prim.Native.Nat.{ℕ}
 use mathlib.Core.Path.{_≡_, sym, subst}
 use mathlib.Core.List.{List}
 use Rattle.rules.specs.Create.{create}
-use Rattle.rules.specs.Calls.{Call, allocate, allocateInPlace, read, show, write, writeInPlace, setRoot, declareSink, collect, analyse}
+use Rattle.rules.specs.Calls.{Call, allocate, allocateInPlace, read, show, write, writeInPlace, setRoot, declareSink, collect, analyse, save, load}
 use Rattle.rules.specs.Plain.{Played}
 use Rattle.rules.specs.Steps.{State, created, step}
-use Rattle.rules.specs.Demands.{Made, new, called}
+use Rattle.rules.specs.Demands.{Made, new, took, called}
 use Rattle.rules.proofs.Invariant.{Inv}
 use Rattle.rules.proofs.ReadLaws.{read-stays, show-stays}
 use Rattle.rules.proofs.SetRootLaws.{root-inv}
@@ -17,6 +17,8 @@ use Rattle.rules.proofs.AnalyseLaws.{analyse-inv}
 use Rattle.rules.proofs.CreateLaws.{accepted, zeroed-inv}
 use Rattle.rules.proofs.AllocateLaws.{allocate-inv, allocated-in-place}
 use Rattle.rules.proofs.CollectLaws.{collect-inv}
+use Rattle.rules.proofs.SaveLaws.{save-stays}
+use Rattle.rules.proofs.LoadLaws.{load-inv, load-step-inv}
 
 pub step-inv : (call : Call) (s : State) → Inv s → Inv (step call s .after)
 step-inv (allocate width) s I = allocate-inv s I width
@@ -29,10 +31,13 @@ step-inv (setRoot j w) s I = root-inv s I j w
 step-inv (declareSink i) s I = declare-inv s I i
 step-inv (collect kind work map) s I = collect-inv s I kind work map
 step-inv (analyse work) s I = analyse-inv s I work
+step-inv (save out) s I = subst Inv (sym (save-stays s out)) I
+step-inv (load image recs slots roots) s I = load-step-inv image recs slots roots s I
 
 pub created-inv : (n r : ℕ) (recs slots roots : List ℕ) → create n r recs slots roots .answer .refusal ≡ 0 → Inv (created n r recs slots roots)
 created-inv n r recs slots roots e = let a = accepted n r recs slots roots e in subst Inv (sym (a .1)) (zeroed-inv n r recs slots roots (a .0))
 
 pub made-inv : {s : State} → Made s → Inv s
 made-inv (new n r recs slots roots e p) = subst Inv (sym p) (created-inv n r recs slots roots e)
+made-inv (took image recs slots roots e p) = subst Inv (sym p) (load-inv image recs slots roots e)
 made-inv (called {s = s} call m p) = subst Inv (sym p) (step-inv call s (made-inv m))

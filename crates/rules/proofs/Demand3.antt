@@ -9,29 +9,24 @@ use lib.ListN.{length, take, drop, replicate, length-drop, take-append-drop}
 use lib.Seq.{take-add, drop-drop}
 use borrow.Author.Tests.{eqb-true}
 use Rattle.layout.specs.Limits.{slotsLen, workLen, mapLen}
-use Rattle.layout.specs.declared.answers.Control.{Control}
 use Rattle.records.specs.Record.{width}
 use Rattle.layout.specs.Word.{isNil}
-use Rattle.layout.specs.ControlRecord.{withLast, withWriteLoss, withAnalysis, newControl}
+use Rattle.layout.specs.Refusal.{first}
 use Rattle.rules.specs.Buffers.{eight, usedWords, otherWords, allOf, numbers}
 use Rattle.rules.specs.Collect.{byClusters}
 use Rattle.rules.specs.Collect as Collect
-use Rattle.rules.specs.Allocate as Allocate
-use Rattle.rules.specs.Write as Write
-use Rattle.rules.specs.SetRoot as SetRoot
-use Rattle.rules.specs.DeclareSink as DeclareSink
-use Rattle.rules.specs.Analyse as Analyse
-use Rattle.rules.specs.Calls.{Call, allocate, allocateInPlace, read, show, write, writeInPlace, setRoot, declareSink, collect, analyse}
-use Rattle.rules.specs.Plain.{Plain, Played, Cell, eightOf, plainSlots, plainStep, plainCreated, answer}
+use Rattle.rules.specs.Load.{imageTests, imageN, imageR}
+use Rattle.rules.specs.Calls.{Call, allocate, allocateInPlace, read, show, write, writeInPlace, setRoot, declareSink, collect, analyse, save, load}
+use Rattle.rules.specs.Plain.{Plain, Played, Cell, plainSize, eightOf, plainSlots, plainStep, plainCreated}
 use Rattle.rules.specs.Steps.{State, step, answersOf, afterAll}
-use Rattle.rules.specs.Demands.{Lent, EachLent, ScansFew, Alike, Demand3, PlainKeeps, wordsOf, recordIn}
+use Rattle.rules.specs.Demands.{LentCollection, LentLoad, Long, EachLent, ScansFew, Alike, Demand3, PlainKeeps, wordsOf, recordIn}
 use Rattle.rules.specs.PlainOf.{plainOf, cellOf, cellsOf}
 use Rattle.rules.proofs.ListLaws.{length-eight}
 use Rattle.rules.proofs.BoolLaws.{and-split}
 use Rattle.rules.proofs.Invariant.{Inv}
-use Rattle.rules.proofs.Abstraction.{cell-words}
-use Rattle.rules.proofs.Simulation.{Same, all-by, used-length}
-use Rattle.rules.proofs.ReadLaws.{read-same, show-same, read-stays, show-stays}
+use Rattle.rules.proofs.Abstraction.{cell-words, cells-size}
+use Rattle.rules.proofs.Simulation.{Same, used-length}
+use Rattle.rules.proofs.ReadLaws.{read-same, show-same}
 use Rattle.rules.proofs.SetRootLaws.{root-same}
 use Rattle.rules.proofs.WriteLaws.{write-same, written-in-place}
 use Rattle.rules.proofs.DeclareLaws.{declare-same}
@@ -40,6 +35,8 @@ use Rattle.rules.proofs.RoundLaws.{plain-reach}
 use Rattle.rules.proofs.CreateLaws.{accepted, zeroed-inv, zeroed-plain}
 use Rattle.rules.proofs.AllocateLaws.{allocate-same, allocated-in-place}
 use Rattle.rules.proofs.CollectLaws.{collect-same, collect-is, scans-few}
+use Rattle.rules.proofs.SaveLaws.{save-same}
+use Rattle.rules.proofs.LoadLaws.{load-same}
 use Rattle.rules.proofs.Calls.{step-inv}
 
 -- ---- the slots are the plain heap's
@@ -83,32 +80,7 @@ module _ (s : State) (I : Inv s) where
 
 -- ---- demand 3
 
--- n and r stay
-abbrev Sizes : State → Control → Type 0
-Sizes s c = (c .n ≡ s .control .n) × (c .r ≡ s .control .r)
-
-allocate-sizes : (s : State) (width : ℕ) → Sizes s (Allocate.allocate (s .control) width (s .records) (s .slots) .answer .control)
-unfolding Allocate.allocate withLast
-allocate-sizes s width = all-by (λ (o : Allocate.Outcome). Sizes s (o .answer .control)) _ _ _ (λ z. (refl, refl)) (λ m. (refl, refl))
-
-write-sizes : (s : State) (i k w : ℕ) → Sizes s (Write.write (s .control) i k w (s .records) (s .slots) .answer .control)
-unfolding Write.write withWriteLoss
-write-sizes s i k w = all-by (λ (o : Write.Outcome). Sizes s (o .answer .control)) _ _ _ (λ z. (refl, refl)) (λ m. (refl, refl))
-
-pub sizes-kept : (call : Call) (s : State) → Sizes s (step call s .after .control)
-unfolding step answer Allocate.allocateInPlace Write.writeInPlace SetRoot.setRoot DeclareSink.declareSink Collect.collect Analyse.analyse withAnalysis
-sizes-kept (allocate width) s = allocate-sizes s width
-sizes-kept (allocateInPlace width) s = allocate-sizes s width
-sizes-kept (read i k) s = subst (λ (t : State). Sizes s (t .control)) (sym (read-stays s i k)) (refl, refl)
-sizes-kept (show i) s = subst (λ (t : State). Sizes s (t .control)) (sym (show-stays s i)) (refl, refl)
-sizes-kept (write i k w) s = write-sizes s i k w
-sizes-kept (writeInPlace i k w) s = write-sizes s i k w
-sizes-kept (setRoot j w) s = all-by (λ (o : SetRoot.Outcome). Sizes s (o .answer .control)) _ _ _ (λ z. (refl, refl)) (λ m. (refl, refl))
-sizes-kept (declareSink i) s = all-by (λ (o : DeclareSink.Outcome). Sizes s (o .answer .control)) _ _ _ (λ z. (refl, refl)) (λ m. (refl, refl))
-sizes-kept (collect kind work map) s = all-by (λ (o : Collect.Outcome). Sizes s (o .answer .control)) _ _ _ (λ z. (refl, refl)) (λ m. (refl, refl))
-sizes-kept (analyse work) s = all-by (λ (o : Analyse.Outcome). Sizes s (o .answer .control)) _ _ _ (λ z. (refl, refl)) (λ m. (refl, refl))
-
--- one call: what it is lent, by cases
+-- one call in a heap of n objects: what it is lent, by cases
 abbrev pub LentOne : ℕ → Call → Type 0
 LentOne n (allocate width) = Unit {0}
 LentOne n (allocateInPlace width) = Unit {0}
@@ -120,18 +92,22 @@ LentOne n (setRoot j w) = Unit {0}
 LentOne n (declareSink i) = Unit {0}
 LentOne n (collect kind work map) = (workLen n ≤ length work) × (mapLen n ≤ length map) × Unit {0}
 LentOne n (analyse work) = Unit {0}
+LentOne n (save out) = Unit {0}
+LentOne n (load image recs slots roots) = first (imageTests image) ≡ 0 → Long (imageN image) (imageR image) recs slots roots
 
-lent-one : (n : ℕ) (call : Call) → Lent n call → LentOne n call
-lent-one n (allocate width) h = tt
-lent-one n (allocateInPlace width) h = tt
-lent-one n (read i k) h = tt
-lent-one n (show i) h = tt
-lent-one n (write i k w) h = tt
-lent-one n (writeInPlace i k w) h = tt
-lent-one n (setRoot j w) h = tt
-lent-one n (declareSink i) h = tt
-lent-one n (collect kind work map) h = let t = h kind work map refl in (t .0, t .1, tt)
-lent-one n (analyse work) h = tt
+lent-one : (n : ℕ) (call : Call) → LentCollection n call → LentLoad call → LentOne n call
+lent-one n (allocate width) h k = tt
+lent-one n (allocateInPlace width) h k = tt
+lent-one n (read i j) h k = tt
+lent-one n (show i) h k = tt
+lent-one n (write i j w) h k = tt
+lent-one n (writeInPlace i j w) h k = tt
+lent-one n (setRoot j w) h k = tt
+lent-one n (declareSink i) h k = tt
+lent-one n (collect kind work map) h k = let t = h kind work map refl in (t .0, t .1, tt)
+lent-one n (analyse work) h k = tt
+lent-one n (save out) h k = tt
+lent-one n (load image recs slots roots) h k = k image recs slots roots refl
 
 -- a call whose step, of either heap, is that of another
 same-call : (call call′ : Call) (s : State) → step call s ≡ step call′ s → plainStep call (plainOf s) ≡ plainStep call′ (plainOf s) → Same call′ s → Same call s
@@ -151,26 +127,27 @@ step-same (setRoot j w) s I h = root-same s I j w
 step-same (declareSink i) s I h = declare-same s I i
 step-same (collect kind work map) s I h = collect-same s I kind work map (h .0) (h .1)
 step-same (analyse work) s I h = analyse-same s I work
+step-same (save out) s I h = save-same s I out
+step-same (load image recs slots roots) s I h = load-same image recs slots roots s h
 
 step-scans : (call : Call) (s : State) → Inv s → LentOne (s .control .n) call → ScansFew s call
 step-scans call s I h work map e =
     let k : LentOne (s .control .n) (collect byClusters work map) = subst (LentOne (s .control .n)) e h in
     subst (λ (o : Collect.Outcome). o .answer .scanned ≤ o .answer .kept) (sym (collect-is s I byClusters work map (k .0) (k .1))) (scans-few s I byClusters work map (k .0) (k .1))
 
-alike : (n r : ℕ) (calls : List Call) (s : State) (P : Plain) → Inv s → s .control .n ≡ n → s .control .r ≡ r → plainOf s ≡ P → EachLent n calls
-    → Alike n r calls s P
+pub alike : (calls : List Call) (s : State) (P : Plain) → Inv s → plainOf s ≡ P → EachLent calls P → Alike calls s P
 unfolding answersOf afterAll
-alike n r [] s P I en er p h = record {
+alike [] s P I p h = record {
   answers = refl;
-  slots = ap (λ (k : ℕ). take (slotsLen k) (s .slots)) (sym en) ∙ same-slots s I ∙ ap (λ (Q : Plain). plainSlots (Q .cells)) p;
-  roots = ap (λ (k : ℕ). take k (s .roots)) (sym er) ∙ ap (λ (Q : Plain). Q .roots) p;
+  slots = same-slots s I ∙ ap (λ (Q : Plain). plainSlots (Q .cells)) p;
+  roots = ap (λ (Q : Plain). Q .roots) p;
   scans = tt;
 }
-alike n r (call ∷ l) s P I en er p h =
-    let one : LentOne (s .control .n) call = subst (λ (k : ℕ). LentOne k call) (sym en) (lent-one n call (h .0)) in
+alike (call ∷ l) s P I p h =
+    let size : plainSize P ≡ s .control .n = sym (ap plainSize p) ∙ cells-size (s .control .n) (s .records) (s .slots) in
+    let one : LentOne (s .control .n) call = subst (λ (k : ℕ). LentOne k call) size (lent-one (plainSize P) call (h .0) (h .1)) in
     let S = step-same call s I one in
-    let z = sizes-kept call s in
-    let R = alike n r l (step call s .after) (plainStep call P .after) (step-inv call s I) (z .0 ∙ en) (z .1 ∙ er) (S .after ∙ ap (λ (Q : Plain). plainStep call Q .after) p) (h .1) in
+    let R = alike l (step call s .after) (plainStep call P .after) (step-inv call s I) (S .after ∙ ap (λ (Q : Plain). plainStep call Q .after) p) (h .2) in
     record {
       answers = ap₂ _++_ (S .answers ∙ ap (λ (Q : Plain). plainStep call Q .answers) p) (R .answers);
       slots = R .slots;
@@ -179,11 +156,10 @@ alike n r (call ∷ l) s P I en er p h =
     }
 
 pub demand3 : Demand3
-unfolding newControl
 demand3 n r recs slots roots e calls h =
     let a = accepted n r recs slots roots e in
-    subst (λ (s : State). Alike n r calls s (plainCreated n r)) (sym (a .1))
-    (alike n r calls _ (plainCreated n r) (zeroed-inv n r recs slots roots (a .0)) refl refl (zeroed-plain n r recs slots roots (a .0)) h)
+    subst (λ (s : State). Alike calls s (plainCreated n r)) (sym (a .1))
+    (alike calls _ (plainCreated n r) (zeroed-inv n r recs slots roots (a .0)) (zeroed-plain n r recs slots roots (a .0)) h)
 
 pub plain-keeps : PlainKeeps
 plain-keeps = plain-reach

@@ -30,6 +30,14 @@ pub mod DeclareLaws
 pub mod AnalyseLaws
 pub mod AnalyseFacts
 pub mod CreateLaws
+pub mod ImageLaws
+pub mod WrittenLaws
+pub mod ReloadedLaws
+pub mod AcceptedLaws
+pub mod ExactLaws
+pub mod SaveLaws
+pub mod LoadTests
+pub mod LoadLaws
 pub mod AllocateLaws
 pub mod RoundLaws
 pub mod TraceLaws
@@ -42,5 +50,6 @@ pub mod Calls
 pub mod Demand1
 pub mod Demand2
 pub mod Demand3
+pub mod Reloads
 -- ---- what is computed from the definitions
 pub mod Trials

@@ -1,6 +1,6 @@
 -- What pointers, roots and sinks name: objects in use.
 -- Assumes nothing.
-use Prim.Native.Nat.{ℕ, _≤_, _^_}
+use Prim.Native.Nat.{ℕ, _≤_}
 use mathlib.Core.Path.{_≡_, refl, sym, ap, _∙_}
 use mathlib.Core.Bool.{Bool, true, false, cond, _||_, false≢true}
 use mathlib.Core.List.{List·Memᴰ}
@@ -10,6 +10,7 @@ use lib.Dec.{leb, eqb}
 use borrow.Author.Tests.{leb-true, eqb-true}
 use Rattle.layout.specs.Field.{field, flag}
 use Rattle.layout.specs.Word.{isNil, isImmediate}
+use Rattle.layout.proofs.WordLaws.{immediate-bounds}
 use Rattle.rules.specs.View.{view, target}
 use Rattle.rules.specs.WellFormed.{names}
 use Rattle.rules.specs.Steps.{State}
@@ -35,13 +36,13 @@ module _ (s : State) (I : Inv s) where
 
   -- a isPointer of any object is 0 or names an object in use
   pub target-used : (w : ℕ) → SlotWord (s .control .n) (s .records) w → (target (s .control .n) w ≡ 0) ⊎ Used (target (s .control .n) w)
-  unfolding isNil isImmediate target
+  unfolding isNil target
   target-used w e = go (leb w (s .control .n)) refl
     where
-      word : leb w (s .control .n) ≡ true → (a b c : Bool) → eqb w 0 ≡ a → leb (2 ^ 31) w ≡ b → names (s .control .n) (s .records) w ≡ c
+      word : leb w (s .control .n) ≡ true → (a b c : Bool) → eqb w 0 ≡ a → isImmediate w ≡ b → names (s .control .n) (s .records) w ≡ c
           → (a || b || c) ≡ true → (w ≡ 0) ⊎ Used w
       word l true b c ea eb ec h = inl (eqb-true w 0 ea)
-      word l false true c ea eb ec h = absurd (omega (arith, leb-true w (s .control .n) l, leb-true (2 ^ 31) w eb, I .sound .sizes .most))
+      word l false true c ea eb ec h = absurd (omega (arith, leb-true w (s .control .n) l, immediate-bounds w eb .0, I .sound .sizes .most))
       word l false false true ea eb ec h = inr (named-used w ec .2)
       word l false false false ea eb ec h = absurd (false≢true h)
 

@@ -44,7 +44,7 @@ module _ {A : Type 0} (T : List Test) (a : A) (r : ℕ → A) (refusal : A → �
       go zero = unfold by in zeroth
       go (suc m) = unfold by in (kth (suc m))
 
-  pub decided : inOrder order T ≡ true → Decided T (outcome T a r) refusal r
+  pub decided : {order : List ℕ} → inOrder order T ≡ true → Decided order T (outcome T a r) refusal r
   decided e = record {
     ordered = e;
     numbers = λ k p. (λ e. refuses T k p (sym answered ∙ e), λ h. answered ∙ refused-first T k h);

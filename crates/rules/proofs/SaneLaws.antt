@@ -1,6 +1,6 @@
 -- What the walks need of the heap that well-formed buffers hold.
 -- Assumes nothing.
-use Prim.Native.Nat.{ℕ, _≤_, _^_}
+use Prim.Native.Nat.{ℕ, _≤_}
 use mathlib.Core.Path.{_≡_, refl, sym, _∙_, subst}
 use mathlib.Core.Bool.{true}
 use mathlib.Core.List.{List, map, List·Memᴰ}
@@ -9,6 +9,8 @@ use native.Mathlib.Omega.{arith}
 use lib.ListN.{take}
 use Rattle.layout.specs.Limits.{objectMax, widthMax}
 use Rattle.layout.specs.Field.{field, flag}
+use Rattle.layout.specs.Word.{isImmediate}
+use Rattle.layout.proofs.WordLaws.{immediate-bounds}
 use Rattle.records.specs.Record.{isSink, width, cluster}
 use Rattle.records.proofs.RecordLaws.{Legal}
 use Rattle.graph.specs.Heap.{targets, starts}
@@ -61,9 +63,9 @@ module _ {n r : ℕ} {recs slots roots : List ℕ} (S : Sane n r recs slots root
       let e : y ≡ t .0 = t .2 ∙ target-word n (t .0) (λ q. z (t .2 ∙ q)) in
       rw e (go (t .0) (λ q. z (e ∙ q)) (rw (← e) (targets-low n (usedWords n recs slots x) y k)) (S .named x (t .0) (t .1)))
     where
-      go : (w : ℕ) → w ≢ 0 → w ≤ n → (w ≡ 0) ⊎ ((2 ^ 31 ≤ w) ⊎ Names n recs w) → Names n recs w
+      go : (w : ℕ) → w ≢ 0 → w ≤ n → (w ≡ 0) ⊎ ((isImmediate w ≡ true) ⊎ Names n recs w) → Names n recs w
       go w h l (inl e) = absurd (h e)
-      go w h l (inr (inl g)) = absurd (omega (arith, b))
+      go w h l (inr (inl g)) = absurd (omega (arith, b, immediate-bounds w g .0))
       go w h l (inr (inr N)) = N
 
   -- a root is at most n

@@ -1,6 +1,6 @@
 -- What the sweep does in every well-formed heap; and that it leaves a heap with the invariant, and frees what the plain heap frees.
 -- Assumes nothing.
-use Prim.Native.Nat.{ℕ, zero, suc, _+_, _*_, _≤_, _<_, _/_, _^_}
+use Prim.Native.Nat.{ℕ, zero, suc, _+_, _*_, _≤_, _<_, _/_}
 use mathlib.Core.Path.{_≡_, refl, sym, ap, ap₂, _∙_, subst, fun-ext}
 use mathlib.Core.Bool.{Bool, true, false, not, cond, _&&_, _||_, false≢true, true≢false}
 use mathlib.Core.List.{List, [], map, List·Memᴰ, List·Memᴰ·not-nil}
@@ -9,7 +9,7 @@ use native.Mathlib.Decide.{ℕ-discrete, decLe}
 use native.Mathlib.Omega.{arith}
 use lib.Dec.{eqb}
 use lib.ListN.{length, take, drop}
-use borrow.Author.Tests.{ne-eqb, eq-eqb, eqb-true, eqb-false, le-leb}
+use borrow.Author.Tests.{ne-eqb, eq-eqb, eqb-true, eqb-false}
 use Rattle.records.specs.Record as R
 use Rattle.layout.specs.Field.{field, flag}
 use Rattle.records.specs.Record.{width, cluster, inUse, isWritten, isSink, loose}
@@ -249,10 +249,10 @@ module _ (s : State) (C : Fit s) (kept heads : ℕ → Bool) (K : ℕ → Type 0
   named′ : (x w : ℕ) → List·Memᴰ w (usedWords (s .control .n) recs₁ slots₁ x) → SlotWord (s .control .n) recs₁ w
   named′ x w m = go (case x)
     where
-      word : K x → List·Memᴰ w (wordsOf s x) → (w ≡ 0) ⊎ ((2 ^ 31 ≤ w) ⊎ Names (s .control .n) (s .records) w)
+      word : K x → List·Memᴰ w (wordsOf s x) → (w ≡ 0) ⊎ ((isImmediate w ≡ true) ⊎ Names (s .control .n) (s .records) w)
           → SlotWord (s .control .n) recs₁ w
       word r p (inl e) = unfold isNil in (rw (eq-eqb w 0 e) refl)
-      word r p (inr (inl l)) = unfold isImmediate in (rw (le-leb (2 ^ 31) w l, or-true (isNil w)) refl)
+      word r p (inr (inl l)) = rw (l, or-true (isNil w)) refl
       word r p (inr (inr N)) = or-right (isNil w || isImmediate w) _ (names′ w (F .leads x w r (word-target s C x w p (N .low) (N .high))))
 
       go : Case x → SlotWord (s .control .n) recs₁ w

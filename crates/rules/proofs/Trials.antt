@@ -6,6 +6,7 @@ use Rattle.layout.specs.Limits as LLimits
 use Rattle.layout.specs.Field as LField
 use Rattle.records.specs.Record as LRecord
 use Rattle.layout.specs.Word as LWord
+use Rattle.endian.specs.Bytes as EBytes
 use Rattle.bitmap.specs.Bits as LBits
 use Rattle.layout.specs.ControlRecord as LControlRecord
 use Rattle.layout.specs.Refusal as LRefusal
@@ -23,17 +24,21 @@ use Rattle.rules.specs.DeclareSink as RDeclareSink
 use Rattle.rules.specs.Analyse as RAnalyse
 use Rattle.rules.specs.Sweep as RSweep
 use Rattle.rules.specs.Collect as RCollect
+use Rattle.rules.specs.Image as RImage
+use Rattle.rules.specs.Save as RSave
+use Rattle.rules.specs.Load as RLoad
 use Rattle.rules.specs.Plain as RPlain
 use Rattle.rules.specs.Steps as RSteps
 use Rattle.rules.specs.Trials as Trials
 
 pub trials : (map Trials.observed Trials.table ≡ map Trials.expected Trials.table) × (Trials.createRefusals ≡ 1 ∷ 2 ∷ [])
 unfolding GTrials.computed
-    Trials.answered Trials.standing Trials.observed Trials.expected Trials.new Trials.analysis Trials.clustered Trials.plain Trials.beforeH Trials.heapH Trials.on Trials.wide Trials.fan Trials.marked Trials.stateWith Trials.one Trials.two Trials.recordWith Trials.fresh Trials.ownRows Trials.small Trials.noBuffers Trials.badControls Trials.full Trials.lossy Trials.refused Trials.noWork Trials.refusals Trials.rows Trials.table Trials.createRefusals
+    Trials.answered Trials.standing Trials.observed Trials.expected Trials.new Trials.analysis Trials.clustered Trials.plain Trials.beforeH Trials.heapH Trials.on Trials.wide Trials.fan Trials.marked Trials.stateWith Trials.one Trials.two Trials.recordWith Trials.fresh Trials.ownRows Trials.pair Trials.sizesChunk Trials.objectsChunk Trials.rootsChunk Trials.emptyChunk Trials.pairImage Trials.loading Trials.unloaded Trials.imageRows Trials.small Trials.noBuffers Trials.badControls Trials.full Trials.lossy Trials.refused Trials.noWork Trials.refusals Trials.rows Trials.table Trials.createRefusals
     LLimits.slotsLen LLimits.workLen LLimits.mapLen LLimits.within
     LField.field LField.put LField.flag LField.digit LField.putFlag
     LRecord.loose LRecord.newRecord LRecord.free LRecord.clear LRecord.legal LRecord.damaged
     LWord.isNil LWord.isPointer LWord.isImmediate LWord.legalWord LWord.sortOf
+    EBytes.bytes EBytes.number EBytes.numberAt EBytes.wordBytes
     LBits.setBits LBits.numbersIn LBits.bitsOf LBits.wordOf
     LControlRecord.badSizes LControlRecord.badControl LControlRecord.badLimit LControlRecord.newControl LControlRecord.withLast LControlRecord.withWriteLoss LControlRecord.withAnalysis
     LRefusal.first LRefusal.by LRefusal.outcome
@@ -50,6 +55,9 @@ unfolding GTrials.computed
     RAnalyse.sixteenth RAnalyse.half RAnalyse.clamped RAnalyse.nextLimit RAnalyse.usedCount RAnalyse.analyseTests RAnalyse.limitAfter RAnalyse.analysed RAnalyse.analyse
     RSweep.freed RSweep.keptRecord RSweep.sweptRecord RSweep.sweep
     RCollect.trace RCollect.collectTests RCollect.collect
+    RImage.chunk RImage.sizesBody RImage.objectBytes RImage.objectsBody RImage.image RImage.bodyLen RImage.kindOf RImage.bodyOf RImage.past RImage.cut RImage.savedN RImage.savedR RImage.savedLast RImage.sizesOk RImage.leads RImage.objectLen RImage.left RImage.listed RImage.from RImage.savedWidth RImage.savedSink RImage.savedWord RImage.savedWords RImage.shaped RImage.namesListed RImage.wordsOk RImage.objectsOk RImage.savedRoot RImage.rootsOk
+    RSave.heapImage RSave.saveTests RSave.save
+    RLoad.known RLoad.passed RLoad.misplaced RLoad.badBody RLoad.chunkTests RLoad.imageTests RLoad.loadedRecord RLoad.loadedWord RLoad.loadTests RLoad.load
     RPlain.plainCreated RPlain.isFree RPlain.wordsIn RPlain.isSink RPlain.cellAt RPlain.plainWords RPlain.plainStarts RPlain.keptNumbers RPlain.plainGiven RPlain.objectTests RPlain.slotTests RPlain.namesFree RPlain.withCell RPlain.plainSwept RPlain.plainFreed RPlain.plainMap RPlain.answer RPlain.plainStep RPlain.eightOf RPlain.plainSlots
-    RSteps.created RSteps.step RSteps.answersOf RSteps.afterAll
+    RSteps.created RSteps.loaded RSteps.step RSteps.answersOf RSteps.afterAll
 trials = (refl, refl)

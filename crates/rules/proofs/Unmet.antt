@@ -18,13 +18,16 @@ use Rattle.rules.specs.SetRoot as SetRoot
 use Rattle.rules.specs.DeclareSink as DeclareSink
 use Rattle.rules.specs.Analyse as Analyse
 use Rattle.rules.specs.Collect as Collect
-use Rattle.rules.specs.Calls.{Call, allocate, allocateInPlace, read, show, write, writeInPlace, setRoot, declareSink, collect, analyse}
+use Rattle.rules.specs.Save as Save
+use Rattle.rules.specs.Calls.{Call, allocate, allocateInPlace, read, show, write, writeInPlace, setRoot, declareSink, collect, analyse, save, load}
 use Rattle.rules.specs.Steps.{State}
 use Rattle.rules.specs.Demands.{refusalOf}
 use Rattle.rules.proofs.BoolLaws.{or-split}
 use Rattle.rules.proofs.Invariant.{Inv, inv-control, inv-sane, inv-formed}
 use Rattle.rules.proofs.WriteLaws.{no-25}
 use Rattle.rules.proofs.Refused.{answered}
+use Rattle.rules.proofs.LoadTests.{Never}
+use Rattle.rules.proofs.LoadLaws.{load-unmet}
 
 -- a test of number k holds
 meets : ℕ → List Test → Bool
@@ -43,9 +46,6 @@ unmet-first k (t ∷ l) e f = go (t .1) refl f (λ r. unmet-first k l r)
 -- none of the three numbers is met
 abbrev Unmet : List Test → Type 0
 Unmet T = (meets 20 T ≡ false) × (meets 21 T ≡ false) × (meets 25 T ≡ false)
-
-abbrev Never : ℕ → Type 0
-Never m = (m ≢ 20) × (m ≢ 21) × (m ≢ 25)
 
 unrefused : (T : List Test) (m : ℕ) → m ≡ first T → Unmet T → Never m
 unrefused T m e u = (λ z. unmet-first 19 T (u .0) (sym e ∙ z), λ z. unmet-first 20 T (u .1) (sym e ∙ z), λ z. unmet-first 24 T (u .2) (sym e ∙ z))
@@ -84,6 +84,10 @@ module _ (s : State) (I : Inv s) where
   unfolding meets Collect.collectTests
   collect-unmet work map = (rw (inv-control s I) refl, rw (inv-formed s I) refl, refl)
 
+  save-unmet : (out : List ℕ) → Unmet (Save.saveTests (s .control) (s .records) (s .slots) (s .roots) out)
+  unfolding meets Save.saveTests
+  save-unmet out = (rw (inv-control s I) refl, rw (inv-formed s I) refl, refl)
+
   -- one name for both forms of allocate, and of write
   allocate-never : (width : ℕ) → Never (refusalOf (allocate width) s)
   unfolding Allocate.allocate
@@ -94,7 +98,7 @@ module _ (s : State) (I : Inv s) where
   write-never i k w = unrefused _ _ (answered _ _ _ (λ (o : Write.Outcome). o .answer .refusal) refl (λ k. refl)) (write-unmet i k w)
 
   pub unmet : (call : Call) → Never (refusalOf call s)
-  unfolding Allocate.allocateInPlace Read.read Show.show Write.writeInPlace SetRoot.setRoot DeclareSink.declareSink Analyse.analyse Collect.collect
+  unfolding Allocate.allocateInPlace Read.read Show.show Write.writeInPlace SetRoot.setRoot DeclareSink.declareSink Analyse.analyse Collect.collect Save.save
   unmet (allocate width) = allocate-never width
   unmet (allocateInPlace width) = allocate-never width
   unmet (read i k) = unrefused _ _ (answered _ _ _ (λ (a : WordRead). a .refusal) refl (λ k. refl)) (read-unmet i k)
@@ -106,3 +110,5 @@ module _ (s : State) (I : Inv s) where
   unmet (collect kind work map) =
       unrefused _ _ (answered _ _ _ (λ (o : Collect.Outcome). o .answer .refusal) refl (λ k. refl)) (collect-unmet work map)
   unmet (analyse work) = unrefused _ _ (answered _ _ _ (λ (o : Analyse.Outcome). o .answer .refusal) refl (λ k. refl)) (analyse-unmet work)
+  unmet (save out) = unrefused _ _ (answered _ _ _ (λ (o : Save.Outcome). o .answer .refusal) refl (λ k. refl)) (save-unmet out)
+  unmet (load image recs slots roots) = load-unmet image recs slots roots

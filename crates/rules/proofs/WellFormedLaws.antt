@@ -1,6 +1,6 @@
 -- What the rules of a well-formed heap say of each object, and the rules of all objects taken together.
 -- Assumes nothing.
-use Prim.Native.Nat.{ℕ, zero, suc, _≤_, _^_}
+use Prim.Native.Nat.{ℕ, zero, suc, _≤_}
 use mathlib.Core.Path.{_≡_, refl, sym, ap, _∙_}
 use mathlib.Core.Bool.{Bool, true, false, _&&_, _||_, Bool·beq, false≢true}
 use mathlib.Core.List.{List, [], List·Memᴰ, List·Memᴰ·not-nil}
@@ -9,7 +9,7 @@ use native.Mathlib.Decide.{decLe}
 use native.Mathlib.Omega.{arith}
 use lib.Dec.{eqb}
 use lib.ListN.{take}
-use borrow.Author.Tests.{leb-true, eqb-true}
+use borrow.Author.Tests.{eqb-true}
 use Rattle.layout.specs.declared.answers.Control.{Control}
 use Rattle.layout.specs.Field.{field, flag}
 use Rattle.records.specs.Record.{inUse, isOut, cluster, free, legal}
@@ -79,7 +79,7 @@ pub record Names (n : ℕ) (recs : List ℕ) (w : ℕ) : Type 0 where
 pub record Sane (n r : ℕ) (recs slots roots : List ℕ) : Type 0 where
   pub fit : (x : ℕ) → (recOf n recs x ≡ 0) ⊎ Legal n (recOf n recs x)
   pub empty : (x w : ℕ) → 1 ≤ x → x ≤ n → List·Memᴰ w (otherWords n recs slots x) → w ≡ 0
-  pub named : (x w : ℕ) → List·Memᴰ w (usedWords n recs slots x) → (w ≡ 0) ⊎ ((2 ^ 31 ≤ w) ⊎ Names n recs w)
+  pub named : (x w : ℕ) → List·Memᴰ w (usedWords n recs slots x) → (w ≡ 0) ⊎ ((isImmediate w ≡ true) ⊎ Names n recs w)
   pub heads : (x : ℕ) → cluster (recOf n recs x) ≢ 0 → cluster (recOf n recs (cluster (recOf n recs x))) ≡ cluster (recOf n recs x)
   pub exact : (x : ℕ) → isOut (recOf n recs x) ≡ exactOut (view n recs slots) x
   pub rooted : (w : ℕ) → List·Memᴰ w (take r roots) → (w ≡ 0) ⊎ Names n recs w
@@ -144,19 +144,19 @@ module _ (n r : ℕ) (recs slots roots : List ℕ) where
           go (inl z) = inl (unfold free in (eqb-true (recOf n recs x) 0 z))
           go (inr z) = inr (legal-facts n (recOf n recs x) z)
 
-      word : (w : ℕ) → (isNil w || isImmediate w || names n recs w) ≡ true → (w ≡ 0) ⊎ ((2 ^ 31 ≤ w) ⊎ Names n recs w)
+      word : (w : ℕ) → (isNil w || isImmediate w || names n recs w) ≡ true → (w ≡ 0) ⊎ ((isImmediate w ≡ true) ⊎ Names n recs w)
       word w t = go (or-cases _ _ t)
         where
-          two : (isNil w ≡ true) ⊎ (isImmediate w ≡ true) → (w ≡ 0) ⊎ ((2 ^ 31 ≤ w) ⊎ Names n recs w)
+          two : (isNil w ≡ true) ⊎ (isImmediate w ≡ true) → (w ≡ 0) ⊎ ((isImmediate w ≡ true) ⊎ Names n recs w)
           two (inl z) = inl (unfold isNil in (eqb-true w 0 z))
-          two (inr z) = inr (inl (unfold isImmediate in (leb-true (2 ^ 31) w z)))
+          two (inr z) = inr (inl z)
 
-          go : ((isNil w || isImmediate w) ≡ true) ⊎ (names n recs w ≡ true) → (w ≡ 0) ⊎ ((2 ^ 31 ≤ w) ⊎ Names n recs w)
+          go : ((isNil w || isImmediate w) ≡ true) ⊎ (names n recs w ≡ true) → (w ≡ 0) ⊎ ((isImmediate w ≡ true) ⊎ Names n recs w)
           go (inl z) = two (or-cases _ _ z)
           go (inr z) = inr (inr (named-by n recs w z))
 
       named : allTo n (wordsAt n recs slots) ≡ true → (x w : ℕ) → List·Memᴰ w (usedWords n recs slots x) → Obj n x ⊎ (recOf n recs x ≡ 0)
-          → (w ≡ 0) ⊎ ((2 ^ 31 ≤ w) ⊎ Names n recs w)
+          → (w ≡ 0) ⊎ ((isImmediate w ≡ true) ⊎ Names n recs w)
       named a x w m (inr z) = absurd (List·Memᴰ·not-nil (rw (used-none n recs slots x z) at m))
       named a x w m (inl (p, q)) = word w
           (allOf-at (λ v. isNil v || isImmediate v || names n recs v) (usedWords n recs slots x) w

@@ -3,7 +3,8 @@ use Prim.Native.Nat.{ℕ}
 use mathlib.Core.List.{List}
 use Rattle.rules.specs.Collect.{Kind}
 
--- allocate and write in either form; each collection is lent work and map of its own, each analysis work of its own
+-- allocate and write in either form; each collection is lent work and map of its own, each analysis work of its own, each save bytes, and each load
+-- the bytes of an image and the buffers of the heap that it makes
 pub data Call : Type 0 where
   allocate : (width : ℕ) → Call
   allocateInPlace : (width : ℕ) → Call
@@ -15,11 +16,14 @@ pub data Call : Type 0 where
   declareSink : (object : ℕ) → Call
   collect : (kind : Kind) (work map : List ℕ) → Call
   analyse : (work : List ℕ) → Call
+  save : (out : List ℕ) → Call
+  load : (image records slots roots : List ℕ) → Call
 
--- the number of a refusal, or 0, and what the call answers; of a collection freed, kept and the words of the freed map
+-- the number of a refusal, or 0, and what the call answers; of a collection freed, kept and the words of the freed map, of a save its length
 pub data Answer : Type 0 where
   gave : (number object : ℕ) → Answer
   gotWord : (number word : ℕ) → Answer
   gotWords : (number : ℕ) (words : List ℕ) → Answer
   did : (number : ℕ) → Answer
   swept : (number freed kept : ℕ) (map : List ℕ) → Answer
+  savedAs : (number length : ℕ) → Answer

@@ -1,8 +1,8 @@
 -- The demands on the definitions: what holds of every input (1), of every heap that the calls made (2), and of every list of calls (3).
-use Prim.Native.Nat.{ℕ, _+_, _-_, _*_, _≤_, _<_, _/_, min, max}
+use Prim.Native.Nat.{ℕ, zero, suc, _+_, _-_, _*_, _^_, _≤_, _<_, _/_, min, max}
 use mathlib.Core.Path.{_≡_}
 use mathlib.Core.Bool.{Bool, true, false, not, _&&_, _||_, cond}
-use mathlib.Core.List.{List, [], _∷_}
+use mathlib.Core.List.{List, [], _∷_, _++_}
 use mathlib.Core.Logic.{_≢_, _⊎_, _↔_}
 use lib.Dec.{eqb, ltb}
 use lib.ListN.{length, getD, set, take, drop, replicate}
@@ -10,7 +10,7 @@ use Rattle.layout.specs.Limits.{slotsLen, workLen, mapLen}
 use Rattle.records.specs.Record.{inUse, isWritten, isSink, isOut, width, cluster, loose}
 use Rattle.bitmap.specs.Bits.{holds, numbersIn}
 use Rattle.layout.specs.ControlRecord.{newControl, withLast, withWriteLoss}
-use Rattle.layout.specs.Refusal.{Test}
+use Rattle.layout.specs.Refusal.{Test, first}
 use Rattle.layout.specs.declared.answers.Control.{Control}
 use Rattle.layout.specs.declared.answers.WordRead.{WordRead}
 use Rattle.layout.specs.declared.answers.Collected.{Collected}
@@ -36,15 +36,30 @@ use Rattle.rules.specs.Analyse.{rule}
 use Rattle.rules.specs.Analyse as Analyse
 use Rattle.rules.specs.Collect.{Kind, plainly, byClusters}
 use Rattle.rules.specs.Collect as Collect
-use Rattle.rules.specs.Calls.{Call, allocate, allocateInPlace, read, show, write, writeInPlace, setRoot, declareSink, collect, analyse}
-use Rattle.rules.specs.Plain.{Plain, plainSize, plainWords, plainStarts, keptNumbers, plainCreated, plainStep, plainSlots}
-use Rattle.rules.specs.Steps.{State, created, step, answersOf, afterAll}
+use Rattle.endian.specs.Bytes.{Octets}
+use Rattle.rules.specs.Image.{chunk}
+use Rattle.rules.specs.Save as Save
+use Rattle.rules.specs.Load.{imageN, imageR, imageTests}
+use Rattle.rules.specs.Load as Load
+use Rattle.rules.specs.Calls.{Call, allocate, allocateInPlace, read, show, write, writeInPlace, setRoot, declareSink, collect, analyse, save, load}
+use Rattle.rules.specs.Plain.{Plain, plainSize, plainWords, plainStarts, keptNumbers, plainCreated, plainStep, plainSlots, plainImage, plainLoaded}
+use Rattle.rules.specs.Steps.{State, created, loaded, step, answersOf, afterAll}
+use Rattle.rules.specs.PlainOf.{plainOf}
 
 -- ==== demand 1: every input, and no hypothesis
 
--- the order of the refusals, whatever the call
+-- the order of the refusals, whatever the call but a save or a load
 abbrev pub order : List ℕ
 order = 1 ∷ 20 ∷ 2 ∷ 3 ∷ 4 ∷ 7 ∷ 21 ∷ 22 ∷ 5 ∷ 6 ∷ 23 ∷ 25 ∷ 24 ∷ []
+
+-- that of a save: the second 2 is for too little space
+abbrev pub saveOrder : List ℕ
+saveOrder = 20 ∷ 2 ∷ 21 ∷ 2 ∷ []
+
+-- that of a load of f chunks at most: at each in number order, then 2
+unfoldable pub loadOrder : ℕ → List ℕ
+loadOrder zero = 2 ∷ []
+loadOrder (suc f) = 26 ∷ 27 ∷ 28 ∷ loadOrder f
 
 -- the numbers of the tests are some of the list's, in its order
 unfoldable pub inOrder : List ℕ → List Test → Bool
@@ -58,8 +73,8 @@ pub data Refuses (k : ℕ) : List Test → Type 0 where
   here : {t : Test} {l : List Test} → t .0 ≡ k → t .1 ≡ true → Refuses k (t ∷ l)
   there : {t : Test} {l : List Test} → t .1 ≡ false → Refuses k l → Refuses k (t ∷ l)
 
--- a call's tests are in order; its outcome has the refusal k, for k above 0, exactly where they refuse with k; refused, it is what is given for that
-pub record Decided {A : Type 0} (tests : List Test) (outcome : A) (refusal : A → ℕ) (refused : ℕ → A) : Type 0 where
+-- a call's tests are in the order given; its outcome has the refusal k, for k above 0, exactly where they refuse with k; refused, it is what is given for that
+pub record Decided {A : Type 0} (order : List ℕ) (tests : List Test) (outcome : A) (refusal : A → ℕ) (refused : ℕ → A) : Type 0 where
   pub ordered : inOrder order tests ≡ true
   pub numbers : (k : ℕ) → 1 ≤ k → (refusal outcome ≡ k) ↔ Refuses k tests
   pub unchanged : refusal outcome ≢ 0 → outcome ≡ refused (refusal outcome)
@@ -100,18 +115,24 @@ pub record Gives (c : Control) (width : ℕ) (recs slots : List ℕ) (i : ℕ) (
   pub others : (x : ℕ) → Obj (c .n) x → x ≢ i → (recOf (c .n) (o .records) x ≡ recOf (c .n) recs x) × (eight (o .slots) x ≡ eight slots x)
   pub control : o .answer .control ≡ withLast i c
 
+-- a heap that no call has written to since it was created or loaded: no limit, no losses, and no object written or in a cluster
+pub record Fresh (c : Control) (recs : List ℕ) : Type 0 where
+  pub limit : c .limit ≡ 0
+  pub losses : (c .«write_loss» ≡ 0) × (c .«out_loss» ≡ 0)
+  pub plain : (x : ℕ) → let r = recOf (c .n) recs x in (cluster r ≡ 0) × (isOut r ≡ false) × (isWritten r ≡ false)
+
 -- call by call, for all inputs: what a refused call gives, what an accepted one answers and stores, and which words never change
 pub record Demand1 : Type 0 where
   pub created : (n r : ℕ) (recs slots roots : List ℕ)
       → let o = Create.create n r recs slots roots in
-      Decided (Create.createTests n r recs slots roots) o (λ o. o .answer .refusal)
+      Decided order (Create.createTests n r recs slots roots) o (λ o. o .answer .refusal)
       (λ k. Create.gives (record { refusal = k; control = newControl 0 0 }) recs slots roots)
       × Within n recs (o .records) × Within (slotsLen n) slots (o .slots) × Within r roots (o .roots)
       × (o .answer .refusal ≡ 0
       → (o .answer .control ≡ newControl n r) × Cleared n (o .records) × Cleared (slotsLen n) (o .slots) × Cleared r (o .roots))
   pub allocated : (c : Control) (width : ℕ) (recs slots : List ℕ)
       → let o = Allocate.allocate c width recs slots in
-      Decided (Allocate.allocateTests c width recs slots) o (λ o. o .answer .refusal)
+      Decided order (Allocate.allocateTests c width recs slots) o (λ o. o .answer .refusal)
       (λ k. Allocate.gives (record { refusal = k; object = 0; control = c }) recs slots)
       × Within (c .n) recs (o .records) × Within (slotsLen (c .n)) slots (o .slots)
       × (o .answer .refusal ≡ 24 → (x : ℕ) → Obj (c .n) x → recOf (c .n) recs x ≢ 0)
@@ -120,18 +141,18 @@ pub record Demand1 : Type 0 where
       ≡ Allocate.givesInPlace (record { refusal = o .answer .refusal; object = o .answer .object }) (o .answer .control) (o .records) (o .slots))
   pub wordRead : (c : Control) (i k : ℕ) (recs slots : List ℕ)
       → let a = Read.read c i k recs slots in
-      Decided (Read.readTests c i k recs slots) a (λ (a : WordRead). a .refusal) (λ m. record { refusal = m; word = 0; control = c })
+      Decided order (Read.readTests c i k recs slots) a (λ (a : WordRead). a .refusal) (λ m. record { refusal = m; word = 0; control = c })
       × (a .control ≡ c) × (a .refusal ≡ 0 → (8 * (i - 1) + k < length slots) × (a .word ≡ getD slots (8 * (i - 1) + k) 0))
   pub shown : (c : Control) (i : ℕ) (recs slots : List ℕ)
       → let o = Show.show c i recs slots in
-      Decided (Show.showTests c i recs slots) o (λ o. o .answer .refusal)
+      Decided order (Show.showTests c i recs slots) o (λ o. o .answer .refusal)
       (λ k. record { answer = record { refusal = k; start = 0; length = 0; control = c }; words = [] })
       × (o .answer .control ≡ c)
       × (o .answer .refusal ≡ 0 → (o .answer .start ≡ 8 * (i - 1)) × (o .answer .length ≡ width (recOf (c .n) recs i))
       × (o .answer .start + o .answer .length ≤ length slots) × (o .words ≡ take (o .answer .length) (drop (o .answer .start) slots)))
   pub written : (c : Control) (i k w : ℕ) (recs slots : List ℕ)
       → let o = Write.write c i k w recs slots in
-      Decided (Write.writeTests c i k w recs slots) o (λ o. o .answer .refusal)
+      Decided order (Write.writeTests c i k w recs slots) o (λ o. o .answer .refusal)
       (λ m. Write.gives (record { refusal = m; control = c }) recs slots)
       × Within (c .n) recs (o .records) × Within (slotsLen (c .n)) slots (o .slots)
       × (o .answer .control ≡ withWriteLoss (o .answer .control .«write_loss») c)
@@ -139,25 +160,37 @@ pub record Demand1 : Type 0 where
       × (Write.writeInPlace c i k w recs slots ≡ Write.givesInPlace (o .answer .refusal) (o .answer .control) (o .records) (o .slots))
   pub rootSet : (c : Control) (j w : ℕ) (recs roots : List ℕ)
       → let o = SetRoot.setRoot c j w recs roots in
-      Decided (SetRoot.setRootTests c j w recs roots) o (λ o. o .answer .refusal) (λ k. SetRoot.gives (record { refusal = k; control = c }) roots)
+      Decided order (SetRoot.setRootTests c j w recs roots) o (λ o. o .answer .refusal) (λ k. SetRoot.gives (record { refusal = k; control = c }) roots)
       × Within (c .r) roots (o .roots) × (o .answer .control ≡ c) × (o .answer .refusal ≡ 0 → Stored j w roots (o .roots))
   pub declared : (c : Control) (i : ℕ) (recs slots roots : List ℕ)
       → let o = DeclareSink.declareSink c i recs slots roots in
-      Decided (DeclareSink.declareTests c i recs slots roots) o (λ o. o .answer .refusal)
+      Decided order (DeclareSink.declareTests c i recs slots roots) o (λ o. o .answer .refusal)
       (λ k. DeclareSink.gives (record { refusal = k; control = c }) recs)
       × Within (c .n) recs (o .records) × (o .answer .control ≡ c)
   pub analysed : (c : Control) (recs slots roots work : List ℕ)
       → let o = Analyse.analyse c recs slots roots work in
-      Decided (Analyse.analyseTests c recs slots roots work) o (λ o. o .answer .refusal)
+      Decided order (Analyse.analyseTests c recs slots roots work) o (λ o. o .answer .refusal)
       (λ k. Analyse.gives (record { refusal = k; clusters = 0; members = 0; control = c }) recs work)
       × Within (c .n) recs (o .records) × Within (workLen (c .n)) work (o .work) × (o .answer .refusal ≡ 0 → Cleared (workLen (c .n)) (o .work))
   -- of either kind
   pub collected : (kind : Kind) (c : Control) (recs slots roots work map : List ℕ)
       → let o = Collect.collect kind c recs slots roots work map in
-      Decided (Collect.collectTests c recs slots roots work map) o (λ o. o .answer .refusal)
+      Decided order (Collect.collectTests c recs slots roots work map) o (λ o. o .answer .refusal)
       (λ k. Collect.gives (record { refusal = k; freed = 0; kept = 0; scanned = 0; control = c }) recs slots work map)
       × Within (c .n) recs (o .records) × Within (slotsLen (c .n)) slots (o .slots) × Within (workLen (c .n)) work (o .work)
       × Within (mapLen (c .n)) map (o .map) × (o .answer .refusal ≡ 0 → Cleared (workLen (c .n)) (o .work)) × (o .answer .control ≡ c)
+  pub saved : (c : Control) (recs slots roots out : List ℕ)
+      → let o = Save.save c recs slots roots out in
+      Decided saveOrder (Save.saveTests c recs slots roots out) o (λ o. o .answer .refusal)
+      (λ k. Save.gives (record { refusal = k; length = 0; control = c }) out)
+      × Within (o .answer .length) out (o .image) × (o .answer .control ≡ c)
+      × (o .answer .refusal ≡ 0 → (o .answer .length ≤ length out) × (o .answer .length ≤ 26 + 36 * c .n + 4 * c .r))
+  pub loaded : (image recs slots roots : List ℕ)
+      → let o = Load.load image recs slots roots in
+      Decided (loadOrder (suc (length image))) (Load.loadTests image recs slots roots) o (λ o. o .answer .refusal)
+      (λ k. Load.gives (record { refusal = k; control = newControl 0 0 }) recs slots roots)
+      × Within (imageN image) recs (o .records) × Within (slotsLen (imageN image)) slots (o .slots) × Within (imageR image) roots (o .roots)
+      × (o .answer .refusal ≡ 0 → Fresh (o .answer .control) (o .records))
   -- in every well-formed heap the walks of both collections and of the analysis, which make a number of steps, are then at their end
   pub ends : (c : Control) (recs slots roots : List ℕ) → wellFormed c recs slots roots ≡ true
       → let H = view (c .n) recs slots in
@@ -166,10 +199,12 @@ pub record Demand1 : Type 0 where
 
 -- ==== demand 2: what the calls do to objects and clusters, in every heap that they made and, where it is said, in any heap
 
--- a state that an accepted create made and calls led to, accepted or refused, with any arguments and any buffers
+-- a state that an accepted create or load made, the latter of any image, and calls led to, accepted or refused, with any arguments and any buffers
 pub data Made : State → Type 0 where
   new : {s : State} (n r : ℕ) (recs slots roots : List ℕ) → Create.create n r recs slots roots .answer .refusal ≡ 0
       → s ≡ created n r recs slots roots → Made s
+  took : {s : State} (image recs slots roots : List ℕ) → Load.load image recs slots roots .answer .refusal ≡ 0
+      → s ≡ loaded image recs slots roots → Made s
   called : {s t : State} (call : Call) → Made s → t ≡ step call s .after → Made t
 
 -- the record of object x
@@ -351,6 +386,8 @@ refusalOf (setRoot j w) s = SetRoot.setRoot (s .control) j w (s .records) (s .ro
 refusalOf (declareSink i) s = DeclareSink.declareSink (s .control) i (s .records) (s .slots) (s .roots) .answer .refusal
 refusalOf (collect kind work map) s = collected s kind work map .answer .refusal
 refusalOf (analyse work) s = analysed s work .answer .refusal
+refusalOf (save out) s = Save.save (s .control) (s .records) (s .slots) (s .roots) out .answer .refusal
+refusalOf (load image recs slots roots) s = Load.load image recs slots roots .answer .refusal
 
 -- all of demand 2
 pub record Demand2 : Type 0 where
@@ -379,14 +416,24 @@ pub record Demand2 : Type 0 where
 
 -- ==== demand 3: every list of calls, of the buffers and of the plain heap
 
--- if the call is a collection, it is lent enough work and map for n objects; an analysis may be lent anything
-abbrev pub Lent : ℕ → Call → Type 0
-Lent n call = (kind : Kind) (work map : List ℕ) → call ≡ collect kind work map → (workLen n ≤ length work) × (mapLen n ≤ length map)
+-- what a collection in a heap of n objects is lent: enough work and map
+abbrev pub LentCollection : ℕ → Call → Type 0
+LentCollection n call = (kind : Kind) (work map : List ℕ) → call ≡ collect kind work map → (workLen n ≤ length work) × (mapLen n ≤ length map)
 
--- the same for each call of a list
-abbrev pub EachLent : ℕ → List Call → Type 0
-EachLent n [] = Unit {0}
-EachLent n (call ∷ l) = Lent n call × EachLent n l
+-- three buffers are long enough for n objects and r roots
+abbrev pub Long : ℕ → ℕ → List ℕ → List ℕ → List ℕ → Type 0
+Long n r recs slots roots = (n ≤ length recs) × (slotsLen n ≤ length slots) × (r ≤ length roots)
+
+-- what a load is lent: buffers for the heap of its image, unless the image is refused
+abbrev pub LentLoad : Call → Type 0
+LentLoad call =
+    (image recs slots roots : List ℕ) → call ≡ load image recs slots roots → first (imageTests image) ≡ 0
+    → Long (imageN image) (imageR image) recs slots roots
+
+-- each call of a list, made from this plain heap on, is lent enough; an analysis and a save may be lent anything
+abbrev pub EachLent : List Call → Plain → Type 0
+EachLent [] P = Unit {0}
+EachLent (call ∷ l) P = LentCollection (plainSize P) call × LentLoad call × EachLent l (plainStep call P .after)
 
 -- if the call is a collection by clusters, it scans no more than it keeps
 abbrev pub ScansFew : State → Call → Type 0
@@ -400,18 +447,57 @@ EachScansFew [] s = Unit {0}
 EachScansFew (call ∷ l) s = ScansFew s call × EachScansFew l (step call s .after)
 
 -- the heap of the buffers and the plain heap, after the same calls: the same answers, slots and roots
-pub record Alike (n r : ℕ) (calls : List Call) (s : State) (P : Plain) : Type 0 where
+pub record Alike (calls : List Call) (s : State) (P : Plain) : Type 0 where
   pub answers : answersOf step calls s ≡ answersOf plainStep calls P
-  pub slots : take (slotsLen n) (afterAll step calls s .slots) ≡ plainSlots (afterAll plainStep calls P .cells)
-  pub roots : take r (afterAll step calls s .roots) ≡ afterAll plainStep calls P .roots
+  pub slots : let t = afterAll step calls s in take (slotsLen (t .control .n)) (t .slots) ≡ plainSlots (afterAll plainStep calls P .cells)
+  pub roots : let t = afterAll step calls s in take (t .control .r) (t .roots) ≡ afterAll plainStep calls P .roots
   pub scans : EachScansFew calls s
 
 -- all of demand 3
 abbrev pub Demand3 : Type 0
 Demand3 =
     (n r : ℕ) (recs slots roots : List ℕ) → Create.create n r recs slots roots .answer .refusal ≡ 0
-    → (calls : List Call) → EachLent n calls → Alike n r calls (created n r recs slots roots) (plainCreated n r)
+    → (calls : List Call) → EachLent calls (plainCreated n r) → Alike calls (created n r recs slots roots) (plainCreated n r)
 
 -- and what the plain heap keeps in a collection is what pointers reach from its roots and sinks
 abbrev pub PlainKeeps : Type 0
 PlainKeeps = (P : Plain) (x : ℕ) → Obj (plainSize P) x → (has x (keptNumbers P) ≡ true) ↔ Reach (plainWords P) (plainStarts P) x
+
+-- ==== saves
+
+-- a save of this heap into these bytes
+abbrev pub savedBy : State → List ℕ → Save.Outcome
+savedBy s out = Save.save (s .control) (s .records) (s .slots) (s .roots) out
+
+-- its image: as many of the bytes as it answers
+abbrev pub imageBy : State → List ℕ → List ℕ
+imageBy s out = take (savedBy s out .answer .length) (savedBy s out .image)
+
+-- chunks of kinds from 0x8000 up, one after the other
+pub data Passed : List ℕ → Type 0 where
+  none : Passed []
+  more : (kind : ℕ) (body : List ℕ) {z : List ℕ} → 0x8000 ≤ kind → kind < 256 ^ 2 → length body < 256 ^ 4 → Passed z → Passed (chunk kind body ++ z)
+
+-- a save of a heap that the calls made, and a load of its image
+pub record Reloads : Type 0 where
+  -- the save is accepted where there is room, and its image is that of the plain heap
+  pub saves : (s : State) → Made s → (out : List ℕ) → length (plainImage (plainOf s)) ≤ length out
+      → (savedBy s out .answer .refusal ≡ 0) × (imageBy s out ≡ plainImage (plainOf s))
+  -- there is room wherever there is room for n objects of eight words and r roots
+  pub room : (s : State) → Made s → length (plainImage (plainOf s)) ≤ 26 + 36 * s .control .n + 4 * s .control .r
+  -- the image is loaded into any buffers that are long enough
+  pub loads : (s : State) → Made s → (out recs slots roots : List ℕ) → savedBy s out .answer .refusal ≡ 0
+      → Long (s .control .n) (s .control .r) recs slots roots → Load.load (imageBy s out) recs slots roots .answer .refusal ≡ 0
+  -- and every list of later calls gets the answers that it would have had
+  pub same : (s : State) → Made s → (out recs slots roots : List ℕ) → savedBy s out .answer .refusal ≡ 0
+      → Long (s .control .n) (s .control .r) recs slots roots → (calls : List Call) → EachLent calls (plainOf s)
+      → answersOf step calls (loaded (imageBy s out) recs slots roots) ≡ answersOf step calls s
+  -- chunks of kinds from 0x8000 up behind the image make no difference
+  pub passes : (s : State) → Made s → (z : List ℕ) → Passed z
+      → let b = plainImage (plainOf s) ++ z in (first (imageTests b) ≡ 0) × (plainLoaded b ≡ plainOf s)
+  -- and nothing else is accepted: an image that passes the tests is that of the plain heap which it holds, and such chunks
+  pub exact : (image : List ℕ) → Octets image → first (imageTests image) ≡ 0
+      → (z : List ℕ) × Passed z × (image ≡ plainImage (plainLoaded image) ++ z)
+  -- the heap that any accepted image makes is the plain heap that the image holds
+  pub holds : (image recs slots roots : List ℕ) → Load.load image recs slots roots .answer .refusal ≡ 0
+      → plainOf (loaded image recs slots roots) ≡ plainLoaded image

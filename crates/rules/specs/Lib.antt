@@ -13,6 +13,9 @@ pub mod DeclareSink
 pub mod Analyse
 pub mod Sweep
 pub mod Collect
+pub mod Image
+pub mod Save
+pub mod Load
 -- ---- the plain heap and lists of calls
 pub mod Calls
 pub mod Plain

@@ -11,7 +11,9 @@ use Rattle.layout.specs.Refusal.{Test, outcome}
 use Rattle.graph.specs.Numbers.{has, count, gather, lowest}
 use Rattle.graph.specs.Rounds.{rounds}
 use Rattle.rules.specs.Buffers.{eachFrom, numbers}
-use Rattle.rules.specs.Calls.{Call, allocate, allocateInPlace, read, show, write, writeInPlace, setRoot, declareSink, collect, analyse, Answer, gave, gotWord, gotWords, did, swept}
+use Rattle.rules.specs.Calls.{Call, allocate, allocateInPlace, read, show, write, writeInPlace, setRoot, declareSink, collect, analyse, save, load, Answer, gave, gotWord, gotWords, did, swept, savedAs}
+use Rattle.rules.specs.Image.{image, listed, savedSink, savedWords, savedRoot, savedLast}
+use Rattle.rules.specs.Load.{imageTests, sizes, objects, rootWords, imageN, imageR}
 
 -- free, or an object: its words, as many as its width, and whether it is a sink
 pub data Cell : Type 0 where
@@ -105,6 +107,24 @@ module _ (P : Plain) where
   unfoldable pub plainMap : List ℕ → List ℕ
   plainMap l = map (wordOf (plainFreed l)) (numbers 0 (mapLen plainSize))
 
+-- its image ("Saves")
+unfoldable pub plainImage : Plain → List ℕ
+plainImage P =
+    image (plainSize P) (P .last) (λ x. not (isFree (cellAt (P .cells) x))) (λ x. isSink (cellAt (P .cells) x)) (plainWords P) (P .roots)
+
+-- number x of an image
+unfoldable pub cellFrom : List ℕ → ℕ → Cell
+cellFrom b x = cond (listed (objects b) x) (object (savedWords (objects b) x) (eqb (savedSink (objects b) x) 1)) vacant
+
+-- the plain heap that an image holds
+unfoldable pub plainLoaded : List ℕ → Plain
+plainLoaded b =
+    record {
+      last = savedLast (sizes b);
+      roots = map (savedRoot (rootWords b)) (numbers 0 (imageR b));
+      cells = map (cellFrom b) (numbers 1 (imageN b));
+    }
+
 -- what a call answers (nothing, for an analysis), and the heap after it
 pub record Played (A : Type 0) : Type 0 where
   pub answers : List Answer
@@ -146,6 +166,10 @@ plainStep (collect kind work map) P =
     answer (swept 0 (count (plainSize P) (plainFreed P l)) (count (plainSize P) (λ x. has x l)) (plainMap P l))
     (record { last = P .last; roots = P .roots; cells = plainSwept P l })
 plainStep (analyse work) P = record { answers = []; after = P }
+plainStep (save out) P =
+    let b = plainImage P in
+    outcome ((2, ltb (length out) (length b)) ∷ []) (answer (savedAs 0 (length b)) P) (λ m. answer (savedAs m 0) P)
+plainStep (load b recs slots roots) P = outcome (imageTests b) (answer (did 0) (plainLoaded b)) (λ m. answer (did m) P)
 
 -- the eight slots of a cell: its words, filled up with 0
 unfoldable pub eightOf : Cell → List ℕ

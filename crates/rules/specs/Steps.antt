@@ -4,7 +4,8 @@ use mathlib.Core.List.{List, [], _∷_, _++_}
 use lib.ListN.{take}
 use Rattle.layout.specs.declared.answers.Control.{Control}
 use Rattle.layout.specs.Limits.{mapLen}
-use Rattle.rules.specs.Calls.{Call, allocate, allocateInPlace, read, show, write, writeInPlace, setRoot, declareSink, collect, analyse, Answer, gave, gotWord, gotWords, did, swept}
+use Rattle.layout.specs.Refusal.{by}
+use Rattle.rules.specs.Calls.{Call, allocate, allocateInPlace, read, show, write, writeInPlace, setRoot, declareSink, collect, analyse, save, load, Answer, gave, gotWord, gotWords, did, swept, savedAs}
 use Rattle.rules.specs.Plain.{Played, answer}
 use Rattle.rules.specs.Create as Create
 use Rattle.rules.specs.Allocate as Allocate
@@ -15,6 +16,8 @@ use Rattle.rules.specs.SetRoot as SetRoot
 use Rattle.rules.specs.DeclareSink as DeclareSink
 use Rattle.rules.specs.Analyse as Analyse
 use Rattle.rules.specs.Collect as Collect
+use Rattle.rules.specs.Save as Save
+use Rattle.rules.specs.Load as Load
 
 -- the control record and the three buffers that are handed on from call to call
 pub record State : Type 0 where
@@ -27,6 +30,12 @@ pub record State : Type 0 where
 unfoldable pub created : ℕ → ℕ → List ℕ → List ℕ → List ℕ → State
 created n r recs slots roots =
     let o = Create.create n r recs slots roots in
+    record { control = o .answer .control; records = o .records; slots = o .slots; roots = o .roots }
+
+-- the state that load leaves
+unfoldable pub loaded : List ℕ → List ℕ → List ℕ → List ℕ → State
+loaded image recs slots roots =
+    let o = Load.load image recs slots roots in
     record { control = o .answer .control; records = o .records; slots = o .slots; roots = o .roots }
 
 -- a call in a state: what the game sees of its answer, and the state after it, with the control record that the call answers or leaves in place
@@ -63,6 +72,13 @@ step (collect kind work map) s =
 step (analyse work) s =
     let o = Analyse.analyse (s .control) (s .records) (s .slots) (s .roots) work in
     record { answers = []; after = record { control = o .answer .control; records = o .records; slots = s .slots; roots = s .roots } }
+step (save out) s =
+    let o = Save.save (s .control) (s .records) (s .slots) (s .roots) out in
+    answer (savedAs (o .answer .refusal) (o .answer .length)) (record { control = o .answer .control; records = s .records; slots = s .slots; roots = s .roots })
+-- where a load is refused the game goes on with the heap that it has
+step (load image recs slots roots) s =
+    let m = Load.load image recs slots roots .answer .refusal in
+    answer (did m) (by m (loaded image recs slots roots) (λ k. s))
 
 -- ---- lists of calls, of either heap
 

@@ -15,12 +15,15 @@ use Rattle.rules.specs.DeclareSink as DeclareSink
 use Rattle.rules.specs.Analyse as Analyse
 use Rattle.rules.specs.Collect.{plainly, byClusters}
 use Rattle.rules.specs.Collect as Collect
-use Rattle.rules.specs.Calls.{Call, allocate, allocateInPlace, read, show, write, writeInPlace, setRoot, declareSink, collect, analyse}
+use Rattle.rules.specs.Save as Save
+use Rattle.rules.specs.Load as Load
+use Rattle.rules.specs.Calls.{Call, allocate, allocateInPlace, read, show, write, writeInPlace, setRoot, declareSink, collect, analyse, save, load}
 use Rattle.rules.specs.Steps.{State, created, step, afterAll}
 
 -- ---- what is told of a call
 
--- what the call answers, its refusal first; of a collection freed, kept, scanned and the map's first word, of an analysis clusters, members, limit and out loss
+-- what the call answers, its refusal first; of a collection freed, kept, scanned and the map's first word, of an analysis clusters, members, limit and out
+-- loss, of a save its length and the bytes after it, of a load n, r, last, and the buffers after it
 unfoldable pub answered : Call → State → List ℕ
 answered (allocate width) s =
     let a = Allocate.allocate (s .control) width (s .records) (s .slots) .answer in
@@ -44,6 +47,12 @@ answered (collect kind work map) s =
 answered (analyse work) s =
     let a = Analyse.analyse (s .control) (s .records) (s .slots) (s .roots) work .answer in
     a .refusal ∷ a .clusters ∷ a .members ∷ a .control .limit ∷ a .control .«out_loss» ∷ []
+answered (save out) s =
+    let o = Save.save (s .control) (s .records) (s .slots) (s .roots) out in
+    o .answer .refusal ∷ o .answer .length ∷ o .image
+answered (load image recs slots roots) s =
+    let o = Load.load image recs slots roots in
+    (o .answer .refusal ∷ o .answer .control .n ∷ o .answer .control .r ∷ o .answer .control .last ∷ []) ++ o .records ++ o .slots ++ o .roots
 
 -- write loss, and the cluster of each object up to the last one given
 unfoldable pub standing : State → List ℕ
@@ -259,6 +268,87 @@ ownRows h =
     ∷ on h [] (writeInPlace 1 0 0) (0 ∷ []) (6 ∷ 0 ∷ 0 ∷ 0 ∷ 0 ∷ 0 ∷ 0 ∷ [])
     ∷ []
 
+-- ---- saves and loads, byte by byte
+
+-- object 1 points at 3 and holds an immediate, 2 is free, 3 is a sink of width 0; root 0 is 1
+unfoldable pub pair : State
+pair = stateWith 3 0 0 (recordWith 2 0 0 ∷ 0 ∷ recordWith 0 4 0 ∷ []) (two 3 0x80000005 ++ one 0 ++ one 0) 1
+
+-- its chunks ("Saves", an image byte by byte)
+unfoldable pub sizesChunk : List ℕ
+sizesChunk = 8 ∷ 0 ∷ 0 ∷ 0 ∷ 1 ∷ 0 ∷ 1 ∷ 0 ∷ 3 ∷ 0 ∷ 1 ∷ 0 ∷ 3 ∷ 0 ∷ []
+
+-- that of kind 2, with this pointer in slot 0 of object 1
+unfoldable pub objectsChunk : ℕ → List ℕ
+objectsChunk w = 16 ∷ 0 ∷ 0 ∷ 0 ∷ 2 ∷ 0 ∷ 1 ∷ 0 ∷ 2 ∷ 0 ∷ w ∷ 0 ∷ 0 ∷ 0 ∷ 5 ∷ 0 ∷ 0 ∷ 0x80 ∷ 3 ∷ 0 ∷ 0 ∷ 1 ∷ []
+
+-- that of kind 3, with this root
+unfoldable pub rootsChunk : ℕ → List ℕ
+rootsChunk w = 4 ∷ 0 ∷ 0 ∷ 0 ∷ 3 ∷ 0 ∷ w ∷ 0 ∷ 0 ∷ 0 ∷ []
+
+-- an empty chunk of the kind with this high byte and this low one
+unfoldable pub emptyChunk : ℕ → ℕ → List ℕ
+emptyChunk high low = 0 ∷ 0 ∷ 0 ∷ 0 ∷ low ∷ high ∷ []
+
+-- its image
+unfoldable pub pairImage : List ℕ
+pairImage = sizesChunk ++ objectsChunk 3 ++ rootsChunk 1
+
+-- a load into buffers one word longer than its heap, full of nines
+unfoldable pub loading : List ℕ → Call
+loading image = load image (replicate 4 9) (replicate 25 9) (replicate 2 9)
+
+-- a load that is refused, with a control record of zeros and the buffers as they were
+unfoldable pub unloaded : ℕ → List ℕ → Trial
+unloaded k image = fresh pair (loading image) ((k ∷ 0 ∷ 0 ∷ 0 ∷ []) ++ replicate 4 9 ++ replicate 25 9 ++ replicate 2 9) (standing pair)
+
+-- saves, loads and their refusals; h is heap H
+unfoldable pub imageRows : State → List Trial
+imageRows h =
+    -- 46 bytes, and the one past them stays
+    fresh pair (save (replicate 47 9)) ((0 ∷ 46 ∷ []) ++ pairImage ++ (9 ∷ [])) (0 ∷ 0 ∷ 0 ∷ 0 ∷ [])
+    -- one byte too few
+    ∷ fresh pair (save (replicate 45 9)) ((2 ∷ 0 ∷ []) ++ replicate 45 9) (0 ∷ 0 ∷ 0 ∷ 0 ∷ [])
+    -- 20 and 2, 2 and 21, 21 and too little space
+    ∷ fresh (stateWith 4096 0 0 [] [] 0) (save []) (20 ∷ 0 ∷ []) (standing (stateWith 4096 0 0 [] [] 0))
+    ∷ fresh (stateWith 2 0 0 (16 ∷ []) [] 0) (save []) (2 ∷ 0 ∷ []) (0 ∷ 0 ∷ 0 ∷ [])
+    ∷ fresh (stateWith 1 0 0 (16 ∷ []) (one 0) 0) (save []) (21 ∷ 0 ∷ []) (0 ∷ 0 ∷ [])
+    -- heap H loses its cluster, and its limit with it: a first analysis has nothing left
+    ∷ on h (loading pairImage ∷ []) (analysis 3) (0 ∷ 0 ∷ 0 ∷ 8 ∷ 0 ∷ []) (0 ∷ 0 ∷ 0 ∷ 0 ∷ [])
+    -- the image loaded, alone and with two chunks behind it that are passed over
+    ∷ on h [] (loading pairImage)
+    (0 ∷ 3 ∷ 1 ∷ 3 ∷ 513 ∷ 0 ∷ 5 ∷ 9 ∷ 3 ∷ 0x80000005 ∷ (replicate 22 0 ++ (9 ∷ 1 ∷ 9 ∷ [])))
+    (0 ∷ 0 ∷ 0 ∷ 0 ∷ [])
+    ∷ on h [] (loading (pairImage ++ emptyChunk 0x80 0 ++ (1 ∷ 0 ∷ 0 ∷ 0 ∷ 0xFF ∷ 0xFF ∷ 7 ∷ [])))
+    (0 ∷ 3 ∷ 1 ∷ 3 ∷ 513 ∷ 0 ∷ 5 ∷ 9 ∷ 3 ∷ 0x80000005 ∷ (replicate 22 0 ++ (9 ∷ 1 ∷ 9 ∷ [])))
+    (0 ∷ 0 ∷ 0 ∷ 0 ∷ [])
+    -- the input ends before its third chunk, in a front, or in a body; the length field at its greatest
+    ∷ unloaded 26 []
+    ∷ unloaded 26 (sizesChunk ++ objectsChunk 3)
+    ∷ unloaded 26 (pairImage ++ (0 ∷ []))
+    ∷ unloaded 26 (sizesChunk ++ objectsChunk 3 ++ (4 ∷ 0 ∷ 0 ∷ 0 ∷ 3 ∷ 0 ∷ 1 ∷ 0 ∷ 0 ∷ []))
+    ∷ unloaded 26 (pairImage ++ (0xFF ∷ 0xFF ∷ 0xFF ∷ 0xFF ∷ 0 ∷ 0x80 ∷ []))
+    -- a body that breaks the layout with nothing behind it; a word and a root that name an object that is not listed
+    ∷ unloaded 27 (emptyChunk 0 1)
+    ∷ unloaded 27 (sizesChunk ++ objectsChunk 2 ++ rootsChunk 1)
+    ∷ unloaded 27 (sizesChunk ++ objectsChunk 3 ++ rootsChunk 2)
+    -- known kinds out of place, before the third chunk and behind it; a kind from 0x8000 up too early
+    ∷ unloaded 27 (objectsChunk 3 ++ sizesChunk ++ rootsChunk 1)
+    ∷ unloaded 27 (pairImage ++ rootsChunk 1)
+    ∷ unloaded 27 (sizesChunk ++ emptyChunk 0x80 0 ++ objectsChunk 3 ++ rootsChunk 1)
+    -- unknown kinds: 0, 4 and 0x7FFF; the first chunk that fails decides
+    ∷ unloaded 28 (emptyChunk 0 0)
+    ∷ unloaded 28 (pairImage ++ emptyChunk 0 4)
+    ∷ unloaded 28 (sizesChunk ++ emptyChunk 0x7F 0xFF)
+    ∷ unloaded 27 (pairImage ++ rootsChunk 1 ++ emptyChunk 0 4)
+    ∷ unloaded 28 (pairImage ++ emptyChunk 0 4 ++ rootsChunk 1)
+    -- 28 and 2, and 2 alone
+    ∷ fresh pair (load (pairImage ++ emptyChunk 0 4) [] [] []) (28 ∷ 0 ∷ 0 ∷ 0 ∷ []) (standing pair)
+    ∷ fresh pair (load pairImage (9 ∷ 9 ∷ []) (replicate 24 9) (9 ∷ [])) ((2 ∷ 0 ∷ 0 ∷ 0 ∷ []) ++ replicate 27 9) (standing pair)
+    ∷ fresh pair (load pairImage (replicate 3 9) (replicate 23 9) (9 ∷ [])) ((2 ∷ 0 ∷ 0 ∷ 0 ∷ []) ++ replicate 27 9) (standing pair)
+    ∷ fresh pair (load pairImage (replicate 3 9) (replicate 24 9) []) ((2 ∷ 0 ∷ 0 ∷ 0 ∷ []) ++ replicate 27 9) (standing pair)
+    ∷ []
+
 -- ---- two refusals that both hold: the first in the order is given
 
 -- two objects with these records, where 1 points at 2
@@ -339,7 +429,7 @@ refusals =
 
 -- all rows; h is heap H
 unfoldable pub rows : State → List Trial
-rows h = marked h ++ ownRows h ++ refusals
+rows h = marked h ++ ownRows h ++ imageRows h ++ refusals
 
 -- the whole table
 unfoldable pub table : List Trial

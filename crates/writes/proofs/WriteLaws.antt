@@ -9,18 +9,18 @@ use native.Mathlib.Omega.{arith}
 use lib.Dec.{leb, ltb, eqb, lit<}
 use lib.ListN.{length, getD, set}
 use lib.Seq.{set-set}
-use borrow.Author.Tests.{le-leb, lt-leb, leb-true, leb-false, lt-ltb, le-ltb, eqb-true, not-true, not-false}
+use borrow.Author.Tests.{le-leb, lt-leb, leb-false, lt-ltb, le-ltb, eqb-true, not-true, not-false}
 use Rattle.layout.specs.declared.answers.Control.{Control}
 use Rattle.layout.specs.declared.words.Word.{Word}
 use Rattle.layout.specs.declared.words.Word.the-variants.{Nil, Object, Immediate, Illegal}
 use Rattle.layout.specs.Limits.{objectMax, widthMax, slotsLen}
 use Rattle.records.specs.Record.{width, cluster, legal, withOut, withWritten, loose}
-use Rattle.layout.specs.Word.{isNil, isPointer, isImmediate, legalWord, sortOf}
+use Rattle.layout.specs.Word.{isNil, isPointer, legalWord, sortOf}
 use Rattle.layout.specs.ControlRecord.{withWriteLoss}
 use Rattle.layout.specs.Refusal.{Test, first}
 use Rattle.layout.proofs.LimitLaws.{below-within, above-within}
 use Rattle.layout.proofs.ControlLaws.{writes-sound, facts-control}
-use Rattle.layout.proofs.WordLaws.{Says, sort-says, pointer-legal}
+use Rattle.layout.proofs.WordLaws.{Says, sort-says, pointer-legal, immediate-bounds}
 use Rattle.layout.proofs.RefusalLaws.{Numbered, nil, cons, first-passed, first-front, first-skip, first-zero, first-holds, first-fails, outcome-zero, outcome-number}
 use Rattle.graph.specs.Writes.{dissolves, storeBy, store, lossBy, lossOf}
 use Rattle.graph.specs.Clusters.{size, outBit}
@@ -48,9 +48,9 @@ module _ (n w : ℕ) (recs : List ℕ) (h : n ≤ objectMax) where
       rw (says Nil e, below-within 1 n w (omega arith)) refl
 
   pub word-immediate : Immediate ≡ sortOf n w → 0 ≡ first (wordTests n w recs)
-  unfolding wordTests first legalWord Says isPointer isImmediate
+  unfolding wordTests first legalWord Says isPointer
   word-immediate e =
-      let z : 2 ^ 31 ≤ w = leb-true (2 ^ 31) w (says Immediate e) in
+      let z = immediate-bounds w (says Immediate e) .0 in
       rw (says Immediate e, above-within 1 n w (omega arith)) (go (isNil w))
     where
       go : (b : Bool) → _≡_ {A = ℕ} 0 (cond (not (b || false || true)) 6 (cond false 23 0))

@@ -1,0 +1,27 @@
+-- Numbers as bytes, the lowest first ("Saves": little-endian).
+use Prim.Native.Nat.{ℕ, zero, suc, _+_, _*_, _/_, _%_, _<_}
+use mathlib.Core.List.{List, [], _∷_, _++_, List·Memᴰ}
+use lib.ListN.{take, drop}
+
+-- each number of the list is a byte
+abbrev pub Octets : List ℕ → Type 0
+Octets l = (v : ℕ) → List·Memᴰ v l → v < 256
+
+-- the k lowest bytes of v
+unfoldable pub bytes : ℕ → ℕ → List ℕ
+bytes zero v = []
+bytes (suc k) v = v % 256 ∷ bytes k (v / 256)
+
+-- the number that these bytes are
+unfoldable pub number : List ℕ → ℕ
+number [] = 0
+number (b ∷ l) = b + 256 * number l
+
+-- the number in the k bytes from place i on; past the end bytes count as 0
+unfoldable pub numberAt : ℕ → ℕ → List ℕ → ℕ
+numberAt k i l = number (take k (drop i l))
+
+-- words, four bytes each
+unfoldable pub wordBytes : List ℕ → List ℕ
+wordBytes [] = []
+wordBytes (w ∷ l) = bytes 4 w ++ wordBytes l
