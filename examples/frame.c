@@ -5,7 +5,9 @@
  * which is a list of items. All doors and switches use one sound bank, which is
  * a sink. Each frame moves the player and lets off a spark that nothing points
  * to. Every second frame ends with an analysis, every third with a collection by
- * clusters. frame.expected has the output; how it follows from the rules:
+ * clusters. Frame 12 ends with a save, which is loaded into other buffers; the
+ * game goes on with the loaded heap. frame.expected has the output; how it
+ * follows from the rules:
  *
  *   frame  2  Every object was written while the level was built: no cluster.
  *   frame  3  No cluster yet, so all that is kept is scanned. Three sparks go.
@@ -22,18 +24,28 @@
  *   frame 10  A script still knows the third door: 22, the object is free.
  *             Level, two doors and two switches were left alone: five members.
  *   frame 12  Scanned are the player and the bank. The items dropped in frame
- *             11 go, with three sparks.
+ *             11 go, with three sparks. Seven objects with fifteen words in all
+ *             are saved: 26 + 4 * 2 + 4 * 7 + 4 * 15 bytes. The loaded heap has
+ *             no limit yet, since no analysis has run on it.
+ *   frame 13  Two saves that someone has changed: in one the objects are longer
+ *             than the file, in the other root 0 names an object that the save
+ *             does not have. Both are refused, and the heap is as it was.
+ *   frame 14  Only the player and the sparks were written since the load: the
+ *             cluster of five is back at the first analysis of the loaded heap.
+ *   frame 15  The search for free objects went on after the saved `last`, and
+ *             the sparks of three frames go.
  */
 #include "pakzid.h"
 
 #include <stdio.h>
 #include <stdlib.h>
+#include <string.h>
 
 enum {
     OBJECTS = 32,
     ROOTS = 2,
     DOORS = 3,
-    FRAMES = 12
+    FRAMES = 15
 };
 
 /* Roots, and slots by what they are for. */
@@ -44,16 +56,25 @@ enum { PLAYER_ITEMS, PLAYER_PLACE, PLAYER_WIDTH };
 enum { ITEM_NEXT, ITEM_WIDTH };
 enum { SPARK_FROM, SPARK_WIDTH };
 
-/* The heap, and scratch for analyses and collections. */
+/* Two sets of buffers, of which one has the heap, and scratch for analyses and
+ * collections. */
+typedef struct {
+    uint32_t records[OBJECTS], slots[PAKZID_SLOTS_LENGTH(OBJECTS)], roots[ROOTS];
+} buffers;
+static buffers first, second, *heap = &first;
 static pakzid_control control;
-static uint32_t records[OBJECTS], slots[PAKZID_SLOTS_LENGTH(OBJECTS)], roots[ROOTS];
 static uint32_t work[PAKZID_WORK_LENGTH(OBJECTS)];
 static uint64_t map[PAKZID_MAP_LENGTH(OBJECTS)];
 
+/* The saved game: the bytes of a file. */
+static uint8_t image[PAKZID_IMAGE_LENGTH(OBJECTS, ROOTS)];
+static uint32_t image_length;
+enum { OBJECTS_CHUNK = 6 + 8 }; /* behind the chunk of the sizes */
+
 #define LENGTH(array) (sizeof(array) / sizeof(array)[0])
-#define RECORDS records, LENGTH(records)
-#define SLOTS slots, LENGTH(slots)
-#define ROOT_WORDS roots, LENGTH(roots)
+#define RECORDS heap->records, LENGTH(heap->records)
+#define SLOTS heap->slots, LENGTH(heap->slots)
+#define ROOT_WORDS heap->roots, LENGTH(heap->roots)
 #define WORK work, LENGTH(work)
 #define MAP map, LENGTH(map)
 
@@ -83,7 +104,7 @@ static void store(uint32_t object, uint32_t slot, uint32_t word)
     must("write", pakzid_write_in_place(&control, object, slot, word, RECORDS, SLOTS));
 }
 
-static uint32_t load(uint32_t object, uint32_t slot)
+static uint32_t word_in(uint32_t object, uint32_t slot)
 {
     pakzid_word a = pakzid_read(control, object, slot, RECORDS, SLOTS);
     must("read", a.refusal);
@@ -132,7 +153,7 @@ static void build(void)
 static void pick_up(void)
 {
     uint32_t item = allocate(ITEM_WIDTH);
-    store(item, ITEM_NEXT, load(player, PLAYER_ITEMS));
+    store(item, ITEM_NEXT, word_in(player, PLAYER_ITEMS));
     store(player, PLAYER_ITEMS, item);
 }
 
@@ -185,6 +206,45 @@ static void collect(uint32_t frame)
     putchar('\n');
 }
 
+/* --- Saved games --------------------------------------------------------- */
+
+static void save(uint32_t frame)
+{
+    pakzid_saved a = pakzid_save(control, RECORDS, SLOTS, ROOT_WORDS, image, LENGTH(image));
+    must("save", a.refusal);
+    image_length = a.length;
+    printf("frame %2u: saved, %u bytes\n", (unsigned)frame, (unsigned)image_length);
+}
+
+/* Loads the saved game into the other buffers, whatever they hold; the game
+ * goes on there. Objects keep their numbers. */
+static void load(uint32_t frame)
+{
+    heap = &second;
+    memset(heap, 0xA5, sizeof *heap);
+    pakzid_done a = pakzid_load(image, image_length, RECORDS, SLOTS, ROOT_WORDS);
+    must("load", a.refusal);
+    control = a.control;
+    printf("frame %2u: loaded, objects %u, roots %u, last %u, limit %u\n", (unsigned)frame, (unsigned)control.objects,
+           (unsigned)control.roots, (unsigned)control.last, (unsigned)control.limit);
+}
+
+/* Loads the saved game with another number in the four bytes from `at` on, over
+ * the heap in use. A refused load gives a control record of zeros, so the game
+ * keeps its own. */
+static void load_changed(uint32_t frame, const char *what, size_t at, uint32_t number)
+{
+    static uint8_t changed[sizeof image];
+    memcpy(changed, image, image_length);
+    for (size_t i = 0; i < 4; i++)
+        changed[at + i] = (uint8_t)(number >> 8 * i);
+
+    buffers before = *heap;
+    pakzid_done a = pakzid_load(changed, image_length, RECORDS, SLOTS, ROOT_WORDS);
+    printf("frame %2u: %s, load refused with %u, heap %s\n", (unsigned)frame, what, (unsigned)a.refusal,
+           memcmp(heap, &before, sizeof before) == 0 ? "as it was" : "changed");
+}
+
 int main(void)
 {
     build();
@@ -194,6 +254,14 @@ int main(void)
             analyse(frame);
         if (frame % 3 == 0)
             collect(frame);
+        if (frame == 12) {
+            save(frame);
+            load(frame);
+        }
+        if (frame == 13) {
+            load_changed(frame, "length 0xFFFFFFFF", OBJECTS_CHUNK, 0xFFFFFFFF);
+            load_changed(frame, "root to a free object", image_length - 4 * ROOTS, door[2]);
+        }
     }
     return 0;
 }

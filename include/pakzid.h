@@ -27,16 +27,34 @@
  *   roots     uint32_t   r                     one word for each root
  *   work      uint32_t   10 * n + 64           scratch; all 0 after acceptance
  *   map       uint64_t   n / 64 + 1            which objects were freed
+ *   image     uint8_t    26 + 36 * n + 4 * r   the heap as bytes; see save
  *
- * (PAKZID_SLOTS_LENGTH, PAKZID_WORK_LENGTH and PAKZID_MAP_LENGTH compute these.)
+ * (PAKZID_SLOTS_LENGTH, PAKZID_WORK_LENGTH, PAKZID_MAP_LENGTH and
+ * PAKZID_IMAGE_LENGTH compute these.)
  * A buffer is handed over as a pointer and its length in elements. It may be
  * longer than needed; the rest is never touched. Work and map may hold anything
  * before a call, and may be others at each call, or shared by heaps that take
  * turns.
  *
  * The engine reads these buffers as it likes, and changes them by the calls
- * alone. A heap may be copied or saved: it is its records, slots, roots and
- * control record, with no address inside.
+ * alone. A heap may be copied: it is its records, slots, roots and control
+ * record, with no address inside.
+ *
+ * Images
+ *
+ * An image is a heap as bytes, in chunks. A chunk is the length of its body
+ * (four bytes), its kind (two bytes) and its body. Every number is
+ * little-endian.
+ *
+ *   kind            body
+ *   0x0001          version (1), n, r, last; two bytes each
+ *   0x0002          each object in use, by number: number (two bytes), width and
+ *                   sink (0 or 1; one byte each), its words (four bytes each)
+ *   0x0003          the roots; four bytes each
+ *   0x8000 and up   anything; a load passes over it
+ *
+ * The first three stand in this order, once each. Others, which save does not
+ * write, may follow. Clusters, written bits, limit and losses are in no image.
  *
  * What the engine must see to (nothing here can test it)
  *
@@ -51,7 +69,7 @@
  * `refusal` is 0 if the call was accepted, and else the number of the first of
  * its tests that failed, in the order given with the call. A refused call
  * changes no buffer and no control record; its other answers are 0, and the
- * control record it gives back is the one handed in (for create: all 0).
+ * control record it gives back is the one handed in (for create and load: all 0).
  *
  *   number   meaning                                              given by
  *    1       n is not 1 to 4,095, or r is not 1 to 64             create
@@ -62,15 +80,19 @@
  *    5       no such slot: the object is not that wide            read, write
  *    6       an illegal word, or an immediate for a root          write, set_root
  *    7       no such root: the index is not below r               set_root
- *   20       a field of the control record is out of range        all but create
+ *   20       a field of the control record is out of range        all but create, load
  *   21       damage: the record of the object is broken           read, show, write
  *   21       damage anywhere in the heap                          declare_sink, analyse,
- *                                                                 both collections
+ *                                                                 both collections, save
  *   22       the object is free                                   read, show, write,
  *                                                                 declare_sink
  *   23       the word points to an object that is free or broken  write, set_root
  *   24       no object is free                                    allocate
  *   25       write loss would pass n                              write
+ *   26       a chunk ends past the image, or the image before     load
+ *            its third chunk
+ *   27       a chunk is out of place, or its body is wrong        load
+ *   28       the kind of a chunk is below 0x8000 and unknown      load
  *
  * As long as nothing but the library stores into the buffers of a heap, and each
  * call is handed the latest control record, 20, 21 and 25 do not occur.
@@ -88,11 +110,12 @@ extern "C" {
 #define PAKZID_SLOTS_LENGTH(objects) (8 * (objects))
 #define PAKZID_WORK_LENGTH(objects) (10 * (objects) + 64)
 #define PAKZID_MAP_LENGTH(objects) ((objects) / 64 + 1)
+#define PAKZID_IMAGE_LENGTH(objects, roots) (26 + 36 * (objects) + 4 * (roots))
 
 /*
  * The control record. The engine keeps one for each heap, and replaces it by
  * the one in the answer of each call, refused or not (but not by that of a
- * refused create). It may read the fields; the calls alone set them.
+ * refused create or load). It may read the fields; the calls alone set them.
  */
 typedef struct {
     uint32_t objects;    /* n */
@@ -103,7 +126,7 @@ typedef struct {
     uint32_t out_loss;   /* members of clusters that the last analysis deleted for out pointers */
 } pakzid_control;
 
-/* create, write, set_root, declare_sink */
+/* create, write, set_root, declare_sink, load */
 typedef struct {
     uint32_t refusal;
     pakzid_control control;
@@ -143,6 +166,12 @@ typedef struct {
     uint32_t scanned; /* objects whose slots were read */
     pakzid_control control;
 } pakzid_collected;
+
+typedef struct {
+    uint32_t refusal;
+    uint32_t length; /* of the image, in bytes */
+    pakzid_control control;
+} pakzid_saved;
 
 typedef struct {
     uint32_t refusal;
@@ -253,6 +282,39 @@ pakzid_collected pakzid_collect_clusters(pakzid_control control,
                                          const uint32_t *roots, size_t roots_length,
                                          uint32_t *work, size_t work_length,
                                          uint64_t *map, size_t map_length);
+
+/*
+ * Writes the heap as an image and answers the length of it, in bytes: 26, 4 for
+ * each root, and for each object in use 4 and 4 for each of its slots. So no
+ * image is longer than PAKZID_IMAGE_LENGTH. Changes no byte past that length,
+ * and nothing of the heap.
+ * Tests: 20, 2, 21, and last 2 once more, if the image does not fit.
+ */
+pakzid_saved pakzid_save(pakzid_control control,
+                         const uint32_t *records, size_t records_length,
+                         const uint32_t *slots, size_t slots_length,
+                         const uint32_t *roots, size_t roots_length,
+                         uint8_t *image, size_t image_length);
+
+/*
+ * Makes the heap of an image, with the n and r that the image names: sets
+ * records, slots and roots up to the lengths above, whatever they held, and
+ * gives the control record. `image_length` is that of the image, in bytes. The
+ * heap has no clusters. Loaded from the image of a heap, it answers each later
+ * call as that heap would have, but for `scanned`, what an analysis answers, and
+ * control records.
+ *
+ * The image may come from anywhere: all of it is tested before the first store,
+ * and what is accepted is a heap without damage. The buffers may be those of a
+ * heap in use: a refused load changes none of them, and that heap goes on with
+ * its own control record (that of the answer is all 0). Takes about 600 bytes of
+ * stack.
+ * Tests: at each chunk 26, 27, 28, and last 2.
+ */
+pakzid_done pakzid_load(const uint8_t *image, size_t image_length,
+                        uint32_t *records, size_t records_length,
+                        uint32_t *slots, size_t slots_length,
+                        uint32_t *roots, size_t roots_length);
 
 /*
  * Allocate and write for a control record that is lent and changed where it is.

@@ -8,10 +8,11 @@
 #include <stdio.h>
 #include <string.h>
 
-enum { N = 20, R = 3, MOST = 10 };
+enum { N = 20, R = 3, MOST = 10, SAVED = 26 + 4 * R + 12 * (4 + 4 * 4) };
 
 static uint32_t records[N], slots[PAKZID_SLOTS_LENGTH(N)], roots[R], work[PAKZID_WORK_LENGTH(N)];
 static uint64_t map[PAKZID_MAP_LENGTH(N)];
+static uint8_t image[SAVED];
 static int failed;
 
 static void same_words(const char *what, const char *side, const void *got, const uint32_t *want, size_t count)
@@ -54,6 +55,7 @@ static void answers(const char *what, size_t size, size_t count, const void *got
 #define ROOTS roots, R
 #define WORK work, PAKZID_WORK_LENGTH(N)
 #define MAP map, PAKZID_MAP_LENGTH(N)
+#define IMAGE image, SAVED
 
 /* n, r, last, limit, write loss, out loss: six values, each in its range */
 static const uint32_t handed_words[] = {N, R, 9, 11, 7, 6};
@@ -73,6 +75,20 @@ static void build(void)
     handed = pakzid_set_root(handed, 0, 1, RECORDS, ROOTS).control;
     handed = pakzid_set_root(handed, 2, 6, RECORDS, ROOTS).control;
     memcpy(&handed, handed_words, sizeof handed);
+}
+
+/* Twelve objects are in the image, and limit and losses are not. A refused load gives no heap. */
+static void images(void)
+{
+    pakzid_saved saved = pakzid_save(handed, RECORDS, SLOTS, ROOTS, IMAGE);
+    pakzid_saved cut = pakzid_save(handed, RECORDS, SLOTS, ROOTS, image, SAVED - 1);
+    pakzid_saved saved_named = {.refusal = 0, .length = SAVED, .control = HANDED_NAMED};
+    pakzid_saved cut_named = {.refusal = 2, .length = 0, .control = HANDED_NAMED};
+    ANSWERS("saved", pakzid_saved, 8, saved, saved_named, WORDS(0, SAVED, HANDED), cut, cut_named, WORDS(2, 0, HANDED));
+
+    pakzid_done loaded = pakzid_load(IMAGE, RECORDS, SLOTS, ROOTS), none = pakzid_load(image, 0, RECORDS, SLOTS, ROOTS);
+    same_words("load", "library", &loaded, WORDS(0, N, R, 9, 0, 0, 0), 7);
+    same_words("load", "refused", &none, WORDS(26, 0, 0, 0, 0, 0, 0), 7);
 }
 
 static void small_calls(void)
@@ -166,6 +182,8 @@ int main(void)
     build();
     pakzid_control named = HANDED_NAMED;
     ANSWERS("control", pakzid_control, 6, handed, named, handed_words, handed, named, handed_words);
+    images();
+    build();
     small_calls();
     analyses();
     collections();

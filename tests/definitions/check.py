@@ -1,27 +1,34 @@
 #!/usr/bin/env python3
 """Compares the definitions of crates/rules with the C reference.
 
-    python3 tests/definitions/check.py [SEED [MADE [HOSTILE]]]
+    python3 tests/definitions/check.py [SEED [MADE [HOSTILE [IMAGES]]]]
 
-MADE random lists of calls from create on, and HOSTILE single calls on random buffers (illegal records, wrong out bits,
-clusters without a head, short slices, control records out of range), are run through the reference. Each answer, with
-the control record and every word of every buffer, is written out as a theorem over the definitions, proved by
+MADE random lists of calls from create on, HOSTILE single calls on random buffers (illegal records, wrong out bits,
+clusters without a head, short slices, control records out of range), and IMAGES loads (of images as they should be, and
+with bytes, lengths, kinds and chunks changed), are run through the reference. Each answer, with the control record, every
+word of every buffer and every byte of a saved image, is written out as a theorem over the definitions, proved by
 computation, in a crate of its own under target/definitions. `rt dev` accepts it only if all agree. It is no part of
 the gate, which needs no Python."""
 import ctypes as C, os, random, re, shutil, subprocess, sys
 
-seed, made, hostile = ([int(x) for x in sys.argv[1:]] + [1, 100, 300][len(sys.argv) - 1:])[:3]
+seed, made, hostile, images = ([int(x) for x in sys.argv[1:]] + [1, 100, 300, 100][len(sys.argv) - 1:])[:4]
 top = os.path.abspath(os.path.join(os.path.dirname(__file__), '..', '..'))
 build = f'{top}/target/definitions'
 shutil.rmtree(build, ignore_errors=True)
 os.makedirs(f'{build}/crates/sample/src')
 os.makedirs(f'{build}/crates/sample/specs')
 subprocess.run(['gcc', '-shared', '-fPIC', '-O2', '-I', f'{top}/include', '-o', f'{build}/libref.so', f'{top}/tests/reference/reference.c'], check=True)
-crates = ('layout', 'records', 'bitmap', 'graph', 'rules')
+crates = ('layout', 'endian', 'records', 'bitmap', 'graph', 'rules')
+function = 'pub fn version() -> u32 {\n    1\n}\n'
 for crate in crates:
-    shutil.copytree(f'{top}/crates/{crate}', f'{build}/crates/{crate}', ignore=shutil.ignore_patterns('must-fail'))
-open(f'{build}/crates.txt', 'w').write('layout:\nrecords: layout\nbitmap: layout\ngraph:\nrules: layout records bitmap graph\nsample: layout records bitmap graph rules\n')
-open(f'{build}/crates/sample/src/lib.rt', 'w').write('pub fn version() -> u32 {\n    1\n}\n')
+    # Of these three the definitions are enough, so that their functions and theorems need not be proved first.
+    bare = ('src', 'proofs') if crate in ('endian', 'graph', 'rules') else ()
+    shutil.copytree(f'{top}/crates/{crate}', f'{build}/crates/{crate}', ignore=shutil.ignore_patterns('must-fail', *bare))
+    if bare:
+        os.makedirs(f'{build}/crates/{crate}/src')
+        open(f'{build}/crates/{crate}/src/lib.rt', 'w').write(function)
+open(f'{build}/crates.txt', 'w').write('layout:\nendian:\nrecords: layout\nbitmap: layout\ngraph:\nrules: layout endian records bitmap graph\nsample: layout endian records bitmap graph rules\n')
+open(f'{build}/crates/sample/src/lib.rt', 'w').write(function)
 open(f'{build}/crates/sample/specs/Lib.antt', 'w').write('pub mod Sample\n')
 
 # Every definition that has to compute: a `use` line for each file of specs/, and one long `unfolding` line.
@@ -78,6 +85,11 @@ observed (collect kind work map) s =
 observed (analyse work) s =
     let o = RAnalyse.analyse (s .control) (s .records) (s .slots) (s .roots) work in
     (o .answer .refusal ∷ o .answer .clusters ∷ o .answer .members ∷ []) ∷ o .work ∷ ctl (o .answer .control) ∷ o .records ∷ s .slots ∷ s .roots ∷ []
+observed (save out) s =
+    let o = RSave.save (s .control) (s .records) (s .slots) (s .roots) out in
+    (o .answer .refusal ∷ o .answer .length ∷ []) ∷ o .image ∷ ctl (o .answer .control) ∷ s .records ∷ s .slots ∷ s .roots ∷ []
+observed (load image recs slots roots) s =
+    let o = RLoad.load image recs slots roots in (o .answer .refusal ∷ []) ∷ ctl (o .answer .control) ∷ o .records ∷ o .slots ∷ o .roots ∷ []
 '''
 
 
@@ -87,7 +99,7 @@ use mathlib.Core.Path.{_≡_, refl}
 use mathlib.Core.List.{List, [], _∷_, _++_, map}
 use lib.ListN.{getD, replicate}
 use Rattle.layout.specs.declared.answers.Control.{Control}
-use Rattle.rules.specs.Calls.{Call, allocate, allocateInPlace, read, show, write, writeInPlace, setRoot, declareSink, collect, analyse}
+use Rattle.rules.specs.Calls.{Call, allocate, allocateInPlace, read, show, write, writeInPlace, setRoot, declareSink, collect, analyse, save, load}
 ''' + '\n'.join(uses) + '\n' + definitions
 
 
@@ -102,8 +114,10 @@ def ans(*names):
     return struct(*[(x, U) for x in names], ('c', Ctl))
 Done, Alloc, Word = ans('k'), ans('k', 'v'), ans('k', 'v')
 Part, Ana, Col = ans('k', 'start', 'length'), ans('k', 'clusters', 'members'), ans('k', 'freed', 'kept', 'scanned')
+Saved = ans('k', 'length')
 for f, t in [('create', Done), ('allocate', Alloc), ('read', Word), ('show', Part), ('write', Done), ('set_root', Done),
-             ('declare_sink', Done), ('analyse', Ana), ('collect_plain', Col), ('collect_clusters', Col)]:
+             ('declare_sink', Done), ('analyse', Ana), ('collect_plain', Col), ('collect_clusters', Col),
+             ('save', Saved), ('load', Done)]:
     getattr(lib, 'ref_' + f).restype = t
 def buf(l, ty=U):
     return (ty * max(1, len(l)))(*l)
@@ -111,9 +125,17 @@ def arg(b, n):
     return [b, C.c_size_t(n)]
 def ctl(c):
     return [c.n, c.r, c.last, c.limit, c.wl, c.ol]
+def load(a):
+    """a = (image, recs, slots, roots); gives (refusal, state)"""
+    bufs = [buf(a[0], C.c_uint8)] + [buf(l) for l in a[1:]]
+    o = lib.ref_load(*[x for b, l in zip(bufs, a) for x in arg(b, len(l))])
+    return o.k, (ctl(o.c), *[list(b)[:len(l)] for b, l in zip(bufs[1:], a[1:])])
 def call(op, s, a):
     """s = (control list, recs, slots, roots); gives (observed, new s)"""
-    c = Ctl(*s[0]); n = s[0][0]
+    if op == 'load':
+        k, s2 = load(a)
+        return [[k], *s2], s if k else s2
+    c = Ctl(*s[0])
     rb, sb, qb = buf(s[1]), buf(s[2]), buf(s[3])
     ra, sa, qa = arg(rb, len(s[1])), arg(sb, len(s[2])), arg(qb, len(s[3]))
     extra = []
@@ -127,6 +149,9 @@ def call(op, s, a):
     elif op == 'analyse':
         wb = buf(a[0]); o = lib.ref_analyse(c, *ra, *sa, *qa, *arg(wb, len(a[0])))
         head = [o.k, o.clusters, o.members]; extra = [list(wb)[:len(a[0])]]
+    elif op == 'save':
+        ib = buf(a[0], C.c_uint8); o = lib.ref_save(c, *ra, *sa, *qa, *arg(ib, len(a[0])))
+        head = [o.k, o.length]; extra = [list(ib)[:len(a[0])]]
     else:
         wb, mb = buf(a[1]), buf(a[2], C.c_uint64)
         f = lib.ref_collect_plain if a[0] == 'plainly' else lib.ref_collect_clusters
@@ -139,9 +164,7 @@ def lst(l):
     if len(l) > 60 and l[:-1] == [l[0]] * (len(l) - 1): return f'(replicate {len(l)-1} {l[0]} ++ ({l[-1]} ∷ []))'
     return '(' + ''.join(f'{x} ∷ ' for x in l) + '[])'
 def term(op, a):
-    if op == 'collect': return f'(collect {a[0]} {par(a[1])} {par(a[2])})'
-    if op == 'analyse': return f'(analyse {par(a[0])})'
-    return '(' + op + ''.join(f' {x}' for x in a) + ')'
+    return '(' + op + ''.join(f' {par(x) if type(x) is list else x}' for x in a) + ')'
 def par(l):
     t = lst(l); return t if t[0] == '(' else '(' + t + ')'
 def work(n, ok=True):
@@ -152,8 +175,56 @@ def word(n):
     return R.choice([0, 0x80000000, 0x80000005, n + 1, 4096, 0x7FFFFFFF] + [R.randint(1, n) for _ in range(14)])
 def either(op):
     return R.choice([op, op + 'InPlace'])
+def le(value, count):
+    return list(value.to_bytes(count, 'little'))
+def chunk(kind, body):
+    return le(len(body), 4) + le(kind, 2) + body
+def drawn(n, r):
+    """The three chunks of an image as it should be."""
+    there = sorted(R.sample(range(1, n + 1), R.randint(0, n)))
+    objects = []
+    for x in there:
+        words = [R.choice([0, 0x80000000, 0xFFFFFFFF] + there * 2) for _ in range(R.choice([0, 1, 1, 2, 8]))]
+        objects += le(x, 2) + [len(words), R.randint(0, 1)] + sum([le(w, 4) for w in words], [])
+    roots = sum([le(R.choice([0] + there), 4) for _ in range(r)], [])
+    return [chunk(1, le(1, 2) + le(n, 2) + le(r, 2) + le(R.randint(0, n), 2)), chunk(2, objects), chunk(3, roots)]
+def further():
+    return chunk(R.choice([0x8000, 0x8001, 0xFFFF]), [R.randint(0, 255) for _ in range(R.randint(0, 3))])
+def change(chunks):
+    """One change to a list of chunks; not every one is a fault."""
+    i, j = R.randrange(len(chunks)), R.randrange(len(chunks))
+    at = R.randrange(len(chunks[i])) if chunks[i] else 0
+    what = R.choice(['byte'] * 6 + ['cut', 'stray', 'more', 'less', 'length', 'swap', 'twice', 'without', 'kind', 'further'])
+    if what == 'byte' and chunks[i]: chunks[i][at] = R.choice([0, 1, 2, 3, 9, 0x80, 0xFF, chunks[i][at] ^ 1 << R.randint(0, 7)])
+    elif what == 'cut': del chunks[i][at:]
+    elif what == 'stray': chunks.append([R.randint(0, 3) for _ in range(R.randint(1, 5))])
+    elif what in ('more', 'less'):
+        body = chunks[i][6:]
+        if what == 'more': body.insert(R.randint(0, len(body)), R.randint(0, 3))
+        elif body: del body[R.randrange(len(body))]
+        chunks[i] = le(len(body), 4) + chunks[i][4:6] + body
+    elif what == 'length': chunks[i][:4] = le(R.choice([0, 1, 0x7FFFFFFF, 0xFFFFFFFA, 0xFFFFFFFF]), 4)
+    elif what == 'swap': chunks[i], chunks[j] = chunks[j], chunks[i]
+    elif what == 'twice': chunks.insert(R.randint(0, len(chunks)), list(chunks[i]))
+    elif what == 'without': del chunks[i]
+    elif what == 'kind': chunks[i][4:6] = le(R.choice([0, 1, 2, 3, 4, 0x7FFF, 0x8000, 0xFFFF]), 2)
+    else: chunks.insert(R.randint(0, len(chunks)), further())
+    return chunks or [[]]
+def random_load():
+    n, r = R.randint(1, 5), R.randint(1, 2)
+    chunks = drawn(n, r)
+    for _ in range(R.choice([0, 0, 1, 1, 1, 2])): chunks = change(chunks)
+    if R.random() < .3: chunks.append(further())
+    short = [R.random() < .04 for _ in range(3)]
+    return [sum(chunks, [])] + [[7] * (k - 1 if cut else k + R.randint(0, 1)) for k, cut in zip((n, 8 * n, r), short)]
+def saved(s):
+    (k, length), bytes = call('save', s, [[0] * (26 + 36 * len(s[1]) + 4 * len(s[3]))])[0][:2]
+    return bytes[:length]
+def random_save(s):
+    return 'save', [[6] * max(0, len(saved(s)) + R.choice([-1, 0, 0, 1, 3]))]
 def random_call(n, r, s):
-    op = R.choice(['allocate'] * 3 + ['read', 'show'] + ['write'] * 10 + ['setRoot'] * 2 + ['declareSink'] + ['analyse'] * 4 + ['collect'] * 2)
+    op = R.choice(['allocate'] * 3 + ['read', 'show'] + ['write'] * 10 + ['setRoot'] * 2 + ['declareSink'] + ['analyse'] * 4 + ['collect'] * 2
+                  + ['save'] * 2 + ['load'])
     o = R.choice([0, n + 1] + list(range(1, n + 1)) * 3)
     if op == 'allocate': return either(op), [R.choice([0, 1, 2, 2, 3, 3, 8, 9])]
     if op == 'read': return op, [o, R.randint(0, 3)]
@@ -162,6 +233,8 @@ def random_call(n, r, s):
     if op == 'setRoot': return op, [R.randint(0, r), R.choice([word(n), R.randint(0, n)])]
     if op == 'declareSink': return op, [o]
     if op == 'analyse': return op, [work(n, R.random() < .95)]
+    if op == 'save': return random_save(s)
+    if op == 'load': return op, [saved(s), *[[7] * len(l) for l in s[1:]]] if R.random() < .5 else random_load()
     return op, [R.choice(['plainly', 'byClusters', 'byClusters']), work(n, R.random() < .95), [9] * (n // 64 + 1)]
 out = [header()]
 stats = {}
@@ -173,6 +246,7 @@ def emit(i, calls, last, st, observed):
     k = (last[0], observed[0][0]); stats[k] = stats.get(k, 0) + 1
 for i in range(made):
     n, r = R.randint(5, 9), R.randint(1, 3)
+    start = f'(created {n} {r} (replicate {n+1} 1) (replicate {8*n+1} 1) (replicate {r+1} 1))'
     b = ([1] * (n + 1), [1] * (8 * n + 1), [1] * (r + 1))
     rb, sb, qb = buf(b[0]), buf(b[1]), buf(b[2])
     o = lib.ref_create(U(n), U(r), *arg(rb, n + 1), *arg(sb, 8 * n + 1), *arg(qb, r + 1))
@@ -185,12 +259,14 @@ for i in range(made):
     for j in range(2 * n): do('write', [R.randint(1, n), R.choice([0, 0, 1, 1, 2]), R.randint(1, n)])
     do('setRoot', [0, R.randint(1, n)])
     do('analyse', [work(n)]); do('analyse', [work(n)])
-    for j in range(R.randint(0, 8)): do(*random_call(n, r, s))
-    s0 = s
+    for j in range(R.randint(0, 8)): do(*random_call(*s[0][:2], s))
+    s0 = s; n, r = s[0][:2]
     last = random_call(n, r, s)
-    if R.random() < .6: last = ('collect', [R.choice(['plainly', 'byClusters', 'byClusters']), work(n), [9]])
+    other = R.random()
+    if other < .5: last = ('collect', [R.choice(['plainly', 'byClusters', 'byClusters']), work(n), [9]])
+    elif other < .7: last = random_save(s)
     t, _ = call(last[0], s0, last[1])
-    emit(i, calls, last, f'(created {n} {r} (replicate {n+1} 1) (replicate {8*n+1} 1) (replicate {r+1} 1))', t)
+    emit(i, calls, last, start, t)
 for i in range(made, made + hostile):
     n, r = R.randint(2, 6), R.randint(1, 2)
     good = R.random() < .5
@@ -231,15 +307,20 @@ for i in range(made, made + hostile):
     elif cut < .08: slots = slots[:-1]
     s = (c, recs, slots, roots)
     last = random_call(n, r, s)
-    if R.random() < .35: last = ('write', [R.randint(1, n), R.randint(0, 2), R.choice([0, R.randint(1, n), word(n)])])
+    other = R.random()
+    if other < .2: last = random_save(s)
+    elif other < .5: last = ('write', [R.randint(1, n), R.randint(0, 2), R.choice([0, R.randint(1, n), word(n)])])
     t, _ = call(last[0], s, last[1])
     st = '(stateOf ' + ' '.join(par(x) for x in s) + ')'
     emit(i, [], last, st, t)
+for i in range(made + hostile, made + hostile + images):
+    a = random_load()
+    emit(i, [], ('load', a), '(stateOf [] [] [] [])', call('load', None, a)[0])
 
 open(f'{build}/crates/sample/specs/Sample.antt', 'w', encoding='utf8').write('\n'.join(out))
 for k in sorted(stats):
     print(k[0], k[1], stats[k])
 run = subprocess.run(['rt', 'dev', 'sample'], cwd=build, capture_output=True, text=True)
 good = run.returncode == 0
-print(f'{made + hostile} passed, 0 failed' if good else run.stdout[-3000:] + run.stderr[-3000:])
+print(f'{made + hostile + images} passed, 0 failed' if good else run.stdout[-3000:] + run.stderr[-3000:])
 sys.exit(0 if good else 1)

@@ -31,7 +31,7 @@ fi
 # Each call of the header is a function of the archive. The archive is taken whole below, so that a second definition of
 # one of its names, in the reference or the harness, is an error of the linker.
 mapfile -t declared < <(grep -oE '\bpakzid_[a-z_]+\(' include/pakzid.h | tr -d '(' | sort -u)
-[ "${#declared[@]}" -ge 12 ] || die "only ${#declared[@]} calls found in include/pakzid.h"
+[ "${#declared[@]}" -ge 14 ] || die "only ${#declared[@]} calls found in include/pakzid.h"
 functions=$(nm --defined-only --extern-only -- "$archive") || die "nm cannot read $archive"
 for name in "${declared[@]}"; do
     grep -qE " T $name\$" <<<"$functions" || die "the archive does not define $name"

@@ -4,7 +4,8 @@
  *   expected LIST [LIST]
  *
  * The calls are run by the C reference (tests/reference). The left column of a single list, which is the plain way, is run
- * by the plain heap, which has no clusters at all. README.md and docs/DECISIONS.md, "The replay", have the rules.
+ * by the plain heap, which has no clusters at all, and has no image either: a save keeps a copy of it, and a load takes the
+ * copy. README.md and docs/DECISIONS.md, "The replay", have the rules.
  */
 #include "plain.h"
 #include "reference.h"
@@ -15,6 +16,7 @@
 #include <string.h>
 
 enum { MOST_OBJECTS = 4095, MOST_ROOTS = 64, MOST_WORDS = 8, MAP = MOST_OBJECTS / 64 + 1, LONGEST_LINE = 4096 };
+enum { LONGEST_IMAGE = 26 + MOST_OBJECTS * (4 + 4 * MOST_WORDS) + 4 * MOST_ROOTS };
 
 static _Noreturn void fail(const char *path, unsigned long line, const char *why)
 {
@@ -24,7 +26,7 @@ static _Noreturn void fail(const char *path, unsigned long line, const char *why
 
 /* Lists. */
 
-typedef enum { CREATE, ALLOCATE, READ, SHOW, WRITE, ROOT, SINK, ANALYSE, COLLECT_PLAIN, COLLECT_CLUSTERS, KINDS } kind;
+typedef enum { CREATE, ALLOCATE, READ, SHOW, WRITE, ROOT, SINK, ANALYSE, SAVE, LOAD, COLLECT_PLAIN, COLLECT_CLUSTERS, KINDS } kind;
 
 static const struct {
     const char *name;
@@ -32,7 +34,7 @@ static const struct {
     bool answers; /* more than that it is accepted */
 } kinds[KINDS] = {
     {"create", 2, false}, {"allocate", 1, true}, {"read", 2, true}, {"show", 1, true}, {"write", 3, false}, {"root", 2, false},
-    {"sink", 1, false}, {"analyse", 0, true}, {"collect plain", 0, true}, {"collect clusters", 0, true},
+    {"sink", 1, false}, {"analyse", 0, true}, {"save", 0, true}, {"load", 0, true}, {"collect plain", 0, true}, {"collect clusters", 0, true},
 };
 
 typedef struct {
@@ -129,6 +131,7 @@ static void read_list(list *l, const char *path)
 typedef struct {
     uint32_t refusal, object, word, length, words[MOST_WORDS];
     uint32_t freed, kept, scanned, clusters, members;
+    uint32_t bytes, objects, roots; /* of a save; of the heap that a load made */
     uint64_t map[MAP];
 } answer;
 
@@ -145,6 +148,9 @@ typedef struct {
     plain_heap heap;
     pakzid_control control;
     uint32_t records[MOST_OBJECTS], slots[MOST_WORDS * MOST_OBJECTS], roots[MOST_ROOTS], work[10 * MOST_OBJECTS + 64];
+    uint8_t image[LONGEST_IMAGE];
+    size_t saved;                 /* the length of the last image; 0 before any save */
+    plain_heap copy;              /* what a plain column saved last */
     uint64_t freed[MAP];          /* the objects that any collection freed */
     hand hands[MOST_OBJECTS + 1]; /* the first time that each number changed hands */
 } column;
@@ -160,14 +166,26 @@ static void run_collect_plain(plain_heap *heap, answer *a)
         a->map[i / 64] |= (uint64_t)done.freed_object[i] << i % 64;
 }
 
-/* A call on the plain heap. It has no control record: after a refused create every call is refused with 20. */
-static void run_plain(plain_heap *heap, const call *made, answer *a)
+/* A load in a plain column: the copy, or, before any save, an empty image. */
+static plain_answer load_plain(column *c, answer *a)
+{
+    if (c->saved == 0)
+        return plain_load(&c->heap, c->image, 0);
+    c->heap = c->copy;
+    a->objects = c->heap.objects;
+    a->roots = c->heap.roots;
+    return (plain_answer){0, 0};
+}
+
+/* A call on the plain heap. It has no control record: after a refused create every call but a load is refused with 20. */
+static void run_plain(column *c, const call *made, answer *a)
 {
     const uint32_t *x = made->number;
+    plain_heap *heap = &c->heap;
     plain_answer done = {0, 0};
     plain_shown shown;
 
-    if (made->kind != CREATE && heap->objects == 0) {
+    if (made->kind != CREATE && made->kind != LOAD && heap->objects == 0) {
         a->refusal = 20;
         return;
     }
@@ -189,9 +207,29 @@ static void run_plain(plain_heap *heap, const call *made, answer *a)
         a->length = shown.length;
         memcpy(a->words, shown.words, shown.length * sizeof *a->words);
         break;
+    case SAVE:
+        done = plain_save(heap);
+        a->bytes = done.value;
+        c->saved = done.value;
+        c->copy = *heap;
+        break;
+    case LOAD: done = load_plain(c, a); break;
     default: run_collect_plain(heap, a);
     }
     a->refusal = done.refusal;
+}
+
+/* A load of the last image. Refused, it gives a control record of zeros, and the column goes on with its own. */
+static void run_load(column *c, answer *a)
+{
+    pakzid_done done = ref_load(c->image, c->saved, c->records, MOST_OBJECTS, c->slots, MOST_WORDS * MOST_OBJECTS, c->roots, MOST_ROOTS);
+
+    a->refusal = done.refusal;
+    if (done.refusal != 0)
+        return;
+    c->control = done.control;
+    a->objects = done.control.objects;
+    a->roots = done.control.roots;
 }
 
 /* A call by the reference, whose answers all have a refusal and a control record. */
@@ -220,6 +258,13 @@ static void run_reference(column *c, const call *made, answer *a)
     case ROOT: { RUN(pakzid_done, ref_set_root, c->control, x[0], x[1], RECORDS, ROOTS); break; }
     case SINK: { RUN(pakzid_done, ref_declare_sink, c->control, x[0], RECORDS, SLOTS, ROOTS); break; }
     case ANALYSE: { RUN(pakzid_analysed, ref_analyse, c->control, WALK); a->clusters = done.clusters; a->members = done.members; break; }
+    case SAVE: {
+        RUN(pakzid_saved, ref_save, c->control, RECORDS, SLOTS, ROOTS, c->image, LONGEST_IMAGE);
+        a->bytes = done.length;
+        c->saved = done.refusal == 0 ? done.length : c->saved;
+        break;
+    }
+    case LOAD: run_load(c, a); break;
     case COLLECT_PLAIN: { COLLECT(ref_collect_plain); break; }
     default: { COLLECT(ref_collect_clusters); break; }
     }
@@ -238,7 +283,7 @@ static void run(column *c, const call *made, answer *a)
         return;
     c->next++;
     if (c->plain)
-        run_plain(&c->heap, made, a);
+        run_plain(c, made, a);
     else
         run_reference(c, made, a);
     for (uint32_t i = 0; i < MAP; i++)
@@ -304,11 +349,11 @@ static void put_call(text *t, const call *made)
         put(t, made->number[i] <= 0xFFFF ? " %u" : " 0x%08x", (unsigned)made->number[i]);
 }
 
-/* What a refusal means. The numbers that are not here can't be met: buffers are long enough, and no heap is damaged. */
+/* What a refusal means. The numbers that are not here can't be met: buffers are long enough, and no heap or image is damaged. */
 static const char *const meanings[] = {
     [1] = "sizes out of range", [3] = "width above 8", [4] = "no such object", [5] = "no such slot", [6] = "illegal word",
     [7] = "no such root", [20] = "control record out of order", [22] = "the object is free",
-    [23] = "the word names a free object", [24] = "no object is free", [25] = NULL,
+    [23] = "the word names a free object", [24] = "no object is free", [26] = "the image is cut",
 };
 
 static void put_collected(text *t, const answer *a)
@@ -337,6 +382,10 @@ static void put_answer(text *t, const call *made, const answer *a)
         put_words(t, a->words, a->length);
     else if (made->kind == ANALYSE)
         put(t, "clusters %u, members %u", (unsigned)a->clusters, (unsigned)a->members);
+    else if (made->kind == SAVE)
+        put(t, "bytes %u", (unsigned)a->bytes);
+    else if (made->kind == LOAD)
+        put(t, "objects %u, roots %u", (unsigned)a->objects, (unsigned)a->roots);
     else if (made->kind >= COLLECT_PLAIN)
         put_collected(t, a);
     else
@@ -422,6 +471,7 @@ static bool agree(const call *const *made, const answer *a)
         && (made[0]->kind == made[1]->kind || (made[0]->kind >= COLLECT_PLAIN && made[1]->kind >= COLLECT_PLAIN))
         && a[0].refusal == a[1].refusal && a[0].object == a[1].object && a[0].word == a[1].word
         && a[0].length == a[1].length && memcmp(a[0].words, a[1].words, sizeof a[0].words) == 0
+        && a[0].bytes == a[1].bytes && a[0].objects == a[1].objects && a[0].roots == a[1].roots
         && a[0].freed == a[1].freed && a[0].kept == a[1].kept && memcmp(a[0].map, a[1].map, sizeof a[0].map) == 0;
 }
 

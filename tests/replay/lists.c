@@ -26,7 +26,8 @@ typedef struct {
 } list;
 
 static uint64_t state;
-static plain_heap heap;
+static plain_heap heap, copy; /* the heap, and what was saved last */
+static bool is_saved;
 static list left, right;
 
 /* A number below `bound`. */
@@ -101,6 +102,20 @@ static void add_collect(void)
     plain_collect(&heap, &done);
 }
 
+/* A save or a load, now and then before anything is saved. */
+static void add_save(void)
+{
+    if (chance(50)) {
+        add("save", 0, 0, 0, 0);
+        copy = heap;
+        is_saved = true;
+    } else if (is_saved || chance(30)) {
+        add("load", 0, 0, 0, 0);
+        if (is_saved)
+            heap = copy;
+    }
+}
+
 /* A new object that something in use points to. */
 static void add_linked(void)
 {
@@ -131,6 +146,8 @@ static void add_step(uint32_t busy, uint32_t analyses)
     } else if (chance(4)) {
         add("sink", 1, object, 0, 0);
         plain_declare_sink(&heap, object);
+    } else if (chance(10)) {
+        add_save();
     } else {
         add_linked();
     }
@@ -146,6 +163,7 @@ static void make_left(void)
     uint32_t busy = below(60), analyses = below(40);
 
     plain_create(&heap, objects, roots);
+    is_saved = false;
     if (chance(2))
         add("create", 2, chance(50) ? 0 : 4096 + below(100000), chance(50) ? roots : 65, 0);
     else
@@ -182,7 +200,7 @@ static int find(const char *name)
 /* The changes of the right list. */
 static const char *const changes[] = {
     "none", "write dropped", "write made a read", "word changed", "collection added", "collection dropped", "analyses added",
-    "collections of the other kind", "list cut", "calls added", "sizes changed", "root changed", "sink changed", "another list",
+    "collections of the other kind", "list cut", "calls added", "sizes changed", "root changed", "sink changed", "another list", "save dropped", "load added", "load dropped",
 };
 
 /* Another last number for a call that has one. */
@@ -227,7 +245,7 @@ static void make_another(void)
 
 static void make_right(const char *change)
 {
-    int writes = find("write"), collections = find("collect clusters"), roots = find("root");
+    int writes = find("write"), collections = find("collect clusters"), roots = find("root"), saves = find("save"), loads = find("load");
 
     if (strcmp(change, "write dropped") == 0 && writes < right.count)
         drop(writes);
@@ -241,6 +259,12 @@ static void make_right(const char *change)
         change_number(find("sink"));
     else if (strcmp(change, "another list") == 0)
         make_another();
+    else if (strcmp(change, "save dropped") == 0 && saves < right.count)
+        drop(saves);
+    else if (strcmp(change, "load added") == 0)
+        insert(1 + (int)below((uint32_t)right.count), (call){"load", 0, {0}});
+    else if (strcmp(change, "load dropped") == 0 && loads < right.count)
+        drop(loads);
     else if (strcmp(change, "collection added") == 0)
         insert(collections, (call){"collect plain", 0, {0}});
     else if (strcmp(change, "collection dropped") == 0 && collections < right.count)

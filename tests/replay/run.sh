@@ -49,16 +49,18 @@ same() {
 same "trials.calls" examples/trials.calls
 same "switch" examples/switch-412.calls examples/switch-415.calls
 same "large.calls" examples/large.calls
+same "save.calls" examples/save.calls
 
 # A list of 100,000 calls.
 "$out/large" >"$out/large.calls"
 same "100,000 calls" "$out/large.calls"
 [ "$(tail -n 1 "$out/expected.txt")" = "The columns agree." ] || die "100,000 calls"
 
-# The largest heap, filled: the left list frees all objects and is given them again; on the right each one is named until the end.
+# The largest heap, filled, with the longest image: the left list frees all objects and is given them again; on the right each one is named until the end.
 {
     printf 'create 4095 64\n'
     printf 'allocate 8%.0s\n' {1..4096}
+    printf 'save\nload\n'
     printf 'read %d 0\n' {1..4094}
     printf 'root 63 nil\ncollect clusters\n'
     printf 'allocate 0%.0s\n' {1..4095}
@@ -66,12 +68,14 @@ same "100,000 calls" "$out/large.calls"
 {
     printf 'create 4095 64\n'
     printf 'allocate 8%.0s\n' {1..4096}
+    printf 'save\nload\n'
     for ((i = 1; i < 4095; i++)); do printf 'write %d 7 %d\n' "$i" $((i + 1)); done
     printf 'root 63 1\ncollect plain\n'
     printf 'show %d\n' {1..4095}
 } >"$out/full-right.calls"
 same "4,095 objects" "$out/full-left.calls"
 same "4,095 objects, right" "$out/full-right.calls"
+grep -q 'save *| bytes 147702 *| bytes 147702$' "$out/expected.txt" || die "the longest image"
 same "4,095 objects, both" "$out/full-left.calls" "$out/full-right.calls"
 [ "$(grep -c 'given again' "$out/expected.txt")" = 4095 ] || die "4,095 objects do not all change hands"
 
@@ -81,7 +85,13 @@ printf 'create 2 1\nallocate 1\nallocate 1\nshow 2\n' >"$out/right.calls"
 same "show" "$out/left.calls" "$out/right.calls"
 [ "$(tail -n 1 "$out/expected.txt")" = "The columns agree." ] || die "show"
 
-# Random lists. Each ending that a report may have, and objects that changed hands, must occur.
+# A save of as many bytes as another is the same answer, whatever they hold: these two differ where the heap that is loaded does.
+printf 'create 2 1\nallocate 1\nwrite 1 0 nil\nsave\nload\nread 1 0\n' >"$out/left.calls"
+printf 'create 2 1\nallocate 1\nwrite 1 0 1\nsave\nload\nread 1 0\n' >"$out/right.calls"
+same "save" "$out/left.calls" "$out/right.calls"
+[ "$(tail -n 1 "$out/expected.txt")" = "The columns differ first at line 6 (build that wrote) and line 6 (build that loaded)." ] || die "save"
+
+# Random lists. Each ending that a report may have, objects that changed hands, saves, and loads before and after them must occur.
 fresh=$(od -An -N4 -tu4 /dev/urandom | tr -d ' ')
 printf 'replay: random lists, seeds 1 to %d and from %d on\n' $((count / 2)) "$fresh"
 : >"$out/ends.txt"
@@ -94,11 +104,12 @@ for ((i = 1; i <= count; i++)); do
     alone=$((alone + 1))
     same "seed $seed, $change" "$out/left.calls" "$out/right.calls"
     pairs=$((pairs + 1))
-    grep -E '^The columns|given again' "$out/expected.txt" >>"$out/ends.txt"
+    grep -E '^The columns|given again|, (save|load) ' "$out/expected.txt" >>"$out/ends.txt"
 done
 [ "$alone" -gt 0 ] && [ "$pairs" -gt 0 ] || die "no random list was compared"
-for end in 'agree\.' 'differ first at' 'differ in what survives' 'wrote has more calls' 'loaded has more calls' 'while slot' 'while root'; do
-    grep -q -- "$end" "$out/ends.txt" || die "no random pair has a report with: $end"
+for end in 'agree\.' 'differ first at' 'differ in what survives' 'wrote has more calls' 'loaded has more calls' 'while slot' 'while root' \
+    ', save  *| bytes' ', load  *| objects' ', load  *| refused 26'; do
+    grep -q -- "$end" "$out/ends.txt" || die "no report on random lists has: $end"
 done
 printf 'replay: %d random lists and %d random pairs compared, %d objects changed hands\n' \
     "$alone" "$pairs" "$(grep -c 'given again' "$out/ends.txt")"
@@ -129,6 +140,9 @@ refuses ', line 2: expected a number' 'create 1 1\nallocate\n'
 refuses ', line 2: expected a number' 'create 1 1\nallocate -1\n'
 refuses ', line 2: expected a number below 4294967296' 'create 1 1\nroot 0 0x100000000\n'
 refuses ', line 2: expected the end of the line' 'create 1 1\nsink 1 1\n'
+refuses ', line 2: expected the end of the line' 'create 1 1\nsave 1\n'
+refuses ', line 3: expected the end of the line' 'create 1 1\nsave\nload heap.img\n'
+refuses ', line 1: expected create, which is the first call of a list' 'load\ncreate 1 1\n'
 refuses ', line 2: expected plain or clusters' 'create 1 1\ncollect all\n'
 refuses ', line 1: expected a name' 'wrote # nobody\n'
 refuses ', line 2: the line is longer than 4096 bytes' "create 1 1\n$(printf '%4097s' '')\n"

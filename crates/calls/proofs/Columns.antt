@@ -1,35 +1,49 @@
--- Both columns of a replay give the same: each does what the plain heap does.
+-- Both columns of a replay give the same: each does what the plain heap does, and loads the same image.
 -- Assumes nothing.
-use Prim.Native.Nat.{ℕ, zero, suc, _*_, _-_, _≤_}
+use Prim.Native.Nat.{ℕ, zero, suc, _*_, _-_}
 use mathlib.Core.Path.{_≡_, refl, sym, ap, _∙_, subst}
-use mathlib.Core.Bool.{true, false, not}
+use mathlib.Core.Bool.{true, false, not, cond}
 use mathlib.Core.List.{List, [], _∷_}
 use native.Mathlib.Decide.{ℕ-discrete}
+use native.Mathlib.Nat.{suc-ne-zero}
 use native.Mathlib.Omega.{arith}
-use lib.Dec.{eqb}
+use lib.Dec.{eqb, eqb·suc-zero}
 use lib.ListN.{length, take, drop, getD, set}
+use lib.Seq.{length-take-le}
 use borrow.Author.Tests.{eq-eqb, ne-eqb, eqb-false}
-use Rattle.layout.specs.Limits.{slotsLen, workLen, mapLen}
+use Rattle.layout.specs.Limits.{slotsLen, mapLen}
 use Rattle.records.specs.Record as R
 use Rattle.layout.specs.Field.{field}
-use Rattle.layout.specs.ControlRecord.{newControl}
+use Rattle.layout.specs.declared.answers.Control.{Control}
+use Rattle.layout.specs.ControlRecord.{newControl, withLast}
+use Rattle.layout.specs.Refusal.{first, by, outcome}
 use Rattle.rules.specs.Buffers.{recOf, usedWords}
 use Rattle.rules.specs.Show as Show
 use Rattle.rules.specs.Collect as Collect
+use Rattle.rules.specs.Save as Save
+use Rattle.rules.specs.Load as Load
+use Rattle.rules.specs.Image.{past, savedLast}
+use Rattle.rules.specs.Load.{sizes, imageTests, chunkTests, imageN, imageR}
 use Rattle.rules.specs.Calls as rule
-use Rattle.rules.specs.Calls.{Answer, gave, gotWord, gotWords, did, swept}
-use Rattle.rules.specs.Plain.{Plain, Played, isFree, isSink, cellAt, wordsIn, plainSlots, plainCreated, plainStep, answer}
-use Rattle.rules.specs.Steps.{State, created, step}
+use Rattle.rules.specs.Calls.{Answer, gave, gotWord, gotWords, did, swept, savedAs}
+use Rattle.rules.specs.Plain.{Plain, Played, isFree, isSink, cellAt, wordsIn, plainSlots, plainCreated, plainStep, plainImage, plainLoaded, answer}
+use Rattle.rules.specs.Steps.{State, created, loaded, step}
 use Rattle.rules.specs.PlainOf.{plainOf}
+use Rattle.rules.specs.Demands.{Long}
 use Rattle.rules.proofs.BoolLaws.{or-true}
 use Rattle.rules.proofs.Invariant.{Inv}
-use Rattle.rules.proofs.Abstraction.{at-free, at-sink, at-words}
-use Rattle.rules.proofs.Simulation.{all-by, used-length, widths}
+use Rattle.rules.proofs.ListLaws.{length-numbers}
+use Rattle.rules.proofs.Abstraction.{cells-size, at-free, at-sink, at-words}
+use Rattle.rules.proofs.Simulation.{all-by, same-by, used-length, widths}
 use Rattle.rules.proofs.BufferLaws.{used-part}
 use Rattle.rules.proofs.CreateLaws.{accepted, zeroed-inv, zeroed-plain}
 use Rattle.rules.proofs.Calls.{step-inv}
 use Rattle.rules.proofs.Frames.{analyse-within, collect-within}
-use Rattle.rules.proofs.Demand3.{LentOne, sizes-kept, step-same, same-slots}
+use Rattle.rules.proofs.ReloadedLaws.{plain-reloaded-alone}
+use Rattle.rules.proofs.SaveLaws.{heap-image, longest, save-within, save-control, save-image, save-accepted, writable}
+use Rattle.rules.proofs.LoadTests.{load-tests}
+use Rattle.rules.proofs.LoadLaws.{load-answered}
+use Rattle.rules.proofs.Demand3.{LentOne, step-same, same-slots}
 use Rattle.lines.specs.declared.kinds.Call.{Call}
 use Rattle.lines.specs.Kinds as kind
 use Rattle.lines.specs.Kinds.{number, withNumber}
@@ -37,23 +51,26 @@ use Rattle.calls.specs.declared.Ran.{Ran}
 use Rattle.calls.specs.Run as Run
 use Rattle.calls.specs.Run.{Outcome, run}
 use Rattle.calls.specs.Compare.{plainCall, isCompared, agrees}
-use Rattle.calls.specs.Columns.{next, NoCreate, Lent, SameHeap, shown, SameOutput, Columns, creates, SameColumns}
+use Rattle.calls.specs.Columns.{next, NoCreate, Lent, Unsaved, lastImage, SameHeap, shown, SameOutput, Columns, creates, SameColumns}
+use Rattle.calls.proofs.SizeLaws.{Sized, Fitting, sizes-kept}
 
 -- the heap that the buffers of a column hold
 abbrev stateOf : Outcome → State
 stateOf o = record { control = o .answer .control; records = o .records; slots = o .slots; roots = o .roots }
 
--- a column holds the plain heap P
-record Held (n r : ℕ) (P : Plain) (x : Outcome) : Type 0 where
+-- a column holds the plain heap P, and b is its last image
+record Held (n r : ℕ) (P : Plain) (b : List ℕ) (x : Outcome) : Type 0 where
   inv : Inv (stateOf x)
   objects : x .answer .control .n ≡ n
   roots : x .answer .control .r ≡ r
   plain : plainOf (stateOf x) ≡ P
-  lent : Lent n x
+  lent : Lent n r x
+  last : lastImage x ≡ b
+  fits : Sized n r b
 
 -- ---- what the plain heap tells of a column
 
-module _ (n r : ℕ) (P : Plain) (x : Outcome) (H : Held n r P x) where
+module _ (n r : ℕ) (P : Plain) (b : List ℕ) (x : Outcome) (H : Held n r P b x) where
   held-slots : take (slotsLen n) (x .slots) ≡ plainSlots (P .cells)
   held-slots =
       ap (λ (k : ℕ). take (slotsLen k) (x .slots)) (sym (H .objects)) ∙ same-slots (stateOf x) (H .inv)
@@ -77,34 +94,44 @@ module _ (n r : ℕ) (P : Plain) (x : Outcome) (H : Held n r P x) where
       ap (λ (k : ℕ). R.width (recOf k (x .records) i)) (sym (H .objects)) ∙ sym (used-length (stateOf x) (H .inv) i)
       ∙ sym (ap length (at-words (x .answer .control .n) (x .records) (x .slots) i)) ∙ ap (λ (Q : Plain). length (wordsIn (cellAt (Q .cells) i))) (H .plain)
 
-same-heap : (n r : ℕ) (P : Plain) (x y : Outcome) → Held n r P x → Held n r P y → SameHeap n r x y
-same-heap n r P x y H K = record {
-  slots = held-slots n r P x H ∙ sym (held-slots n r P y K);
-  roots = held-roots n r P x H ∙ sym (held-roots n r P y K);
+same-heap : (n r : ℕ) (P : Plain) (b : List ℕ) (x y : Outcome) → Held n r P b x → Held n r P b y → SameHeap n r x y
+same-heap n r P b x y H K = record {
+  slots = held-slots n r P b x H ∙ sym (held-slots n r P b y K);
+  roots = held-roots n r P b x H ∙ sym (held-roots n r P b y K);
   objects = λ i.
-      (held-free n r P x H i ∙ sym (held-free n r P y K i), held-width n r P x H i ∙ sym (held-width n r P y K i), held-sink n r P x H i ∙ sym (held-sink n r P y K i));
+      (held-free n r P b x H i ∙ sym (held-free n r P b y K i), held-width n r P b x H i ∙ sym (held-width n r P b y K i), held-sink n r P b x H i ∙ sym (held-sink n r P b y K i));
+  image = H .last ∙ sym (K .last);
 }
 
 -- ---- a call in one column
 
-record Called (n r : ℕ) (call : rule.Call) (P : Plain) (x x′ : Outcome) : Type 0 where
-  answers : step call (stateOf x) .answers ≡ plainStep call P .answers
-  held : Held n r (plainStep call P .after) x′
+-- the buffers that are lent keep their lengths
+record Lengths (x x′ : Outcome) : Type 0 where
+  work : length (x′ .work) ≡ length (x .work)
+  map : length (x′ .map) ≡ length (x .map)
+  image : length (x′ .image) ≡ length (x .image)
 
-called : (n r : ℕ) (call : rule.Call) (P : Plain) (x x′ : Outcome) → Held n r P x → stateOf x′ ≡ step call (stateOf x) .after
-    → length (x′ .work) ≡ length (x .work) → length (x′ .map) ≡ length (x .map) → LentOne n call → Called n r call P x x′
-called n r call P x x′ H e w m h =
+record Called (n r : ℕ) (call : rule.Call) (P : Plain) (b′ : List ℕ) (x x′ : Outcome) : Type 0 where
+  answers : step call (stateOf x) .answers ≡ plainStep call P .answers
+  held : Held n r (plainStep call P .after) b′ x′
+
+-- b′ is the last image after it
+called : (n r : ℕ) (call : rule.Call) (P : Plain) (b b′ : List ℕ) (x x′ : Outcome) → Held n r P b x → stateOf x′ ≡ step call (stateOf x) .after
+    → Lengths x x′ → LentOne n call → Fitting n r call → lastImage x′ ≡ b′ → Sized n r b′ → Called n r call P b′ x x′
+called n r call P b b′ x x′ H e k h g last fits =
     let one : LentOne (x .answer .control .n) call = subst (λ (k : ℕ). LentOne k call) (sym (H .objects)) h in
     let S = step-same call (stateOf x) (H .inv) one in
-    let z = sizes-kept call (stateOf x) in
+    let z = sizes-kept n r (stateOf x) (H .objects, H .roots) call g in
     record {
       answers = S .answers ∙ ap (λ (Q : Plain). plainStep call Q .answers) (H .plain);
       held = record {
         inv = subst Inv (sym e) (step-inv call (stateOf x) (H .inv));
-        objects = ap (λ (s : State). s .control .n) e ∙ z .0 ∙ H .objects;
-        roots = ap (λ (s : State). s .control .r) e ∙ z .1 ∙ H .roots;
+        objects = ap (λ (s : State). s .control .n) e ∙ z .0;
+        roots = ap (λ (s : State). s .control .r) e ∙ z .1;
         plain = ap plainOf e ∙ S .after ∙ ap (λ (Q : Plain). plainStep call Q .after) (H .plain);
-        lent = (subst (λ (k : ℕ). workLen n ≤ k) (sym w) (H .lent .0), subst (λ (k : ℕ). mapLen n ≤ k) (sym m) (H .lent .1));
+        lent = (rw (k .work) (H .lent .0), rw (k .map) (H .lent .1), rw (k .image) (H .lent .2));
+        last = last;
+        fits = fits;
       };
     }
 
@@ -149,6 +176,7 @@ parts i (gotWord m x ∷ l) = (m, x, 0, [])
 parts i (gotWords m x ∷ l) = (m, startBy i m, length x, x)
 parts i (did m ∷ l) = (m, 0, 0, [])
 parts i (swept m f k map ∷ l) = (m, f, k, map)
+parts i (savedAs m k ∷ l) = (m, k, 0, [])
 
 -- the outcome has the parts p
 record Tells (n : ℕ) (l : Call) (p : Parts) (o : Outcome) : Type 0 where
@@ -158,14 +186,18 @@ record Tells (n : ℕ) (l : Call) (p : Parts) (o : Outcome) : Type 0 where
   words : l .kind ≡ kind.show → shown o ≡ p .3
   freed : l .kind ≡ kind.collect → take (mapLen n) (o .map) ≡ p .3
 
--- a column after a call that the plain heap plays as R
-record Column (n r : ℕ) (l : Call) (R : Played Plain) (o : Outcome) : Type 0 where
-  tells : Tells n l (parts (number 0 l) (R .answers)) o
-  held : Held n r (R .after) o
+-- a column after a call: what it tells, and what it holds
+record Column (n r : ℕ) (l : Call) (p : Parts) (P : Plain) (b : List ℕ) (o : Outcome) : Type 0 where
+  tells : Tells n l p o
+  held : Held n r P b o
 
-column : (n r : ℕ) (l : Call) (q : rule.Call) (P : Plain) (x o : Outcome) → Called n r q P x o → Tells n l (parts (number 0 l) (step q (stateOf x) .answers)) o
-    → Column n r l (plainStep q P) o
-column n r l q P x o C T = record { tells = subst (λ (a : List Answer). Tells n l (parts (number 0 l) a) o) (C .answers) T; held = C .held }
+-- a call that the plain heap plays as R, with b as the last image
+abbrev Plays : ℕ → ℕ → Call → Played Plain → List ℕ → Outcome → Type 0
+Plays n r l R b o = Column n r l (parts (number 0 l) (R .answers)) (R .after) b o
+
+column : (n r : ℕ) (l : Call) (q : rule.Call) (P : Plain) (b : List ℕ) (x o : Outcome) → Called n r q P b x o
+    → Tells n l (parts (number 0 l) (step q (stateOf x) .answers)) o → Plays n r l (plainStep q P) b o
+column n r l q P b x o C T = record { tells = subst (λ (a : List Answer). Tells n l (parts (number 0 l) a) o) (C .answers) T; held = C .held }
 
 -- ---- a call in one column, by its kind
 
@@ -173,14 +205,14 @@ column n r l q P x o C T = record { tells = subst (λ (a : List Answer). Tells n
 abbrev ofKind : Call → ℕ → Call
 ofKind l k = record { kind = k; count = l .count; numbers = l .numbers }
 
-module _ (n r : ℕ) (P : Plain) (l : Call) (x : Outcome) (H : Held n r P x) where
-  -- a call that neither shows nor collects
+module _ (n r : ℕ) (P : Plain) (b : List ℕ) (l : Call) (x : Outcome) (H : Held n r P b x) where
+  -- a call that neither shows nor collects, and saves nothing
   simple : (k : ℕ) (q : rule.Call) → eqb k kind.collect ≡ false → stateOf (next (ofKind l k) x) ≡ step q (stateOf x) .after
-      → length (next (ofKind l k) x .work) ≡ length (x .work) → length (next (ofKind l k) x .map) ≡ length (x .map) → LentOne n q
+      → Lengths x (next (ofKind l k) x) → LentOne n q → Fitting n r q → lastImage (next (ofKind l k) x) ≡ lastImage x
       → (next (ofKind l k) x .answer .refusal, next (ofKind l k) x .answer .a, next (ofKind l k) x .answer .b, shown (next (ofKind l k) x)) ≡ parts (number 0 l) (step q (stateOf x) .answers)
-      → Column n r (ofKind l k) (plainStep q P) (next (ofKind l k) x)
-  simple k q d s w m h e =
-      column n r (ofKind l k) q P x _ (called n r q P x _ H s w m h)
+      → Plays n r (ofKind l k) (plainStep q P) b (next (ofKind l k) x)
+  simple k q d s w h g i e =
+      column n r (ofKind l k) q P b x _ (called n r q P b b x _ H s w h g (i ∙ H .last) (H .fits))
       (record {
         refusal = ap (λ (p : Parts). p .0) e;
         first = ap (λ (p : Parts). p .1) e;
@@ -189,18 +221,18 @@ module _ (n r : ℕ) (P : Plain) (l : Call) (x : Outcome) (H : Held n r P x) whe
         freed = λ z. absurd (eqb-false k kind.collect d z);
       })
 
-  allocated : Column n r (ofKind l kind.allocate) (plainStep (rule.allocate (number 0 l)) P) (next (ofKind l kind.allocate) x)
+  allocated : Plays n r (ofKind l kind.allocate) (plainStep (rule.allocate (number 0 l)) P) b (next (ofKind l kind.allocate) x)
   unfolding next run Run.allocate step answer
-  allocated = simple kind.allocate (rule.allocate _) refl refl refl refl tt refl
+  allocated = simple kind.allocate (rule.allocate _) refl refl (record { work = refl; map = refl; image = refl }) tt tt refl refl
 
-  was-read : Column n r (ofKind l kind.read) (plainStep (rule.read (number 0 l) (number 1 l)) P) (next (ofKind l kind.read) x)
+  was-read : Plays n r (ofKind l kind.read) (plainStep (rule.read (number 0 l) (number 1 l)) P) b (next (ofKind l kind.read) x)
   unfolding next run Run.read step answer
-  was-read = simple kind.read (rule.read _ _) refl refl refl refl tt refl
+  was-read = simple kind.read (rule.read _ _) refl refl (record { work = refl; map = refl; image = refl }) tt tt refl refl
 
-  was-shown : Column n r (ofKind l kind.show) (plainStep (rule.show (number 0 l)) P) (next (ofKind l kind.show) x)
+  was-shown : Plays n r (ofKind l kind.show) (plainStep (rule.show (number 0 l)) P) b (next (ofKind l kind.show) x)
   unfolding next run Run.show step answer
   was-shown =
-      column n r (ofKind l kind.show) (rule.show _) P x _ (called n r (rule.show _) P x _ H refl refl refl tt)
+      column n r (ofKind l kind.show) (rule.show _) P b x _ (called n r (rule.show _) P b b x _ H refl (record { work = refl; map = refl; image = refl }) tt tt (H .last) (H .fits))
       (record {
         refusal = refl;
         first = show-start (stateOf x) (H .inv) _;
@@ -209,26 +241,27 @@ module _ (n r : ℕ) (P : Plain) (l : Call) (x : Outcome) (H : Held n r P x) whe
         freed = λ z. absurd (eqb-false kind.show kind.collect refl z);
       })
 
-  written : Column n r (ofKind l kind.write) (plainStep (rule.write (number 0 l) (number 1 l) (number 2 l)) P) (next (ofKind l kind.write) x)
+  written : Plays n r (ofKind l kind.write) (plainStep (rule.write (number 0 l) (number 1 l) (number 2 l)) P) b (next (ofKind l kind.write) x)
   unfolding next run Run.write step answer
-  written = simple kind.write (rule.write _ _ _) refl refl refl refl tt refl
+  written = simple kind.write (rule.write _ _ _) refl refl (record { work = refl; map = refl; image = refl }) tt tt refl refl
 
-  root-set : Column n r (ofKind l kind.root) (plainStep (rule.setRoot (number 0 l) (number 1 l)) P) (next (ofKind l kind.root) x)
+  root-set : Plays n r (ofKind l kind.root) (plainStep (rule.setRoot (number 0 l) (number 1 l)) P) b (next (ofKind l kind.root) x)
   unfolding next run Run.setRoot step answer
-  root-set = simple kind.root (rule.setRoot _ _) refl refl refl refl tt refl
+  root-set = simple kind.root (rule.setRoot _ _) refl refl (record { work = refl; map = refl; image = refl }) tt tt refl refl
 
-  sink-declared : Column n r (ofKind l kind.sink) (plainStep (rule.declareSink (number 0 l)) P) (next (ofKind l kind.sink) x)
+  sink-declared : Plays n r (ofKind l kind.sink) (plainStep (rule.declareSink (number 0 l)) P) b (next (ofKind l kind.sink) x)
   unfolding next run Run.declareSink step answer
-  sink-declared = simple kind.sink (rule.declareSink _) refl refl refl refl tt refl
+  sink-declared = simple kind.sink (rule.declareSink _) refl refl (record { work = refl; map = refl; image = refl }) tt tt refl refl
 
   -- a collection of either kind: the plain heap does not look at it
   collected : (way : Collect.Kind)
-      → Column n r (ofKind l kind.collect) (plainStep (rule.collect Collect.plainly [] []) P) (Run.collect (x .answer .control) (x .records) (x .slots) (x .roots) (x .work) (x .map) way)
+      → Plays n r (ofKind l kind.collect) (plainStep (rule.collect Collect.plainly [] []) P) b
+      (Run.collect (x .answer .control) (x .answer .saved) (x .records) (x .slots) (x .roots) (x .work) (x .map) (x .image) way)
   unfolding Run.collect step answer plainStep
   collected way =
       let f = collect-within way (x .answer .control) (x .records) (x .slots) (x .roots) (x .work) (x .map) in
-      let C = called n r (rule.collect way (x .work) (x .map)) P x _ H refl (f .2 .0) (f .3 .0) (H .lent .0, H .lent .1, tt) in
-      column n r (ofKind l kind.collect) (rule.collect way (x .work) (x .map)) P x _ C
+      let C = called n r (rule.collect way (x .work) (x .map)) P b b x _ H refl (record { work = f .2 .0; map = f .3 .0; image = refl }) (H .lent .0, H .lent .1, tt) tt (H .last) (H .fits) in
+      column n r (ofKind l kind.collect) (rule.collect way (x .work) (x .map)) P b x _ C
       (record {
         refusal = refl;
         first = refl;
@@ -237,15 +270,139 @@ module _ (n r : ℕ) (P : Plain) (l : Call) (x : Outcome) (H : Held n r P x) whe
         freed = λ _. ap (λ (k : ℕ). take (mapLen k) (Collect.collect way (x .answer .control) (x .records) (x .slots) (x .roots) (x .work) (x .map) .map)) (sym (H .objects));
       })
 
+  -- the heap at hand
+  abbrev s : State
+  s = stateOf x
+
+  -- ---- a save: there is room for it, and it is the last image from then on
+
+  abbrev written-as : Save.Outcome
+  written-as = Save.save (x .answer .control) (x .records) (x .slots) (x .roots) (x .image)
+
+  save-done : written-as .answer .refusal ≡ 0
+  save-done =
+      let l = longest (x .answer .control) (x .records) (x .slots) (x .roots) (x .image) in
+      let e = ap length (heap-image s (H .inv)) in
+      save-accepted s (H .inv) (x .image) (omega (arith, H .lent .2, H .objects, H .roots))
+
+  saved-length : written-as .answer .length ≡ length (plainImage P)
+  unfolding Save.save
+  saved-length =
+      all-by (λ (o : Save.Outcome). o .answer .refusal ≡ 0 → o .answer .length ≡ length (Save.heapImage (x .answer .control) (x .records) (x .slots) (x .roots))) _ _ _
+      (λ z e. refl) (λ m e. absurd (suc-ne-zero m e)) save-done
+      ∙ ap length (heap-image s (H .inv)) ∙ ap (λ (Q : Plain). length (plainImage Q)) (H .plain)
+
+  saved-last : lastImage (next (ofKind l kind.save) x) ≡ plainImage P
+  unfolding next run Run.save Run.ranSave
+  saved-last = rw (eq-eqb _ 0 save-done) (save-image s (H .inv) (x .image) save-done ∙ ap plainImage (H .plain))
+
+  saved-sized : Sized n r (plainImage P)
+  unfolding plainLoaded
+  saved-sized _ =
+      let again : plainLoaded (plainImage P) ≡ plainOf s =
+      ap (λ (Q : Plain). plainLoaded (plainImage Q)) (sym (H .plain)) ∙ plain-reloaded-alone (plainOf s) (writable s (H .inv)) in (
+        sym (length-numbers _ 1 (imageN (plainImage P))) ∙ ap (λ (Q : Plain). length (Q .cells)) again
+            ∙ cells-size (x .answer .control .n) (x .records) (x .slots) ∙ H .objects,
+        sym (length-numbers _ 0 (imageR (plainImage P))) ∙ ap (λ (Q : Plain). length (Q .roots)) again
+            ∙ length-take-le (x .answer .control .r) (x .roots) (H .inv .roots-long) ∙ H .roots,
+      )
+
+  saved : Column n r (ofKind l kind.save) (0, length (plainImage P), 0, []) P (plainImage P) (next (ofKind l kind.save) x)
+  saved = record {
+    tells = unfold next run Run.save Run.ranSave in (record {
+      refusal = save-done;
+      first = saved-length;
+      second = refl;
+      words = λ z. absurd (eqb-false kind.save kind.show refl z);
+      freed = λ z. absurd (eqb-false kind.save kind.collect refl z);
+    });
+    held = record {
+      inv = subst Inv (sym same-state) (H .inv);
+      objects = ap (λ (t : State). t .control .n) same-state ∙ H .objects;
+      roots = ap (λ (t : State). t .control .r) same-state ∙ H .roots;
+      plain = ap plainOf same-state ∙ H .plain;
+      lent = unfold next run Run.save Run.ranSave in
+          (H .lent .0, H .lent .1, rw (save-within (x .answer .control) (x .records) (x .slots) (x .roots) (x .image) .0) (H .lent .2));
+      last = saved-last;
+      fits = saved-sized;
+    };
+  }
+    where
+      same-state : stateOf (next (ofKind l kind.save) x) ≡ s
+      same-state = unfold next run Run.save Run.ranSave in
+          (ap (λ (c : Control). record { control = c; records = x .records; slots = x .slots; roots = x .roots })
+          (save-control (x .answer .control) (x .records) (x .slots) (x .roots) (x .image)))
+
+  -- ---- a load of the last image
+
+  -- what it tells, by the image alone
+  abbrev toldBy : List ℕ → Parts
+  toldBy i = (first (imageTests i), outcome (imageTests i) n (λ k. 0), outcome (imageTests i) r (λ k. 0), [])
+
+  load-sized : Sized n r (lastImage x)
+  load-sized = subst (Sized n r) (sym (H .last)) (H .fits)
+
+  load-room : first (imageTests (lastImage x)) ≡ 0 → Long (imageN (lastImage x)) (imageR (lastImage x)) (x .records) (x .slots) (x .roots)
+  unfolding slotsLen
+  load-room z =
+      let f = load-sized z in
+      let e = H .objects in
+      let g = H .roots in
+      let I = H .inv in
+      (omega (arith, f, e, I .recs-long), omega (arith, f, e, I .slots-long), omega (arith, f, g, I .roots-long))
+
+  -- refused, the column goes on with the record that it has
+  load-state : stateOf (next (ofKind l kind.load) x) ≡ step (rule.load (lastImage x) (x .records) (x .slots) (x .roots)) s .after
+  unfolding next run Run.load Run.ranLoad step answer loaded Load.load by
+  load-state =
+      all-by
+      (λ (o : Load.Outcome).
+      record { control = cond (eqb (o .answer .refusal) 0) (o .answer .control) (x .answer .control); records = o .records; slots = o .slots; roots = o .roots }
+      ≡ by (o .answer .refusal) (record { control = o .answer .control; records = o .records; slots = o .slots; roots = o .roots }) (λ k. s)) _ _ _
+      (λ z. refl) (λ m. rw (eqb·suc-zero m) refl)
+
+  -- a size of the record that it answers
+  load-told : (f : Control → ℕ) (k : ℕ)
+      → first (Load.loadTests (lastImage x) (x .records) (x .slots) (x .roots)) ≡ first (imageTests (lastImage x))
+      → (first (imageTests (lastImage x)) ≡ 0
+      → f (withLast (savedLast (sizes (lastImage x))) (newControl (imageN (lastImage x)) (imageR (lastImage x)))) ≡ k)
+      → f (newControl 0 0) ≡ 0
+      → f (Load.load (lastImage x) (x .records) (x .slots) (x .roots) .answer .control) ≡ outcome (imageTests (lastImage x)) k (λ m. 0)
+  unfolding Load.load
+  load-told f k t h e = same-by _ _ _ _ _ _ (λ (o : Load.Outcome). f (o .answer .control)) (λ (m : ℕ). m) t (λ z. h (sym t ∙ z)) (λ m. e)
+
+  load-tells : Tells n (ofKind l kind.load) (toldBy (lastImage x)) (next (ofKind l kind.load) x)
+  unfolding next run Run.load Run.ranLoad withLast newControl
+  load-tells =
+      let t = load-tests (lastImage x) (x .records) (x .slots) (x .roots) load-room in
+      record {
+        refusal = load-answered (lastImage x) (x .records) (x .slots) (x .roots) ∙ t;
+        first = load-told (λ (c : Control). c .n) n t (λ z. load-sized z .0) refl;
+        second = load-told (λ (c : Control). c .r) r t (λ z. load-sized z .1) refl;
+        words = λ z. absurd (eqb-false kind.load kind.show refl z);
+        freed = λ z. absurd (eqb-false kind.load kind.collect refl z);
+      }
+
+  load-held : Held n r (plainStep (rule.load (lastImage x) [] [] []) P .after) (lastImage x) (next (ofKind l kind.load) x)
+  unfolding next run Run.load Run.ranLoad plainStep
+  load-held =
+      let C = called n r (rule.load (lastImage x) (x .records) (x .slots) (x .roots)) P b (lastImage x) x (next (ofKind l kind.load) x) H load-state (record { work = refl; map = refl; image = refl }) load-room load-sized refl load-sized in
+      C .held
+
+  was-loaded : Column n r (ofKind l kind.load) (toldBy b) (plainStep (rule.load b [] [] []) P .after) b (next (ofKind l kind.load) x)
+  was-loaded =
+      subst (λ (i : List ℕ). Column n r (ofKind l kind.load) (toldBy i) (plainStep (rule.load i [] [] []) P .after) i (next (ofKind l kind.load) x)) (H .last)
+      (record { tells = load-tells; held = load-held })
+
   -- the outcome of a line that makes no call
   abbrev same : Outcome
-  same = Run.idle (x .answer .control) (x .records) (x .slots) (x .roots) (x .work) (x .map)
+  same = Run.idle (x .answer .control) (x .answer .saved) (x .records) (x .slots) (x .roots) (x .work) (x .map) (x .image)
 
-  idle : Held n r P same
+  idle : Held n r P b same
   unfolding Run.idle
-  idle = record { inv = H .inv; objects = H .objects; roots = H .roots; plain = H .plain; lent = H .lent }
+  idle = record { inv = H .inv; objects = H .objects; roots = H .roots; plain = H .plain; lent = H .lent; last = H .last; fits = H .fits }
 
-  idled : (l .kind ≡ kind.collect → ⊥) → next l x ≡ same → Column n r l (record { answers = []; after = P }) (next l x)
+  idled : (l .kind ≡ kind.collect → ⊥) → next l x ≡ same → Plays n r l (record { answers = []; after = P }) b (next l x)
   unfolding Run.idle
   idled d e = rw e (record { tells = record { refusal = refl; first = refl; second = refl; words = λ _. refl; freed = λ z. absurd (d z) }; held = idle })
 
@@ -253,21 +410,24 @@ module _ (n r : ℕ) (P : Plain) (l : Call) (x : Outcome) (H : Held n r P x) whe
 
 record Paired (n r : ℕ) (l : Call) (x y : Outcome) : Type 0 where
   after : Plain
+  image : List ℕ
   agreed : agrees l (next l x .answer) (next (plainCall l) y .answer) ≡ true
   output : SameOutput n l (next l x) (next (plainCall l) y)
-  first : Held n r after (next l x)
-  second : Held n r after (next (plainCall l) y)
+  first : Held n r after image (next l x)
+  second : Held n r after image (next (plainCall l) y)
 
 agree-by : (l : Call) (x y : Ran) → x .refusal ≡ y .refusal → x .a ≡ y .a → x .b ≡ y .b → agrees l x y ≡ true
 unfolding agrees
 agree-by l x y e f g = rw (eq-eqb _ _ e, eq-eqb _ _ f, eq-eqb _ _ g) (or-true (not (isCompared l)))
 
-paired : (n r : ℕ) (l : Call) (R : Played Plain) (x y : Outcome) → Column n r l R (next l x) → Column n r l R (next (plainCall l) y) → Paired n r l x y
-paired n r l R x y C D =
+paired : (n r : ℕ) (l : Call) (p : Parts) (Q : Plain) (b : List ℕ) (x y : Outcome) → Column n r l p Q b (next l x) → Column n r l p Q b (next (plainCall l) y)
+    → Paired n r l x y
+paired n r l p Q b x y C D =
     let T = C .tells in
     let U = D .tells in
     record {
-      after = R .after;
+      after = Q;
+      image = b;
       agreed = agree-by l _ _ (T .refusal ∙ sym (U .refusal)) (T .first ∙ sym (U .first)) (T .second ∙ sym (U .second));
       output = record { words = λ e. T .words e ∙ sym (U .words e); freed = λ e. T .freed e ∙ sym (U .freed e) };
       first = C .held;
@@ -287,28 +447,30 @@ by-kind Q j k here there = go (ℕ-discrete j k)
     go (yes e) = subst Q (sym e) here
     go (no d) = there d
 
-module _ (n r : ℕ) (P : Plain) (l : Call) (x y : Outcome) (H : Held n r P x) (K : Held n r P y) where
+module _ (n r : ℕ) (P : Plain) (b : List ℕ) (l : Call) (x y : Outcome) (H : Held n r P b x) (K : Held n r P b y) where
   -- the same call in both columns
-  alike : (k : ℕ) (R : Played Plain) → plainCall (ofKind l k) ≡ ofKind l k → ((z : Outcome) → Held n r P z → Column n r (ofKind l k) R (next (ofKind l k) z)) → Paired n r (ofKind l k) x y
-  alike k R e f = paired n r (ofKind l k) R x y (f x H) (rw e (f y K))
+  alike : (k : ℕ) (p : Parts) (Q : Plain) (b′ : List ℕ) → plainCall (ofKind l k) ≡ ofKind l k
+      → ((z : Outcome) → Held n r P b z → Column n r (ofKind l k) p Q b′ (next (ofKind l k) z)) → Paired n r (ofKind l k) x y
+  alike k p Q b′ e f = paired n r (ofKind l k) p Q b′ x y (f x H) (rw e (f y K))
 
   -- the plain heap leaves an analysis out
   analysed : Paired n r (ofKind l kind.analyse) x y
   unfolding next run plainCall Run.analyse Run.idle step agrees isCompared plainStep
   analysed =
       let f = analyse-within (x .answer .control) (x .records) (x .slots) (x .roots) (x .work) in
-      let C = called n r (rule.analyse (x .work)) P x (next (ofKind l kind.analyse) x) H refl (f .1 .0) refl tt in
+      let C = called n r (rule.analyse (x .work)) P b b x (next (ofKind l kind.analyse) x) H refl (record { work = f .1 .0; map = refl; image = refl }) tt tt (H .last) (H .fits) in
       record {
         after = P;
+        image = b;
         agreed = refl;
         output = record { words = λ z. absurd (eqb-false kind.analyse kind.show refl z); freed = λ z. absurd (eqb-false kind.analyse kind.collect refl z) };
         first = C .held;
-        second = idle n r P l y K;
+        second = idle n r P b l y K;
       }
 
   both-collected : Paired n r (ofKind l kind.collect) x y
   unfolding next run plainCall withNumber
-  both-collected = paired n r _ _ x y (collected n r P l x H _) (rw first-zero (collected n r P l y K Collect.plainly))
+  both-collected = paired n r _ _ _ _ x y (collected n r P b l x H _) (rw first-zero (collected n r P b l y K Collect.plainly))
 
   abbrev Pair : ℕ → Type 0
   Pair k = Paired n r (ofKind l k) x y
@@ -316,29 +478,36 @@ module _ (n r : ℕ) (P : Plain) (l : Call) (x y : Outcome) (H : Held n r P x) (
   pair : (l .kind ≡ kind.create → ⊥) → Paired n r l x y
   unfolding next run plainCall
   pair create =
-      by-kind Pair (l .kind) kind.allocate (alike kind.allocate _ refl (allocated n r P l)) λ allocate.
-      by-kind Pair (l .kind) kind.read (alike kind.read _ refl (was-read n r P l)) λ read.
-      by-kind Pair (l .kind) kind.show (alike kind.show _ refl (was-shown n r P l)) λ show.
-      by-kind Pair (l .kind) kind.write (alike kind.write _ refl (written n r P l)) λ write.
-      by-kind Pair (l .kind) kind.root (alike kind.root _ refl (root-set n r P l)) λ root.
-      by-kind Pair (l .kind) kind.sink (alike kind.sink _ refl (sink-declared n r P l)) λ sink.
+      by-kind Pair (l .kind) kind.allocate (alike kind.allocate _ _ _ refl (allocated n r P b l)) λ allocate.
+      by-kind Pair (l .kind) kind.read (alike kind.read _ _ _ refl (was-read n r P b l)) λ read.
+      by-kind Pair (l .kind) kind.show (alike kind.show _ _ _ refl (was-shown n r P b l)) λ show.
+      by-kind Pair (l .kind) kind.write (alike kind.write _ _ _ refl (written n r P b l)) λ write.
+      by-kind Pair (l .kind) kind.root (alike kind.root _ _ _ refl (root-set n r P b l)) λ root.
+      by-kind Pair (l .kind) kind.sink (alike kind.sink _ _ _ refl (sink-declared n r P b l)) λ sink.
       by-kind Pair (l .kind) kind.analyse analysed λ analyse.
       by-kind Pair (l .kind) kind.collect both-collected λ collect.
-      alike (l .kind) _ (rw (ne-eqb _ kind.analyse analyse, ne-eqb _ kind.collect collect) refl)
-      (λ z L. idled n r P l z L collect (rw (ne-eqb _ kind.create create, ne-eqb _ kind.allocate allocate, ne-eqb _ kind.read read, ne-eqb _ kind.show show, ne-eqb _ kind.write write, ne-eqb _ kind.root root, ne-eqb _ kind.sink sink, ne-eqb _ kind.analyse analyse, ne-eqb _ kind.collect collect) refl))
+      by-kind Pair (l .kind) kind.save (alike kind.save _ _ _ refl (saved n r P b l)) λ save.
+      by-kind Pair (l .kind) kind.load (alike kind.load _ _ _ refl (was-loaded n r P b l)) λ load.
+      alike (l .kind) _ _ _ (rw (ne-eqb _ kind.analyse analyse, ne-eqb _ kind.collect collect) refl)
+      (λ z L. idled n r P b l z L collect (rw (ne-eqb _ kind.create create, ne-eqb _ kind.allocate allocate, ne-eqb _ kind.read read, ne-eqb _ kind.show show, ne-eqb _ kind.write write, ne-eqb _ kind.root root, ne-eqb _ kind.sink sink, ne-eqb _ kind.analyse analyse, ne-eqb _ kind.collect collect, ne-eqb _ kind.save save, ne-eqb _ kind.load load) refl))
 
 -- ---- lists of calls
 
-columns : (n r : ℕ) (P : Plain) (calls : List Call) (x y : Outcome) → Held n r P x → Held n r P y → NoCreate calls → Columns n r calls x y
-columns n r P [] x y H K h = same-heap n r P x y H K
-columns n r P (l ∷ ls) x y H K h =
-    let p = pair n r P l x y H K (h .0) in
-    (same-heap n r P x y H K, p .agreed, p .output, columns n r (p .after) ls _ _ (p .first) (p .second) (h .1))
+columns : (n r : ℕ) (P : Plain) (b : List ℕ) (calls : List Call) (x y : Outcome) → Held n r P b x → Held n r P b y → NoCreate calls → Columns n r calls x y
+columns n r P b [] x y H K h = same-heap n r P b x y H K
+columns n r P b (l ∷ ls) x y H K h =
+    let p = pair n r P b l x y H K (h .0) in
+    (same-heap n r P b x y H K, p .agreed, p .output, columns n r (p .after) (p .image) ls _ _ (p .first) (p .second) (h .1))
+
+-- no bytes are no image
+none-sized : (n r : ℕ) → Sized n r []
+unfolding imageTests chunkTests past first
+none-sized n r e = absurd (suc-ne-zero 25 e)
 
 -- a create that is accepted
-begun : (n r : ℕ) (x : Outcome) → next (creates n r) x .answer .refusal ≡ 0 → Lent n x → Held n r (plainCreated n r) (next (creates n r) x)
+begun : (n r : ℕ) (x : Outcome) → next (creates n r) x .answer .refusal ≡ 0 → Lent n r x → Unsaved x → Held n r (plainCreated n r) [] (next (creates n r) x)
 unfolding next run Run.create newControl created
-begun n r x e h =
+begun n r x e h u =
     let a = accepted n r (x .records) (x .slots) (x .roots) e in
     record {
       inv = subst Inv (sym (a .1)) (zeroed-inv n r (x .records) (x .slots) (x .roots) (a .0));
@@ -346,7 +515,9 @@ begun n r x e h =
       roots = ap (λ (s : State). s .control .r) (a .1);
       plain = ap plainOf (a .1) ∙ zeroed-plain n r (x .records) (x .slots) (x .roots) (a .0);
       lent = h;
+      last = ap (λ (k : ℕ). take k (x .image)) u;
+      fits = none-sized n r;
     }
 
 pub same-columns : SameColumns
-same-columns n r x y e f h k calls c = columns n r (plainCreated n r) calls _ _ (begun n r x e h) (begun n r y f k) c
+same-columns n r x y e f h k u v calls c = columns n r (plainCreated n r) [] calls _ _ (begun n r x e h u) (begun n r y f k v) c

@@ -1,2 +1,3 @@
 -- Both columns give the same, and the proofs of the functions.
+pub mod SizeLaws
 pub mod Columns

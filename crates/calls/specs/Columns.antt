@@ -1,5 +1,5 @@
 -- The claim about the two columns of a replay: one heap runs the calls of a list as they say, the other runs them plainly.
-use Prim.Native.Nat.{ℕ, _≤_}
+use Prim.Native.Nat.{ℕ, _+_, _*_, _≤_}
 use mathlib.Core.Path.{_≡_}
 use mathlib.Core.Bool.{true}
 use mathlib.Core.List.{List, [], _∷_}
@@ -14,23 +14,32 @@ use Rattle.calls.specs.Compare.{plainCall, agrees}
 
 -- a call run on what the one before it left
 unfoldable pub next : Call → Outcome → Outcome
-next l o = run (o .answer .control) (o .records) (o .slots) (o .roots) (o .work) (o .map) l
+next l o = run (o .answer .control) (o .answer .saved) (o .records) (o .slots) (o .roots) (o .work) (o .map) (o .image) l
 
 -- none of the calls is a create
 abbrev pub NoCreate : List Call → Type 0
 NoCreate [] = Unit {0}
 NoCreate (l ∷ ls) = (l .kind ≡ create → ⊥) × NoCreate ls
 
--- work and map are long enough for n objects
-abbrev pub Lent : ℕ → Outcome → Type 0
-Lent n o = (workLen n ≤ length (o .work)) × (mapLen n ≤ length (o .map))
+-- work and map are long enough for n objects, and the bytes of the image for any image of n objects and r roots
+abbrev pub Lent : ℕ → ℕ → Outcome → Type 0
+Lent n r o = (workLen n ≤ length (o .work)) × (mapLen n ≤ length (o .map)) × (26 + 36 * n + 4 * r ≤ length (o .image))
 
--- the two heaps hold the same objects, words and roots
+-- nothing is saved yet
+abbrev pub Unsaved : Outcome → Type 0
+Unsaved o = o .answer .saved ≡ 0
+
+-- what was saved last, and a load is given
+abbrev pub lastImage : Outcome → List ℕ
+lastImage o = take (o .answer .saved) (o .image)
+
+-- the two heaps hold the same objects, words and roots, and the same was saved last
 pub record SameHeap (n r : ℕ) (x y : Outcome) : Type 0 where
   pub slots : take (slotsLen n) (x .slots) ≡ take (slotsLen n) (y .slots)
   pub roots : take r (x .roots) ≡ take r (y .roots)
   pub objects : (i : ℕ) → (free (recOf n (x .records) i) ≡ free (recOf n (y .records) i))
       × (width (recOf n (x .records) i) ≡ width (recOf n (y .records) i)) × (isSink (recOf n (x .records) i) ≡ isSink (recOf n (y .records) i))
+  pub image : lastImage x ≡ lastImage y
 
 -- the words of the slots that the answer of a show names
 abbrev pub shown : Outcome → List ℕ
@@ -52,9 +61,9 @@ Columns n r (l ∷ ls) x y =
 abbrev pub creates : ℕ → ℕ → Call
 creates n r = record { kind = create; count = 2; numbers = n ∷ r ∷ 0 ∷ [] }
 
--- for two columns that begin with an accepted create of n objects and r roots, each in buffers of its own, of any contents
+-- for two columns that begin with an accepted create of n objects and r roots, each in buffers of its own, of any contents, and with nothing saved
 abbrev pub SameColumns : Type 0
 SameColumns =
     (n r : ℕ) (x y : Outcome) → next (creates n r) x .answer .refusal ≡ 0 → next (creates n r) y .answer .refusal ≡ 0
-    → Lent n x → Lent n y → (calls : List Call) → NoCreate calls
+    → Lent n r x → Lent n r y → Unsaved x → Unsaved y → (calls : List Call) → NoCreate calls
     → Columns n r calls (next (creates n r) x) (next (creates n r) y)

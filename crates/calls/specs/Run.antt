@@ -3,7 +3,10 @@ use Prim.Native.Nat.{ℕ}
 use mathlib.Core.Bool.{cond}
 use mathlib.Core.List.{List}
 use lib.Dec.{eqb}
+use lib.ListN.{take}
 use Rattle.layout.specs.declared.answers.Control.{Control}
+use Rattle.layout.specs.declared.answers.Done.{Done}
+use Rattle.layout.specs.declared.answers.Saved.{Saved}
 use Rattle.rules.specs.Create as Create
 use Rattle.rules.specs.Allocate as Allocate
 use Rattle.rules.specs.Read as Read
@@ -13,6 +16,8 @@ use Rattle.rules.specs.SetRoot as SetRoot
 use Rattle.rules.specs.DeclareSink as DeclareSink
 use Rattle.rules.specs.Analyse as Analyse
 use Rattle.rules.specs.Collect as Collect
+use Rattle.rules.specs.Save as Save
+use Rattle.rules.specs.Load as Load
 use Rattle.lines.specs.declared.kinds.Call.{Call}
 use Rattle.lines.specs.Kinds as kind
 use Rattle.lines.specs.Kinds.{number}
@@ -26,62 +31,82 @@ pub record Outcome : Type 0 where
   pub roots : List ℕ
   pub work : List ℕ
   pub map : List ℕ
+  pub image : List ℕ
 
-abbrev pub gives : Ran → List ℕ → List ℕ → List ℕ → List ℕ → List ℕ → Outcome
-gives a recs slots roots work map = record { answer = a; records = recs; slots = slots; roots = roots; work = work; map = map }
+abbrev pub gives : Ran → List ℕ → List ℕ → List ℕ → List ℕ → List ℕ → List ℕ → Outcome
+gives a recs slots roots work map image =
+    record { answer = a; records = recs; slots = slots; roots = roots; work = work; map = map; image = image }
 
--- a refusal, 0 if accepted, the values that the call answers, and the control record that it answers
-abbrev pub ran : ℕ → ℕ → ℕ → ℕ → Control → Ran
-ran refusal a b c control = record { refusal = refusal; a = a; b = b; c = c; control = control }
+-- a refusal, 0 if accepted, the values that the call answers, and what the next call is handed: a control record and the length of the last image
+abbrev pub ran : ℕ → ℕ → ℕ → ℕ → Control → ℕ → Ran
+ran refusal a b c control saved = record { refusal = refusal; a = a; b = b; c = c; control = control; saved = saved }
 
-module _ (c : Control) (recs slots roots work map : List ℕ) where
+-- a save: its length is that of the last image, unless it is refused
+unfoldable pub ranSave : Saved → ℕ → Ran
+ranSave a saved = ran (a .refusal) (a .length) 0 0 (a .control) (cond (eqb (a .refusal) 0) (a .length) saved)
+
+-- a load: n and r of the heap that it makes; refused, the column goes on with the control record c that it has
+unfoldable pub ranLoad : Done → Control → ℕ → Ran
+ranLoad a c saved = ran (a .refusal) (a .control .n) (a .control .r) 0 (cond (eqb (a .refusal) 0) (a .control) c) saved
+
+-- c is the control record that the call is handed; the first `saved` bytes of the image are what was saved last
+module _ (c : Control) (saved : ℕ) (recs slots roots work map image : List ℕ) where
   -- nothing is done
   unfoldable pub idle : Outcome
-  idle = gives (ran 0 0 0 0 c) recs slots roots work map
+  idle = gives (ran 0 0 0 0 c saved) recs slots roots work map image
 
   unfoldable pub create : ℕ → ℕ → Outcome
   create n r =
       let o = Create.create n r recs slots roots in
-      gives (ran (o .answer .refusal) 0 0 0 (o .answer .control)) (o .records) (o .slots) (o .roots) work map
+      gives (ran (o .answer .refusal) 0 0 0 (o .answer .control) saved) (o .records) (o .slots) (o .roots) work map image
 
   unfoldable pub allocate : ℕ → Outcome
   allocate width =
       let o = Allocate.allocate c width recs slots in
-      gives (ran (o .answer .refusal) (o .answer .object) 0 0 (o .answer .control)) (o .records) (o .slots) roots work map
+      gives (ran (o .answer .refusal) (o .answer .object) 0 0 (o .answer .control) saved) (o .records) (o .slots) roots work map image
 
   unfoldable pub read : ℕ → ℕ → Outcome
-  read i k = let a = Read.read c i k recs slots in gives (ran (a .refusal) (a .word) 0 0 (a .control)) recs slots roots work map
+  read i k = let a = Read.read c i k recs slots in gives (ran (a .refusal) (a .word) 0 0 (a .control) saved) recs slots roots work map image
 
   -- where the part is that is shown
   unfoldable pub show : ℕ → Outcome
   show i =
       let a = Show.show c i recs slots .answer in
-      gives (ran (a .refusal) (a .start) (a .length) 0 (a .control)) recs slots roots work map
+      gives (ran (a .refusal) (a .start) (a .length) 0 (a .control) saved) recs slots roots work map image
 
   unfoldable pub write : ℕ → ℕ → ℕ → Outcome
   write i k w =
       let o = Write.write c i k w recs slots in
-      gives (ran (o .answer .refusal) 0 0 0 (o .answer .control)) (o .records) (o .slots) roots work map
+      gives (ran (o .answer .refusal) 0 0 0 (o .answer .control) saved) (o .records) (o .slots) roots work map image
 
   unfoldable pub setRoot : ℕ → ℕ → Outcome
   setRoot j w =
       let o = SetRoot.setRoot c j w recs roots in
-      gives (ran (o .answer .refusal) 0 0 0 (o .answer .control)) recs slots (o .roots) work map
+      gives (ran (o .answer .refusal) 0 0 0 (o .answer .control) saved) recs slots (o .roots) work map image
 
   unfoldable pub declareSink : ℕ → Outcome
   declareSink i =
       let o = DeclareSink.declareSink c i recs slots roots in
-      gives (ran (o .answer .refusal) 0 0 0 (o .answer .control)) (o .records) slots roots work map
+      gives (ran (o .answer .refusal) 0 0 0 (o .answer .control) saved) (o .records) slots roots work map image
 
   unfoldable pub analyse : Outcome
   analyse =
       let o = Analyse.analyse c recs slots roots work in
-      gives (ran (o .answer .refusal) (o .answer .clusters) (o .answer .members) 0 (o .answer .control)) (o .records) slots roots (o .work) map
+      gives (ran (o .answer .refusal) (o .answer .clusters) (o .answer .members) 0 (o .answer .control) saved) (o .records) slots roots (o .work) map image
 
   unfoldable pub collect : Collect.Kind → Outcome
   collect kind =
       let o = Collect.collect kind c recs slots roots work map in
-      gives (ran (o .answer .refusal) (o .answer .freed) (o .answer .kept) (o .answer .scanned) (o .answer .control)) (o .records) (o .slots) roots (o .work) (o .map)
+      gives (ran (o .answer .refusal) (o .answer .freed) (o .answer .kept) (o .answer .scanned) (o .answer .control) saved) (o .records) (o .slots) roots (o .work) (o .map) image
+
+  unfoldable pub save : Outcome
+  save = let o = Save.save c recs slots roots image in gives (ranSave (o .answer) saved) recs slots roots work map (o .image)
+
+  -- of the last image
+  unfoldable pub load : Outcome
+  load =
+      let o = Load.load (take saved image) recs slots roots in
+      gives (ranLoad (o .answer) c saved) (o .records) (o .slots) (o .roots) work map image
 
   -- by clusters unless the number is 0
   abbrev way : ℕ → Collect.Kind
@@ -99,4 +124,6 @@ module _ (c : Control) (recs slots roots work map : List ℕ) where
       (cond (eqb (l .kind) kind.sink) (declareSink (number 0 l))
       (cond (eqb (l .kind) kind.analyse) analyse
       (cond (eqb (l .kind) kind.collect) (collect (way (number 0 l)))
-      idle))))))))
+      (cond (eqb (l .kind) kind.save) save
+      (cond (eqb (l .kind) kind.load) load
+      idle))))))))))

@@ -1,5 +1,7 @@
 // A call of a list run on the buffers of a heap.
 ghost use mathlib.Core.Path.{_≡_};
+ghost use lib.ListN.{take};
+ghost use Rattle.rules.specs.Load as Load;
 ghost use Rattle.calls.specs.Compare.{plainCall, asRun};
 ghost use Rattle.calls.specs.Run as Run;
 use access::read::read;
@@ -11,22 +13,26 @@ use heap::allocate::allocate;
 use heap::create::create;
 use layout::answers::*;
 use lines::kinds::*;
+use loads::load;
+use saves::save;
 use sinks::declare_sink;
 use writes::write::write;
 
 // What a line answers: `refusal` is 0 for an accepted call. a, b, c: the object of allocate; the word of read; start and length of what show names;
-// clusters and members of an analysis; freed, kept and scanned of a collection. The others are 0.
+// clusters and members of an analysis; freed, kept and scanned of a collection; the length of what save wrote; n and r of what load made. The
+// others are 0. Control record and length of the last image are those that the next call is handed.
 pub struct Ran {
     pub refusal: u32,
     pub a: u32,
     pub b: u32,
     pub c: u32,
     pub control: Control,
+    pub saved: u32,
 }
 
 // An answer of these parts.
-pub fn answer(refusal: u32, a: u32, b: u32, c: u32, control: Control) -> Ran
-    ensures { λ x. ⌜ x ≡ Run.ran refusal a b c control ⌝ }
+pub fn answer(refusal: u32, a: u32, b: u32, c: u32, control: Control, saved: u32) -> Ran
+    ensures { λ x. ⌜ x ≡ Run.ran refusal a b c control saved ⌝ }
 {
     Ran {
         refusal: refusal,
@@ -34,43 +40,83 @@ pub fn answer(refusal: u32, a: u32, b: u32, c: u32, control: Control) -> Ran
         b: b,
         c: c,
         control: control,
+        saved: saved,
     }
 }
 
-fn of_done(a: Done) -> Ran
-    ensures { λ x. ⌜ x ≡ Run.ran (a .refusal) 0 0 0 (a .control) ⌝ }
+fn of_done(a: Done, saved: u32) -> Ran
+    ensures { λ x. ⌜ x ≡ Run.ran (a .refusal) 0 0 0 (a .control) saved ⌝ }
 {
-    answer(a.refusal, 0, 0, 0, a.control)
+    answer(a.refusal, 0, 0, 0, a.control, saved)
 }
 
-fn of_allocated(a: Allocated) -> Ran
-    ensures { λ x. ⌜ x ≡ Run.ran (a .refusal) (a .object) 0 0 (a .control) ⌝ }
+fn of_allocated(a: Allocated, saved: u32) -> Ran
+    ensures { λ x. ⌜ x ≡ Run.ran (a .refusal) (a .object) 0 0 (a .control) saved ⌝ }
 {
-    answer(a.refusal, a.object, 0, 0, a.control)
+    answer(a.refusal, a.object, 0, 0, a.control, saved)
 }
 
-fn of_read(a: WordRead) -> Ran
-    ensures { λ x. ⌜ x ≡ Run.ran (a .refusal) (a .word) 0 0 (a .control) ⌝ }
+fn of_read(a: WordRead, saved: u32) -> Ran
+    ensures { λ x. ⌜ x ≡ Run.ran (a .refusal) (a .word) 0 0 (a .control) saved ⌝ }
 {
-    answer(a.refusal, a.word, 0, 0, a.control)
+    answer(a.refusal, a.word, 0, 0, a.control, saved)
 }
 
-fn of_part(a: Part) -> Ran
-    ensures { λ x. ⌜ x ≡ Run.ran (a .refusal) (a .start) (a .length) 0 (a .control) ⌝ }
+fn of_part(a: Part, saved: u32) -> Ran
+    ensures { λ x. ⌜ x ≡ Run.ran (a .refusal) (a .start) (a .length) 0 (a .control) saved ⌝ }
 {
-    answer(a.refusal, a.start, a.length, 0, a.control)
+    answer(a.refusal, a.start, a.length, 0, a.control, saved)
 }
 
-fn of_analysed(a: Analysed) -> Ran
-    ensures { λ x. ⌜ x ≡ Run.ran (a .refusal) (a .clusters) (a .members) 0 (a .control) ⌝ }
+fn of_analysed(a: Analysed, saved: u32) -> Ran
+    ensures { λ x. ⌜ x ≡ Run.ran (a .refusal) (a .clusters) (a .members) 0 (a .control) saved ⌝ }
 {
-    answer(a.refusal, a.clusters, a.members, 0, a.control)
+    answer(a.refusal, a.clusters, a.members, 0, a.control, saved)
 }
 
-fn of_collected(a: Collected) -> Ran
-    ensures { λ x. ⌜ x ≡ Run.ran (a .refusal) (a .freed) (a .kept) (a .scanned) (a .control) ⌝ }
+fn of_collected(a: Collected, saved: u32) -> Ran
+    ensures { λ x. ⌜ x ≡ Run.ran (a .refusal) (a .freed) (a .kept) (a .scanned) (a .control) saved ⌝ }
 {
-    answer(a.refusal, a.freed, a.kept, a.scanned, a.control)
+    answer(a.refusal, a.freed, a.kept, a.scanned, a.control, saved)
+}
+
+// Refused, the image before it is the last one still.
+fn of_saved(a: Saved, saved: u32) -> Ran
+    ensures { λ x. ⌜ x ≡ Run.ranSave a saved ⌝ }
+{
+    if a.refusal == 0 {
+        return answer(0, a.length, 0, 0, a.control, a.length);
+    }
+    answer(a.refusal, a.length, 0, 0, a.control, saved)
+}
+
+// Refused, it answers a control record of zeros, and the column goes on with its own.
+fn of_loaded(a: Done, c: Control, saved: u32) -> Ran
+    ensures { λ x. ⌜ x ≡ Run.ranLoad a c saved ⌝ }
+{
+    let made = a.control;
+    if a.refusal == 0 {
+        return answer(0, made.n, made.r, 0, made, saved);
+    }
+    answer(a.refusal, made.n, made.r, 0, c, saved)
+}
+
+// Loads as many of the bytes as were saved last.
+fn load_last(
+    saved: u32,
+    image: &[u8],
+    records: &mut [u32],
+    slots: &mut [u32],
+    roots: &mut [u32],
+) -> Done
+    ensures { λ a. ⌜ Load.gives a (now (records .exit)) (now (slots .exit)) (now (roots .exit))
+        ≡ Load.load (take saved (now (image .entry))) (now (records .entry)) (now (slots .entry)) (now (roots .entry)) ⌝ }
+{
+    let end = saved as usize;
+    if image.len() < end {
+        return load(image, records, slots, roots);
+    }
+    load(&image[..end], records, slots, roots)
 }
 
 // The call as a heap without clusters runs it: no analysis, and every collection plainly.
@@ -93,31 +139,38 @@ pub fn as_run(call: Call, plain: bool) -> Call
     if plain { plainly(call) } else { call }
 }
 
-// Runs the call; a line that makes none does nothing.
+// Runs the call; a line that makes none does nothing. `saved` is the length of the last image, which is at the front of its bytes; 0 before any save.
 pub fn run(
     call: Call,
     c: Control,
+    saved: u32,
     records: &mut [u32],
     slots: &mut [u32],
     roots: &mut [u32],
     work: &mut [u32],
     map: &mut [u64],
+    image: &mut [u8],
 ) -> Ran
-    ensures { λ a. ⌜ Run.gives a (now (records .exit)) (now (slots .exit)) (now (roots .exit)) (now (work .exit)) (now (map .exit))
-        ≡ Run.run c (now (records .entry)) (now (slots .entry)) (now (roots .entry)) (now (work .entry)) (now (map .entry)) call ⌝ }
+    ensures { λ a. ⌜ Run.gives a (now (records .exit)) (now (slots .exit)) (now (roots .exit)) (now (work .exit)) (now (map .exit)) (now (image .exit))
+        ≡ Run.run c saved (now (records .entry)) (now (slots .entry)) (now (roots .entry)) (now (work .entry)) (now (map .entry)) (now (image .entry)) call ⌝ }
 {
     let kind = call.kind;
     let v = call.numbers;
     match kind {
-        CREATE => of_done(create(v[0], v[1], records, slots, roots)),
-        ALLOCATE => of_allocated(allocate(c, v[0], records, slots)),
-        READ => of_read(read(c, v[0], v[1], records, slots)),
-        SHOW => of_part(show_part(c, v[0], records, slots)),
-        WRITE => of_done(write(c, v[0], v[1], v[2], records, slots)),
-        ROOT => of_done(set_root(c, v[0], v[1], records, roots)),
-        SINK => of_done(declare_sink(c, v[0], records, slots, roots)),
-        ANALYSE => of_analysed(analyse(c, records, slots, roots, work)),
-        COLLECT => of_collected(collect(v[0] != 0, c, records, slots, roots, work, map)),
-        _ => answer(0, 0, 0, 0, c),
+        CREATE => of_done(create(v[0], v[1], records, slots, roots), saved),
+        ALLOCATE => of_allocated(allocate(c, v[0], records, slots), saved),
+        READ => of_read(read(c, v[0], v[1], records, slots), saved),
+        SHOW => of_part(show_part(c, v[0], records, slots), saved),
+        WRITE => of_done(write(c, v[0], v[1], v[2], records, slots), saved),
+        ROOT => of_done(set_root(c, v[0], v[1], records, roots), saved),
+        SINK => of_done(declare_sink(c, v[0], records, slots, roots), saved),
+        ANALYSE => of_analysed(analyse(c, records, slots, roots, work), saved),
+        COLLECT => of_collected(
+            collect(v[0] != 0, c, records, slots, roots, work, map),
+            saved,
+        ),
+        SAVE => of_saved(save(c, records, slots, roots, image), saved),
+        LOAD => of_loaded(load_last(saved, image, records, slots, roots), c, saved),
+        _ => answer(0, 0, 0, 0, c, saved),
     }
 }

@@ -34,7 +34,7 @@ sameValues kind x y slots1 map1 slots2 map2 =
 
 -- the answer y, but a part that is shown as if it stood where that of x does
 unfoldable pub besides : ℕ → Ran → Ran → Ran
-besides kind x y = cond (eqb kind show) (record { refusal = y .refusal; a = x .a; b = y .b; c = y .c; control = y .control }) y
+besides kind x y = cond (eqb kind show) (record { refusal = y .refusal; a = x .a; b = y .b; c = y .c; control = y .control; saved = y .saved }) y
 
 -- the same kind and answers, wherever the shown words are; after an accepted call what it left too
 unfoldable pub sameAnswers : Call → Call → Ran → Ran → List ℕ → List ℕ → List ℕ → List ℕ → Bool

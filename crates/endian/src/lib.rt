@@ -3,7 +3,7 @@ ghost use mathlib.Core.Path.{_≡_};
 ghost use Prim.Native.Nat.{_+_, _%_, _≤_};
 ghost use mathlib.Core.List.{[], _∷_};
 ghost use lib.Dec.{leb};
-ghost use lib.ListN.{length, getD, drop, set};
+ghost use lib.ListN.{length, getD, drop};
 ghost use lib.Seq.{sets};
 ghost use Rattle.endian.specs.Bytes.{bytes, number, numberAt};
 
@@ -106,15 +106,6 @@ pub fn get4(b: &[u8], i: usize) -> u32
 }
 
 // ---- writing
-
-// The lowest byte of v at place i.
-pub fn put1(out: &mut [u8], i: usize, v: u32)
-    ensures { λ _. ⌜ now (out .exit) ≡ set (now (out .entry)) i (v % 256) ⌝ }
-{
-    if i < out.len() {
-        out[i] = (v % 256) as u8;
-    }
-}
 
 // The k lowest bytes of v, as far as they have a place.
 fn put_near_end(out: &mut [u8], i: usize, k: u32, v: u32)

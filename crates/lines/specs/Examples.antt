@@ -4,7 +4,7 @@ use Prim.Native.String.{String}
 use mathlib.Core.List.{List, [], _∷_}
 use Rattle.lines.specs.Line.{aCall, aNumber, aSmallNumber, theEnd, aWay, aName}
 use Rattle.lines.specs.declared.kinds.Call.{Call}
-use Rattle.lines.specs.Kinds.{wrote, loaded, create, allocate, read, show, write, root, sink, analyse, collect, noCall}
+use Rattle.lines.specs.Kinds.{wrote, loaded, create, allocate, read, show, write, root, sink, analyse, collect, save, load, noCall}
 
 -- a call of a kind, with its three places for numbers
 abbrev of : ℕ → ℕ → ℕ → ℕ → ℕ → Call
@@ -23,6 +23,8 @@ examples =
     ∷ ("analyse", of analyse 0 0 0 0)
     ∷ ("collect plain", of collect 1 0 0 0)
     ∷ ("collect clusters", of collect 1 1 0 0)
+    ∷ ("save", of save 0 0 0 0)
+    ∷ ("load", of load 0 0 0 0)
     ∷ ("wrote heap.img", of wrote 0 0 0 0)
     ∷ ("loaded a", of loaded 0 0 0 0)
     -- a number of the table names no call
@@ -65,6 +67,8 @@ examples =
     ∷ ("sink ni", noCall aNumber)
     ∷ ("sink 4 5", noCall theEnd)
     ∷ ("analyse 1", noCall theEnd)
+    ∷ ("save 1", noCall theEnd)
+    ∷ ("load heap.img", noCall theEnd)
     ∷ ("wrote a b", noCall theEnd)
     ∷ ("collect plain now", noCall theEnd)
     ∷ ("collect", noCall aWay)

@@ -9,7 +9,7 @@ use Rattle.lines.specs.declared.kinds.Call.{Call}
 
 -- for each kind of line the first word, and how many numbers belong to it
 abbrev pub table : List ℕ
-table = bytes "wrote 0 loaded 0 create 2 allocate 1 read 2 show 1 write 3 root 2 sink 1 analyse 0 collect 1"
+table = bytes "wrote 0 loaded 0 create 2 allocate 1 read 2 show 1 write 3 root 2 sink 1 analyse 0 collect 1 save 0 load 0"
 
 -- the most numbers of a call
 abbrev pub most : ℕ
@@ -49,6 +49,12 @@ analyse = 10
 
 abbrev pub collect : ℕ
 collect = 11
+
+abbrev pub save : ℕ
+save = 12
+
+abbrev pub load : ℕ
+load = 13
 
 -- a call without numbers
 abbrev pub bare : ℕ → ℕ → Call

@@ -14,8 +14,8 @@ pub struct Call {
 }
 
 // For each kind of line the first word, and how many numbers belong to it.
-pub const TABLE: [u8; 92] =
-    *b"wrote 0 loaded 0 create 2 allocate 1 read 2 show 1 write 3 root 2 sink 1 analyse 0 collect 1";
+pub const TABLE: [u8; 106] =
+    *b"wrote 0 loaded 0 create 2 allocate 1 read 2 show 1 write 3 root 2 sink 1 analyse 0 collect 1 save 0 load 0";
 
 pub const NO_CALL: usize = 0;
 
@@ -41,6 +41,10 @@ pub const SINK: usize = 9;
 pub const ANALYSE: usize = 10;
 
 pub const COLLECT: usize = 11;
+
+pub const SAVE: usize = 12;
+
+pub const LOAD: usize = 13;
 
 // What a line should have had: the name of a call, a number, one below 2^32, no further word, `plain` or `clusters`, a name.
 pub const A_CALL: u32 = 1;

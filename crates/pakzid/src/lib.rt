@@ -9,12 +9,15 @@ ghost use Rattle.rules.specs.SetRoot as SetRoot;
 ghost use Rattle.rules.specs.DeclareSink as DeclareSink;
 ghost use Rattle.rules.specs.Analyse as Analyse;
 ghost use Rattle.rules.specs.Collect as Collect;
+ghost use Rattle.rules.specs.Save as Save;
+ghost use Rattle.rules.specs.Load as Load;
 use layout::answers::Allocated;
 use layout::answers::Analysed;
 use layout::answers::Collected;
 use layout::answers::Control;
 use layout::answers::Done;
 use layout::answers::Part;
+use layout::answers::Saved;
 use layout::answers::WordRead;
 
 pub mod in_place;
@@ -151,4 +154,31 @@ pub extern "C" fn pakzid_collect_clusters(
         ≡ Collect.collect Collect.byClusters c (now (records .entry)) (now (slots .entry)) (now (roots .entry)) (now (work .entry)) (now (map .entry)) ⌝ }
 {
     collect::collect(true, c, records, slots, roots, work, map)
+}
+
+#[no_mangle]
+pub extern "C" fn pakzid_save(
+    c: Control,
+    records: &[u32],
+    slots: &[u32],
+    roots: &[u32],
+    image: &mut [u8],
+) -> Saved
+    ensures { λ a. ⌜ Save.gives a (now (image .exit))
+        ≡ Save.save c (now (records .entry)) (now (slots .entry)) (now (roots .entry)) (now (image .entry)) ⌝ }
+{
+    saves::save(c, records, slots, roots, image)
+}
+
+#[no_mangle]
+pub extern "C" fn pakzid_load(
+    image: &[u8],
+    records: &mut [u32],
+    slots: &mut [u32],
+    roots: &mut [u32],
+) -> Done
+    ensures { λ a. ⌜ Load.gives a (now (records .exit)) (now (slots .exit)) (now (roots .exit))
+        ≡ Load.load (now (image .entry)) (now (records .entry)) (now (slots .entry)) (now (roots .entry)) ⌝ }
+{
+    loads::load(image, records, slots, roots)
 }

@@ -35,7 +35,7 @@ fn start(fd: i32, plain: bool) -> Column {
         source: opened(fd),
         plain,
         call: no_call(0),
-        ran: answer(0, 0, 0, 0, new_control(0, 0)),
+        ran: answer(0, 0, 0, 0, new_control(0, 0), 0),
         state: READING,
     }
 }
@@ -74,6 +74,7 @@ fn next(
     roots: &mut Roots,
     work: &mut Work,
     map: &mut Map,
+    images: &mut Images,
 ) -> Column {
     if 1 < side {
         return p;
@@ -89,11 +90,13 @@ fn next(
     let ran = run(
         call,
         p.ran.control,
+        p.ran.saved,
         &mut records[side],
         &mut slots[side],
         &mut roots[side],
         &mut work[side],
         &mut map[side],
+        &mut images[side],
     );
     Column {
         source,
@@ -113,14 +116,15 @@ pub(crate) fn step(
     roots: &mut Roots,
     work: &mut Work,
     map: &mut Map,
+    images: &mut Images,
 ) -> Both {
     let mut left = b.left;
     let mut right = b.right;
     let verdict = b.verdict;
     if left.state == READING {
-        left = next(left, 0, input, records, slots, roots, work, map);
+        left = next(left, 0, input, records, slots, roots, work, map, images);
     } else {
-        right = next(right, 1, input, records, slots, roots, work, map);
+        right = next(right, 1, input, records, slots, roots, work, map, images);
     }
     Both {
         left,

@@ -57,12 +57,13 @@ fn play(
     roots: &mut Roots,
     work: &mut Work,
     map: &mut Map,
+    images: &mut Images,
 ) -> Both {
     let mut b = begun;
     let mut turns = u64::MAX;
     while 0 < turns && !b.over {
         if is_reading(b) {
-            b = step(b, input, records, slots, roots, work, map);
+            b = step(b, input, records, slots, roots, work, map, images);
         } else {
             b = turn(b, page, hands, records, slots, roots, map);
         }
@@ -80,6 +81,7 @@ fn report(a: Check, c: Check, one: bool, page: &mut Text, at: usize) {
     let mut roots = [[0u32; 64]; 2];
     let mut work = [[0u32; 41014]; 2];
     let mut map = [[0u64; 64]; 2];
+    let mut images = [[0u8; 147702]; 2];
     let b = play(
         begin(a.source.fd, c.source.fd, one, at),
         page,
@@ -90,6 +92,7 @@ fn report(a: Check, c: Check, one: bool, page: &mut Text, at: usize) {
         &mut roots,
         &mut work,
         &mut map,
+        &mut images,
     );
     let r = b.left.ran.control.r;
     let q = b.right.ran.control.r;

@@ -16,4 +16,7 @@ pub(crate) type Work = [[u32; 41014]; 2];
 
 pub(crate) type Map = [[u64; 64]; 2];
 
+// What was saved last, of the longest image: 26 bytes, 36 for each object and 4 for each root.
+pub(crate) type Images = [[u8; 147702]; 2];
+
 pub(crate) type Hands = [u64; 8192];

@@ -12,8 +12,8 @@ use lines::words::Span;
 use lines::words::next_word;
 use std::num::wrapping_add_usize;
 
-// The words for refusals: those of arguments, up to 7, then those of a heap's state, from 20 on.
-const REASONS: [u8; 252] = *b"
+// The words for refusals: those of arguments, up to 7, then those of a heap's state and of an image, from 20 on.
+const REASONS: [u8; 317] = *b"
 sizes out of range
 a buffer is too short
 width above 8
@@ -27,12 +27,17 @@ the object is free
 the word names a free object
 no object is free
 the write loss is too large
+the image is cut
+the image is not a heap
+a chunk of unknown kind
 ";
 
 // The answers of accepted calls.
-const ANSWERS: [u8; 109] = *b"accepted
+const ANSWERS: [u8; 136] = *b"accepted
 object %
 clusters %, members %
+bytes %
+objects %, roots %
 freed %, kept %, scanned %
 freed %, kept %, scanned %; freed objects ";
 
@@ -121,7 +126,9 @@ fn answer_row(kind: usize, freed: u32) -> usize {
     match kind {
         ALLOCATE => 1,
         ANALYSE => 2,
-        COLLECT => { if freed == 0 { 3 } else { 4 } }
+        SAVE => 3,
+        LOAD => 4,
+        COLLECT => { if freed == 0 { 5 } else { 6 } }
         _ => 0,
     }
 }
@@ -146,7 +153,7 @@ pub(crate) fn answer_text(
     }
     let row = answer_row(kind, r.a);
     let end = say(s, at, &ANSWERS, row, r.a as u64, r.b as u64, r.c as u64, 0);
-    if row == 4 { set_text(s, end, map) } else { end }
+    if row == 6 { set_text(s, end, map) } else { end }
 }
 
 // Whether there is an answer to print.

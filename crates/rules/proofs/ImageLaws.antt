@@ -70,10 +70,8 @@ past-suc zero b = refl
 past-suc (suc t) b = past-suc t (drop (6 + bodyLen b) b)
 
 pub chunk-length : (kind : ℕ) (body : List ℕ) → length (chunk kind body) ≡ 6 + length body
-unfolding chunk
-chunk-length kind body =
-    length-append (bytes 4 (length body) ++ bytes 2 kind) body
-    ∙ omega (arith, length-append (bytes 4 (length body)) (bytes 2 kind), length-bytes 4 (length body), length-bytes 2 kind)
+unfolding chunk bytes
+chunk-length kind body = omega arith
 
 -- a list read again by number
 pub numbered : {A : Type 0} (f : ℕ → A) (a : ℕ) (l : List A) (d : A) → ((i : ℕ) → i < length l → f (a + i) ≡ getD l i d) → map f (numbers a (length l)) ≡ l

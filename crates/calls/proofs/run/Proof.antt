@@ -103,6 +103,18 @@ collect-requires c κs = search needs
 of-collected-requires : tie.Need-of-collected-requires
 of-collected-requires c κs = search needs
 
+save-requires : tie.Need-save-requires
+save-requires c κs = search needs
+
+of-saved-requires : tie.Need-of-saved-requires
+of-saved-requires c κs = search needs
+
+load-last-requires : tie.Need-load-last-requires
+load-last-requires c κs = search needs
+
+of-loaded-requires : tie.Need-of-loaded-requires
+of-loaded-requires c κs = search needs
+
 answer-requires : tie.Need-answer-requires
 answer-requires c κs = search needs
 
@@ -222,9 +234,41 @@ returns-9 : tie.Need-returns-9
 unfolding Run.run Run.collect
 returns-9 c = rw (c .of-collected .ensures, c .before .before .before .before .before .before .before .before .before .before .before .before .before .before .before .match .keys9, ← way-of, ← c .before .before .before .before .before .before .before .before .before .collect .ensures) refl
 
+same-length-26 : tie.Need-same-length-26
+same-length-26 c = search needs
+
+same-length-27 : tie.Need-same-length-27
+same-length-27 c = search needs
+
+same-length-28 : tie.Need-same-length-28
+same-length-28 c = search needs
+
+same-length-29 : tie.Need-same-length-29
+same-length-29 c = search needs
+
 returns-10 : tie.Need-returns-10
+unfolding Run.run Run.save
+returns-10 c = rw (c .of-saved .ensures, c .before .before .before .before .before .before .before .before .match .keys10, ← c .before .before .before .save .ensures) refl
+
+same-length-30 : tie.Need-same-length-30
+same-length-30 c = search needs
+
+same-length-31 : tie.Need-same-length-31
+same-length-31 c = search needs
+
+same-length-32 : tie.Need-same-length-32
+same-length-32 c = search needs
+
+same-length-33 : tie.Need-same-length-33
+same-length-33 c = search needs
+
+returns-11 : tie.Need-returns-11
+unfolding Run.run Run.load
+returns-11 c = rw (c .of-loaded .ensures, c .before .before .before .before .before .before .before .before .before .before .before .before .match .keys11, ← c .before .before .before .before .before .before .before .load-last .ensures) refl
+
+returns-12 : tie.Need-returns-12
 unfolding Run.run Run.idle
-returns-10 c = rw (c .answer .ensures, ne-eqb _ kind.create (c .before .match .rest .0 .0 .0 .0 .0 .0 .0 .0 .1), ne-eqb _ kind.allocate (c .before .match .rest .0 .0 .0 .0 .0 .0 .0 .1), ne-eqb _ kind.read (c .before .match .rest .0 .0 .0 .0 .0 .0 .1), ne-eqb _ kind.show (c .before .match .rest .0 .0 .0 .0 .0 .1), ne-eqb _ kind.write (c .before .match .rest .0 .0 .0 .0 .1), ne-eqb _ kind.root (c .before .match .rest .0 .0 .0 .1), ne-eqb _ kind.sink (c .before .match .rest .0 .0 .1), ne-eqb _ kind.analyse (c .before .match .rest .0 .1), ne-eqb _ kind.collect (c .before .match .rest .1)) refl
+returns-12 c = rw (c .answer .ensures, ne-eqb _ kind.create (c .before .match .rest .0 .0 .0 .0 .0 .0 .0 .0 .0 .0 .1), ne-eqb _ kind.allocate (c .before .match .rest .0 .0 .0 .0 .0 .0 .0 .0 .0 .1), ne-eqb _ kind.read (c .before .match .rest .0 .0 .0 .0 .0 .0 .0 .0 .1), ne-eqb _ kind.show (c .before .match .rest .0 .0 .0 .0 .0 .0 .0 .1), ne-eqb _ kind.write (c .before .match .rest .0 .0 .0 .0 .0 .0 .1), ne-eqb _ kind.root (c .before .match .rest .0 .0 .0 .0 .0 .1), ne-eqb _ kind.sink (c .before .match .rest .0 .0 .0 .0 .1), ne-eqb _ kind.analyse (c .before .match .rest .0 .0 .0 .1), ne-eqb _ kind.collect (c .before .match .rest .0 .0 .1), ne-eqb _ kind.save (c .before .match .rest .0 .1), ne-eqb _ kind.load (c .before .match .rest .1)) refl
 
 pub run-spec : {M : Type 1} → statement M
 run-spec =
@@ -261,6 +305,10 @@ run-spec =
     array-read-collect
     collect-requires
     of-collected-requires
+    save-requires
+    of-saved-requires
+    load-last-requires
+    of-loaded-requires
     answer-requires
     same-length
     same-length-2
@@ -296,4 +344,14 @@ run-spec =
     same-length-24
     same-length-25
     returns-9
-    returns-10)
+    same-length-26
+    same-length-27
+    same-length-28
+    same-length-29
+    returns-10
+    same-length-30
+    same-length-31
+    same-length-32
+    same-length-33
+    returns-11
+    returns-12)

@@ -1,0 +1,188 @@
+-- What load lays and what it answers at each of its ends.
+-- Assumes nothing.
+use Prim.Native.Nat.{ℕ, zero, suc, _+_, _-_, _*_, _/_, _%_, _≤_}
+use mathlib.Core.Path.{_≡_, refl, sym, ap, ap₂, _∙_}
+use mathlib.Core.Bool.{Bool, true, false, _&&_, cond}
+use mathlib.Core.List.{List, [], _∷_, _++_}
+use mathlib.Core.Logic.{_≢_}
+use native.Mathlib.Omega.{arith}
+use borrow.Author.Tests.{eqb-true}
+use lib.Dec.{eqb}
+use lib.ListN.{length, take, drop}
+use Rattle.layout.specs.declared.answers.Control.{Control}
+use Rattle.layout.specs.Limits.{widthMax, slotsLen}
+use Rattle.layout.specs.ControlRecord.{newControl, withLast}
+use Rattle.layout.specs.Refusal.{Test, first}
+use Rattle.layout.proofs.RefusalLaws.{Numbered, nil, cons, first-front, first-skip, first-zero, first-holds, first-fails, outcome-zero, outcome-number}
+use Rattle.endian.specs.Bytes.{numberAt}
+use Rattle.rules.specs.Buffers.{eachFrom, eachRecord, zeros, allTo}
+use Rattle.rules.specs.Image.{frontLen, bodyLen, bodyOf, past, savedRoot, left, shaped, wordsOk, objectsOk, rootsOk}
+use Rattle.rules.specs.Load as Load
+use Rattle.rules.specs.Load.{imageN, imageR, imageTests, chunkTests, loadedRecord, loadedWord, rootWords}
+use Rattle.rules.proofs.ListLaws.{each-same, each-each, length-each}
+use Rattle.rules.proofs.BoolLaws.{and-split}
+use Rattle.table.specs.Room.{heapShort}
+use Rattle.table.proofs.RoomLaws.{heap-long}
+use Rattle.loads.specs.Bodies.{shapeOk}
+use Rattle.loads.specs.Chunks.{Chunk}
+use Rattle.loads.specs.Laid.{laid, recordOr, slotOr, Roomy, Accepted}
+use Rattle.loads.proofs.ChunkLaws.{past-next}
+use Rattle.loads.proofs.ImageLaws.{whole, Sized, sized}
+use Rattle.loads.proofs.LayLaws.{laid-all}
+
+-- ---- the places of the chunks
+
+module _ (image : List ℕ) where
+  pub place-second : (e : ℕ) → Chunk image 0 e → past 1 image ≡ drop e image
+  unfolding past
+  place-second e c = sym (c .next)
+
+  pub place-next : (t at : ℕ) → past t image ≡ drop at image → (e : ℕ) → Chunk image at e → past (suc t) image ≡ drop e image
+  place-next t at h e c = past-next t image ∙ ap (λ (b : List ℕ). drop (frontLen + bodyLen b) b) h ∙ sym (c .next)
+
+  -- the body of the chunk at a place
+  pub body-at : (t at : ℕ) → past t image ≡ drop at image → (e : ℕ) → Chunk image at e → take (e - (at + frontLen)) (drop (at + frontLen) image) ≡ bodyOf (past t image)
+  body-at t at h e c = c .body ∙ ap bodyOf (sym h)
+
+-- ---- the room of the stores
+
+-- the objects that are tested are shaped
+shape-of : (n : ℕ) (body : List ℕ) → objectsOk body n ≡ true → shapeOk n body ≡ true
+unfolding objectsOk shapeOk
+shape-of n body e = and-split (allTo n (shaped body) && eqb (length (left body n)) 0) (allTo n (wordsOk body n)) e .0
+
+pub roomy : (n r : ℕ) (image recs slots roots : List ℕ) → Accepted n r image recs slots roots
+    → (body recs′ slots′ : List ℕ) → body ≡ bodyOf (past 1 image) → length recs′ ≡ length recs → length slots′ ≡ length slots → Roomy n body recs′ slots′
+roomy n r image recs slots roots a body recs′ slots′ e f g =
+    let w = whole image (a .none) in
+    let s = sized image (w .sizes-are) in
+    record {
+      shape = rw (e, a .is-n) (shape-of (imageN image) (bodyOf (past 1 image)) (w .objects-are));
+      most = let m = s .sizes .most in omega (arith, a .is-n);
+      records-room = let m = a .records-room in omega arith;
+      slots-room = let m = a .slots-room in omega arith;
+    }
+
+pub roots-room : (n r : ℕ) (image recs slots roots : List ℕ) → Accepted n r image recs slots roots
+    → (body : List ℕ) → body ≡ bodyOf (past 2 image) → 4 * r ≤ length body
+unfolding rootsOk
+roots-room n r image recs slots roots a body e =
+    let w = whole image (a .none) in
+    let l = eqb-true (length (bodyOf (past 2 image))) (4 * imageR image) (and-split (eqb (length (bodyOf (past 2 image))) (4 * imageR image)) _ (w .roots-are) .0) in
+    let f = ap length e in
+    let g = a .is-r in
+    omega arith
+
+-- ---- what is laid
+
+each-const : (i j k : ℕ) (l : List ℕ) → eachFrom i k (λ x w. 0) l ≡ eachFrom j k (λ x w. 0) l
+unfolding eachFrom
+each-const i j zero l = refl
+each-const i j (suc k) [] = refl
+each-const i j (suc k) (w ∷ l) = ap (λ (r : List ℕ). 0 ∷ r) (each-const (suc i) (suc j) k l)
+
+-- a change after all was cleared
+each-zeros : (i k : ℕ) (g : ℕ → ℕ → ℕ) (l : List ℕ) → eachFrom i k g (zeros k l) ≡ eachFrom i k (λ x w. g x 0) l
+unfolding zeros
+each-zeros i k g l = ap (eachFrom i k g) (each-const 0 i k l) ∙ each-each i k (λ x w. 0) g l
+
+pub length-zeros : (k : ℕ) (l : List ℕ) → length (zeros k l) ≡ length l
+unfolding zeros
+length-zeros k l = length-each 0 k (λ i w. 0) l
+
+module _ (n : ℕ) (image : List ℕ) where
+  pub records-laid : (recs recs₁ recs₂ body : List ℕ) → recs₁ ≡ zeros n recs → recs₂ ≡ eachRecord n (recordOr body) recs₁ → body ≡ bodyOf (past 1 image)
+      → recs₂ ≡ eachRecord n (λ x w. loadedRecord image x) recs
+  unfolding eachRecord recordOr loadedRecord
+  records-laid recs recs₁ recs₂ body e f g = f ∙ rw (e, g) (each-zeros 1 n (recordOr (bodyOf (past 1 image))) recs)
+
+  pub slots-laid : (slots slots₁ slots₂ body : List ℕ) (s : ℕ) → s ≡ slotsLen n → slots₁ ≡ zeros s slots → slots₂ ≡ eachFrom 0 (slotsLen n) (slotOr body) slots₁
+      → body ≡ bodyOf (past 1 image)
+      → slots₂ ≡ eachFrom 0 (slotsLen n) (λ j w. loadedWord image (j / widthMax + 1) (j % widthMax)) slots
+  unfolding slotOr loadedWord
+  slots-laid slots slots₁ slots₂ body s h e f g = f ∙ rw (e, h, g) (each-zeros 0 (slotsLen n) (slotOr (bodyOf (past 1 image))) slots)
+
+pub roots-laid : (r : ℕ) (image roots roots₁ body : List ℕ) → roots₁ ≡ laid 0 r (λ i. numberAt 4 (0 + 4 * i) body) roots → body ≡ bodyOf (past 2 image)
+    → roots₁ ≡ eachFrom 0 r (λ j w. savedRoot (rootWords image) j) roots
+unfolding savedRoot
+roots-laid r image roots roots₁ body e g =
+    e
+    ∙ laid-all r (λ i. numberAt 4 (0 + 4 * i) body) roots
+    ∙ each-same 0 r (λ j w. numberAt 4 (0 + 4 * j) body) (λ j w. numberAt 4 (4 * j) (bodyOf (past 2 image))) roots
+    (λ j w p q. ap₂ (λ (k : ℕ) (l : List ℕ). numberAt 4 k l) (omega arith) g)
+
+-- ---- the ends
+
+none-first : first [] ≡ 0
+unfolding first
+none-first = refl
+
+-- every refusal of an image is above 0
+numbered : (image : List ℕ) (f t : ℕ) → Numbered (chunkTests image f t)
+unfolding chunkTests
+numbered image zero t = nil
+numbered image (suc f) t = go (eqb (length (past t image)) 0) (numbered image f (suc t)) _ _ _ _
+  where
+    some : (k : ℕ) (t : Bool) (l : List Test) → Numbered l → Numbered ((suc k, t) ∷ l)
+    some k t l n = cons {t = (suc k, t)} (omega arith) n
+
+    go : (z : Bool) → Numbered (chunkTests image f (suc t)) → (a b c d : Bool) → Numbered (cond z ((26, a) ∷ []) ((26, b) ∷ (27, c) ∷ (28, d) ∷ chunkTests image f (suc t)))
+    go true n a b c d = some 25 a [] nil
+    go false n a b c d = some 25 b _ (some 26 c _ (some 27 d _ n))
+
+module _ (image recs slots roots : List ℕ) where
+  abbrev ends : List Test
+  ends = (2, heapShort (imageN image) (imageR image) recs slots roots) ∷ []
+
+  tests : Load.loadTests image recs slots roots ≡ imageTests image ++ ends
+  unfolding Load.loadTests heapShort
+  tests = refl
+
+  refused : (k : ℕ) → first (Load.loadTests image recs slots roots) ≡ k → k ≢ 0 → (c : Control) → c ≡ newControl 0 0
+      → Load.gives (record { refusal = k; control = c }) recs slots roots ≡ Load.load image recs slots roots
+  unfolding Load.load
+  refused k e d c f = rw f (sym (outcome-number _ _ (Load.loadTests image recs slots roots) k e d))
+
+  pub image-refused : (k : ℕ) → k ≡ first (imageTests image) → k ≢ 0 → (c : Control) → c ≡ newControl 0 0
+      → Load.gives (record { refusal = k; control = c }) recs slots roots ≡ Load.load image recs slots roots
+  image-refused k e d =
+      refused k (ap first tests ∙ first-front (imageTests image) ends (λ z. d (e ∙ z)) ∙ sym e) d
+
+  module _ (none : first (imageTests image) ≡ 0) where
+    short-decides : first (Load.loadTests image recs slots roots) ≡ first ends
+    unfolding imageTests
+    short-decides = ap first tests ∙ first-skip (imageTests image) ends (first-zero (imageTests image) (numbered image (suc (length image)) 0) none)
+
+    -- the sizes stand at fixed places
+    module _ (n r : ℕ) (en : n ≡ numberAt 2 8 image) (er : r ≡ numberAt 2 10 image) where
+      pub is-sized : Sized image
+      is-sized = sized image (whole image none .sizes-are)
+
+      same-n : n ≡ imageN image
+      same-n = en ∙ is-sized .n-at
+
+      same-r : r ≡ imageR image
+      same-r = er ∙ is-sized .r-at
+
+      pub too-short : heapShort n r recs slots roots ≡ true → (c : Control) → c ≡ newControl 0 0
+          → Load.gives (record { refusal = 2; control = c }) recs slots roots ≡ Load.load image recs slots roots
+      too-short h =
+          refused 2 (short-decides ∙ first-holds 2 [] (heapShort (imageN image) (imageR image) recs slots roots) (rw (sym same-n, sym same-r) h)) (λ z. omega arith)
+
+      pub accepted : heapShort n r recs slots roots ≡ false → Accepted n r image recs slots roots
+      unfolding slotsLen
+      accepted h =
+          let l = heap-long n r recs slots roots h in
+          record { none = none; is-n = same-n; is-r = same-r; records-room = l .0; slots-room = l .1; roots-room = l .2 }
+
+      pub loaded : heapShort n r recs slots roots ≡ false → (c d : Control) (last : ℕ) (recs′ slots′ roots′ : List ℕ)
+          → c ≡ newControl n r → last ≡ numberAt 2 12 image → d ≡ withLast last c
+          → recs′ ≡ eachRecord n (λ x w. loadedRecord image x) recs
+          → slots′ ≡ eachFrom 0 (slotsLen n) (λ j w. loadedWord image (j / widthMax + 1) (j % widthMax)) slots
+          → roots′ ≡ eachFrom 0 r (λ j w. savedRoot (rootWords image) j) roots
+          → Load.gives (record { refusal = 0; control = d }) recs′ slots′ roots′ ≡ Load.load image recs slots roots
+      unfolding Load.load
+      loaded h c d last recs′ slots′ roots′ p q s e f g =
+          rw (s, p, q, e, f, g, is-sized .last-at, same-n, same-r)
+          (sym (outcome-zero _ _ (Load.loadTests image recs slots roots)
+          (short-decides ∙ first-fails 2 [] (heapShort (imageN image) (imageR image) recs slots roots) (rw (sym same-n, sym same-r) h) ∙ none-first)))

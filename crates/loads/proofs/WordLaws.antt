@@ -1,0 +1,198 @@
+-- Words tested one by one, by the set of the listed numbers.
+-- Assumes nothing.
+use Prim.Native.Nat.{ℕ, zero, suc, _+_, _-_, _*_, _^_, _≤_, _<_}
+use mathlib.Core.Path.{_≡_, refl, sym, ap, ap₂, _∙_}
+use mathlib.Core.Bool.{Bool, true, false, _&&_, _||_, and-false, true≢false}
+use mathlib.Core.List.{List, [], _∷_, map}
+use mathlib.Core.Logic.{_≢_}
+use native.Mathlib.Decide.{decLe, ℕ-discrete}
+use native.Mathlib.Omega.{arith}
+use borrow.Author.Tests.{lt-ltb, eq-eqb, ne-eqb}
+use lib.Dec.{eqb, leb}
+use lib.ListN.{length, getD}
+use lib.Seq.{getD-drop}
+use Rattle.layout.specs.Limits.{objectMax}
+use Rattle.layout.specs.Word.{isNil, isPointer, isImmediate}
+use Rattle.layout.proofs.LimitLaws.{in-within, above-within}
+use Rattle.layout.proofs.WordLaws.{not-immediate, pointer-bound}
+use Rattle.endian.specs.Bytes.{numberAt}
+use Rattle.bitmap.specs.Bits.{holds}
+use Rattle.rules.specs.Buffers.{allOf, allTo, numbers}
+use Rattle.rules.specs.Image.{headLen, listed, savedWidth, savedWord, savedWords, savedRoot, namesListed, wordsOk, objectsOk, rootsOk}
+use Rattle.rules.proofs.ListLaws.{allTo-at, allTo-all, same-numbers}
+use Rattle.rules.proofs.BoolLaws.{is-false}
+use Rattle.loads.specs.Bodies.{shapeOk, Reached, numberOf, widthAt, entryEnd, Fit, Listed, passes, wordsAt, rootsPass, Checked}
+use Rattle.loads.proofs.PlaceLaws.{number-drop}
+use Rattle.loads.proofs.EntryLaws.{Entry, entry, fits, fit-reached, unlisted, ended, start}
+
+-- ---- one word
+
+module _ (i : Bool) (n : ℕ) (words : List ℕ) (w : ℕ) where
+  pub pass-nil : w ≡ 0 → true ≡ passes i n words w
+  unfolding passes isNil
+  pass-nil e = sym (rw (eq-eqb w 0 e) refl)
+
+  pub pass-number : n ≤ objectMax → w ≢ 0 → w ≤ n → holds w words ≡ passes i n words w
+  unfolding passes isNil isPointer
+  pass-number m d p =
+      sym (rw (ne-eqb w 0 d, not-immediate w (omega arith), and-false i, in-within 1 n w (omega (arith, d)) p) refl)
+
+  pub pass-high : n < w → w < 2 ^ 32 → i && leb (2 ^ 31) w ≡ passes i n words w
+  unfolding passes isNil isPointer isImmediate
+  pass-high p f =
+      sym (rw (ne-eqb w 0 (λ e. omega arith), above-within 1 n w p, lt-ltb w (2 ^ 32) f) (go i (leb (2 ^ 31) w)))
+    where
+      go : (a b : Bool) → (false || (a && (b && true))) || (false && holds w words) ≡ a && b
+      go true true = refl
+      go true false = refl
+      go false b = refl
+
+-- ---- words in turn
+
+module _ (t : ℕ → Bool) (f : ℕ → ℕ) (i k : ℕ) where
+  abbrev rest : ℕ → Bool
+  rest j = allOf t (map f (numbers j (k - j)))
+
+  pub all-stop : i < k → t (f i) ≡ false → rest i ≡ false
+  unfolding allOf numbers
+  all-stop p e = let s : k - i ≡ suc (k - suc i) = omega arith in rw (s, e) refl
+
+  pub all-turn : i < k → t (f i) ≡ true → rest (i + 1) ≡ rest i
+  unfolding allOf numbers
+  all-turn p e =
+      let s : k - i ≡ suc (k - suc i) = omega arith in
+      let o : i + 1 ≡ suc i = omega arith in
+      rw (o, s, e) refl
+
+  pub all-end : k ≤ i → rest i ≡ true
+  unfolding allOf numbers
+  all-end p = let z : k - i ≡ 0 = omega arith in rw z refl
+
+pub all-start : (t : ℕ → Bool) (at k : ℕ) (body : List ℕ)
+    → allOf t (map (λ i. numberAt 4 (at + 4 * i) body) (numbers 0 (k - 0))) ≡ allOf t (wordsAt at k body)
+unfolding wordsAt
+all-start t at k body =
+    let z : k - 0 ≡ k = omega arith in
+    ap (λ (j : ℕ). allOf t (map (λ i. numberAt 4 (at + 4 * i) body) (numbers 0 j))) z
+
+allOf-same : (t u : ℕ → Bool) (l : List ℕ) → ((w : ℕ) → t w ≡ u w) → allOf t l ≡ allOf u l
+unfolding allOf
+allOf-same t u [] h = refl
+allOf-same t u (w ∷ l) h = ap₂ _&&_ (h w) (allOf-same t u l h)
+
+-- ---- by the set
+
+module _ (n : ℕ) (body words : List ℕ) (has : Listed n body words) where
+  named : (w : ℕ) → isPointer n w && holds w words ≡ namesListed body n w
+  unfolding namesListed
+  named w = go (isPointer n w) refl
+    where
+      go : (b : Bool) → isPointer n w ≡ b → b && holds w words ≡ b && listed body w
+      go true e = has w (pointer-bound n w e)
+      go false e = refl
+
+  pub slot-word : (w : ℕ) → (isNil w || isImmediate w || namesListed body n w) ≡ passes true n words w
+  unfolding passes
+  slot-word w = ap (λ (b : Bool). isNil w || isImmediate w || b) (sym (named w))
+
+  root-word : (w : ℕ) → (isNil w || namesListed body n w) ≡ passes false n words w
+  unfolding passes
+  root-word w = go (isNil w) ∙ ap (λ (b : Bool). (isNil w || false) || b) (sym (named w))
+    where
+      go : (b : Bool) → (b || namesListed body n w) ≡ (b || false) || namesListed body n w
+      go true = refl
+      go false = refl
+
+  -- the roots
+  pub roots-pass : (r : ℕ) (roots : List ℕ) → rootsOk n r body roots ≡ rootsPass n r words roots
+  unfolding rootsOk rootsPass savedRoot wordsAt
+  roots-pass r roots =
+      ap (λ (b : Bool). eqb (length roots) (4 * r) && b)
+      (allOf-same (λ w. isNil w || namesListed body n w) (passes false n words) _ root-word
+      ∙ ap (allOf (passes false n words))
+      (same-numbers (λ j. numberAt 4 (4 * j) roots) (λ j. numberAt 4 (0 + 4 * j) roots) 0 r (λ j p q. ap (λ (a : ℕ). numberAt 4 a roots) (omega arith))))
+
+  -- ---- the objects in turn
+
+  module _ (x at : ℕ) (r : Reached body x at) (f : Fit n body x at) where
+    abbrev y : ℕ
+    y = numberOf body at
+
+    pub words-here : wordsOk body n y ≡ allOf (passes true n words) (wordsAt (at + headLen) (widthAt body at) body)
+    unfolding wordsOk savedWords savedWidth savedWord wordsAt
+    words-here =
+        let e = entry body x at r (f .head) (f .above) in
+        let w : savedWidth body y ≡ widthAt body at = ap (λ (b : List ℕ). getD b 2 0) (e .from-here) ∙ getD-drop at body 2 0 in
+        rw (e .listed-here)
+        (allOf-same (λ w. isNil w || isImmediate w || namesListed body n w) (passes true n words) (savedWords body y) slot-word
+        ∙ ap (allOf (passes true n words))
+        (ap (λ (k : ℕ). map (savedWord body y) (numbers 0 k)) w
+        ∙ same-numbers (savedWord body y) (λ k. numberAt 4 ((at + headLen) + 4 * k) body) 0 (widthAt body at)
+        (λ k p q. ap (numberAt 4 (headLen + 4 * k)) (e .from-here) ∙ number-drop 4 (headLen + 4 * k) at body ∙ ap (λ (a : ℕ). numberAt 4 a body) (omega arith))))
+
+pub unlisted-words : (n : ℕ) (body : List ℕ) (z : ℕ) → listed body z ≡ false → wordsOk body n z ≡ true
+unfolding wordsOk
+unlisted-words n body z e = rw e refl
+
+pub checked-start : (n : ℕ) (body : List ℕ) → Checked n body 0
+unfolding listed
+checked-start n body = record { last = 0; most = omega arith; reached = start body; legal = λ z p. unlisted-words n body z (first z p) }
+  where
+    first : (z : ℕ) → z ≤ 0 → listed body z ≡ false
+    first zero p = refl
+    first (suc z) p = absurd (omega arith)
+
+module _ (n : ℕ) (body : List ℕ) (at : ℕ) (c : Checked n body at) where
+  module _ (ok : shapeOk n body ≡ true) (more : at < length body) where
+    pub checked-fit : Fit n body (c .last) at
+    checked-fit = fits body (c .last) at (c .reached) n ok (c .most) more
+
+    module _ (words : List ℕ) (has : Listed n body words) where
+      here : wordsOk body n (numberOf body at) ≡ allOf (passes true n words) (wordsAt (at + headLen) (widthAt body at) body)
+      here = words-here n body words has (c .last) at (c .reached) checked-fit
+
+      pub checked-turn : allOf (passes true n words) (wordsAt (at + headLen) (widthAt body at) body) ≡ true → Checked n body (entryEnd body at)
+      checked-turn e =
+          record {
+            last = numberOf body at;
+            most = checked-fit .most;
+            reached = fit-reached body (c .last) at (c .reached) n checked-fit;
+            legal = λ z p. legal z p (decLe z (c .last)) (ℕ-discrete z (numberOf body at));
+          }
+        where
+          k : Entry body (c .last) at
+          k = entry body (c .last) at (c .reached) (checked-fit .head) (checked-fit .above)
+
+          legal : (z : ℕ) → z ≤ numberOf body at → Dec (z ≤ c .last) → Dec (z ≡ numberOf body at) → wordsOk body n z ≡ true
+          legal z p (yes l) d = c .legal z l
+          legal z p (no l) (yes q) = ap (wordsOk body n) q ∙ here ∙ e
+          legal z p (no l) (no q) = unlisted-words n body z (k .skipped z (omega (arith, l)) (omega (arith, q)))
+
+      pub checked-stop : allOf (passes true n words) (wordsAt (at + headLen) (widthAt body at) body) ≡ false → false ≡ allTo n (wordsOk body n)
+      checked-stop e =
+          sym (is-false (allTo n (wordsOk body n)) (λ a.
+          true≢false (sym (allTo-at n (wordsOk body n) a (numberOf body at) (omega (arith, checked-fit .above)) (checked-fit .most)) ∙ here ∙ e)))
+
+  pub checked-end : length body ≤ at → true ≡ allTo n (wordsOk body n)
+  checked-end over = sym (allTo-all n (wordsOk body n) (λ z p q. legal z q (decLe z (c .last))))
+    where
+      legal : (z : ℕ) → z ≤ n → Dec (z ≤ c .last) → wordsOk body n z ≡ true
+      legal z q (yes l) = c .legal z l
+      legal z q (no l) =
+          unlisted-words n body z
+          (unlisted body (c .last) n (λ v a b. ended body (c .last) at (c .reached) over v) z (omega (arith, l)) q)
+
+-- the two tests of the objects
+pub objects-are : (n : ℕ) (body : List ℕ) (a b : Bool) → a ≡ shapeOk n body → b ≡ allTo n (wordsOk body n) → a && b ≡ objectsOk body n
+unfolding objectsOk shapeOk
+objects-are n body a b e f = rw (e, f) refl
+
+-- the two tests of the roots
+module _ (n r : ℕ) (words roots : List ℕ) where
+  pub roots-long : (length roots ≡ 4 * r → ⊥) → false ≡ rootsPass n r words roots
+  unfolding rootsPass
+  roots-long d = sym (rw (ne-eqb (length roots) (4 * r) d) refl)
+
+  pub roots-tested : (b : Bool) → length roots ≡ 4 * r → b ≡ allOf (passes false n words) (wordsAt 0 r roots) → b ≡ rootsPass n r words roots
+  unfolding rootsPass
+  roots-tested b e f = f ∙ sym (rw (eq-eqb (length roots) (4 * r) e) refl)

@@ -1,0 +1,32 @@
+-- The chunks of an image, each by its place in the bytes.
+use Prim.Native.Nat.{ℕ, suc, _+_, _-_, _≤_}
+use mathlib.Core.Path.{_≡_}
+use mathlib.Core.Bool.{Bool, not, _&&_, cond}
+use mathlib.Core.List.{List}
+use lib.ListN.{length, take, drop}
+use Rattle.layout.specs.Refusal.{first, by}
+use Rattle.rules.specs.Image.{frontLen, bodyLen, kindOf, bodyOf, past, cut}
+use Rattle.rules.specs.Load.{known, passed, misplaced, chunkTests}
+
+-- the refusal of a chunk by its place t and its kind
+unfoldable pub kindRefusal : ℕ → ℕ → ℕ
+kindRefusal t k = cond (misplaced t k) 27 (cond (not (known k) && not (passed k)) 28 0)
+
+-- that of the chunk in front of bytes, by its length and kind
+unfoldable pub frontRefusal : ℕ → List ℕ → ℕ
+frontRefusal t b = cond (cut b) 26 (kindRefusal t (kindOf b))
+
+-- that of a whole chunk, whose body is bad or not
+unfoldable pub chunkRefusal : ℕ → List ℕ → Bool → ℕ
+chunkRefusal t b bad = by (frontRefusal t b) (cond bad 27 0) (λ k. k)
+
+-- that of the chunks from chunk t on
+unfoldable pub refusalFrom : List ℕ → ℕ → ℕ
+refusalFrom image t = first (chunkTests image (suc (length (past t image))) t)
+
+-- the chunk at place `at` ends at place e
+pub record Chunk (image : List ℕ) (at e : ℕ) : Type 0 where
+  pub start : at + frontLen ≤ e
+  pub inside : e ≤ length image
+  pub next : drop e image ≡ drop (frontLen + bodyLen (drop at image)) (drop at image)
+  pub body : take (e - (at + frontLen)) (drop (at + frontLen) image) ≡ bodyOf (drop at image)

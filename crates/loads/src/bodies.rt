@@ -1,0 +1,165 @@
+// The bodies of the first three chunks of an image, tested. Nothing is stored but the set of the listed objects, a bit for each number.
+ghost use mathlib.Core.Path.{_≡_};
+ghost use Prim.Native.Nat.{_+_, _*_, _/_, _%_, _<_, _≤_};
+ghost use mathlib.Core.Bool.{true};
+ghost use lib.ListN.{length, getD, set};
+ghost use Rattle.layout.specs.Field.{putFlag};
+ghost use Rattle.layout.specs.Limits.{objectMax};
+ghost use Rattle.rules.specs.Buffers.{allOf, allTo};
+ghost use Rattle.rules.specs.Image.{sizesOk, wordsOk, objectsOk};
+ghost use Rattle.loads.specs.Bodies.{shapeOk, Fit, Listed, Empty, passes, wordsAt, rootsPass};
+use crate::words::head_byte;
+use crate::words::word_at;
+use bitmap::has_bit;
+use endian::byte_at;
+use endian::get2;
+use layout::limits::WIDTH_MAX;
+use layout::refusals::bad_sizes;
+
+// Whether the body of kind 1 keeps its layout.
+pub(crate) fn sizes_ok(body: &[u8]) -> bool
+    ensures { λ b. ⌜ b ≡ sizesOk (now (body .entry)) ⌝ }
+{
+    let n = get2(body, 2);
+    (body.len() == 8) & (get2(body, 0) == 1) & !bad_sizes(n, get2(body, 4)) & (get2(body, 6) <= n)
+}
+
+// ---- objects
+
+// Number x goes into the set.
+pub(crate) fn put(words: &mut [u64], x: u32)
+    requires { ⌜ (length (now words) ≡ 64) × (x ≤ objectMax) ⌝ }
+    ensures { λ _. ⌜ now (words .exit) ≡ set (now (words .entry)) (x / 64) (putFlag (x % 64) true (getD (now (words .entry)) (x / 64) 0)) ⌝ }
+{
+    let i = x as usize;
+    let at = i / 64;
+    let w = words[at];
+    words[at] = w | (1 << (i % 64));
+}
+
+// Whether the object at a place, behind object `last`, keeps the layout.
+pub(crate) fn fits(n: u32, last: u32, body: &[u8], at: usize) -> bool
+    requires { ⌜ at ≤ length (now body) ⌝ }
+    ensures { λ b. ⌜ (b ≡ true → Fit n (now (body .entry)) last at) × (Fit n (now (body .entry)) last at → b ≡ true) ⌝ }
+{
+    let left = body.len() - at;
+    if left < 4 {
+        return false;
+    }
+    let x = get2(body, at);
+    if x <= last {
+        return false;
+    }
+    if n < x {
+        return false;
+    }
+    let width = byte_at(body, at + 2);
+    if WIDTH_MAX < width {
+        return false;
+    }
+    if 1 < byte_at(body, at + 3) {
+        return false;
+    }
+    if left - 4 < 4 * width as usize {
+        return false;
+    }
+    true
+}
+
+// Whether the listed objects keep the layout; their numbers go into the set.
+pub(crate) fn shape(n: u32, body: &[u8], words: &mut [u64]) -> bool
+    requires { ⌜ (n ≤ objectMax) × Empty (now words) ⌝ }
+    ensures { λ b. ⌜ b ≡ shapeOk n (now (body .entry)) ⌝ }
+    ensures { λ b. ⌜ (b ≡ true → Listed n (now (body .entry)) (now (words .exit))) ⌝ }
+{
+    let mut last: u32 = 0;
+    let mut at: usize = 0;
+    while at < body.len() {
+        if !fits(n, last, body, at) {
+            return false;
+        }
+        last = get2(body, at);
+        put(words, last);
+        at += 4 + 4 * byte_at(body, at + 2) as usize;
+    }
+    true
+}
+
+// ---- words
+
+// Whether a word is nil, a number in the set, or an immediate where these may stand. By the remainder, which is the number itself, the
+// compiler knows that the set has a word for it.
+pub(crate) fn word_passes(immediates: bool, n: u32, word: u32, words: &[u64]) -> bool
+    requires { ⌜ n ≤ objectMax ⌝ }
+    ensures { λ b. ⌜ b ≡ passes immediates n (now (words .entry)) word ⌝ }
+{
+    if word == 0 {
+        return true;
+    }
+    if word <= n {
+        return has_bit(words, (word % 4096) as usize);
+    }
+    immediates && 0x8000_0000 <= word
+}
+
+// Whether the k words from a place on pass.
+pub(crate) fn words_pass(
+    immediates: bool,
+    n: u32,
+    body: &[u8],
+    at: usize,
+    k: usize,
+    words: &[u64],
+) -> bool
+    requires { ⌜ (n ≤ objectMax) × (at + 4 * k ≤ length (now body)) ⌝ }
+    ensures { λ b. ⌜ b ≡ allOf (passes immediates n (now (words .entry))) (wordsAt at k (now (body .entry))) ⌝ }
+{
+    let mut i: usize = 0;
+    while i < k {
+        if !word_passes(immediates, n, word_at(body, at + 4 * i), words) {
+            return false;
+        }
+        i += 1;
+    }
+    true
+}
+
+// Whether the words of every listed object are legal.
+pub(crate) fn words_ok(n: u32, body: &[u8], words: &[u64]) -> bool
+    requires { ⌜ (n ≤ objectMax) × (shapeOk n (now body) ≡ true) × Listed n (now body) (now words) ⌝ }
+    ensures { λ b. ⌜ b ≡ allTo n (wordsOk (now (body .entry)) n) ⌝ }
+{
+    let mut at: usize = 0;
+    while at < body.len() {
+        let width = head_byte(body, at, 2) as usize;
+        if !words_pass(true, n, body, at + 4, width, words) {
+            return false;
+        }
+        at += 4 + 4 * width;
+    }
+    true
+}
+
+// Whether the body of kind 2 is one of objects 1 to n; their numbers go into the set.
+pub(crate) fn objects_ok(n: u32, body: &[u8], words: &mut [u64]) -> bool
+    requires { ⌜ (n ≤ objectMax) × Empty (now words) ⌝ }
+    ensures { λ b. ⌜ b ≡ objectsOk (now (body .entry)) n ⌝ }
+    ensures { λ b. ⌜ (b ≡ true → Listed n (now (body .entry)) (now (words .exit))) ⌝ }
+{
+    if !shape(n, body, words) {
+        return false;
+    }
+    words_ok(n, body, words)
+}
+
+// Whether the body of kind 3 is r roots, each nil or a number in the set.
+pub(crate) fn roots_ok(n: u32, r: u32, body: &[u8], words: &[u64]) -> bool
+    requires { ⌜ n ≤ objectMax ⌝ }
+    ensures { λ b. ⌜ b ≡ rootsPass n r (now (words .entry)) (now (body .entry)) ⌝ }
+{
+    let k = r as usize;
+    if body.len() != 4 * k {
+        return false;
+    }
+    words_pass(false, n, body, 0, k, words)
+}

@@ -1,0 +1,2 @@
+-- Laws of the writers.
+pub mod SaveLaws

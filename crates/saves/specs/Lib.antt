@@ -1,0 +1,2 @@
+-- What the writers of an image ask and leave.
+pub mod Saves

@@ -1,0 +1,291 @@
+/*
+ * Images as they cross: the bytes of a small heap, and the heap that a load makes of them; images cut, with chunks in
+ * every order, of every kind, with hostile lengths and with sizes at their bounds, each taken or refused as it should
+ * be; and the longest images, which are as long as the header says.
+ */
+#include "../../include/pakzid.h"
+
+#include <stdio.h>
+#include <string.h>
+
+enum { N = 4, R = 2, SAVED = 54, MOST_OBJECTS = 4095, MOST_ROOTS = 64 };
+
+/* Object 1 points to itself and holds an immediate, and root 1 names it. Object 4 is a sink. 2 and 3 are free. */
+static const uint8_t bytes[SAVED] = {
+    8, 0, 0, 0, 1, 0,       /* eight bytes of kind 1 */
+    1, 0, N, 0, R, 0, 4, 0, /* version, n, r, last */
+    20, 0, 0, 0, 2, 0,      /* twenty bytes of kind 2 */
+    1, 0, 3, 0,             /* object 1, width 3, no sink */
+    1, 0, 0, 0, 0x78, 0x56, 0x34, 0x92, 0, 0, 0, 0,
+    4, 0, 0, 1,             /* object 4, width 0, a sink */
+    8, 0, 0, 0, 3, 0,       /* eight bytes of kind 3 */
+    0, 0, 0, 0, 1, 0, 0, 0,
+};
+
+/* Where the three chunks begin, and where the last one ends. */
+static const size_t place[] = {0, 14, 40, SAVED};
+enum { VERSION = 6, WIDTH_1 = 22, SINK_1 = 23, WORD_1_0 = 24, OBJECT_4 = 36, ROOT_1 = 50 };
+
+static uint32_t records[MOST_OBJECTS], slots[PAKZID_SLOTS_LENGTH(MOST_OBJECTS)], roots[MOST_ROOTS];
+static uint8_t image[PAKZID_IMAGE_LENGTH(MOST_OBJECTS, MOST_ROOTS)];
+static size_t length; /* of the image */
+static int failed;
+
+#define HEAP(n, r) records, n, slots, PAKZID_SLOTS_LENGTH(n), roots, r
+
+static void expect(const char *what, size_t got, size_t want)
+{
+    if (got != want) {
+        printf("%s: %zu, expected %zu\n", what, got, want);
+        failed = 1;
+    }
+}
+
+/* --- The small heap ------------------------------------------------------- */
+
+static void dirty(void)
+{
+    memset(records, 0xA5, sizeof records);
+    memset(slots, 0xA5, sizeof slots);
+    memset(roots, 0xA5, sizeof roots);
+}
+
+/* Records, slots and roots are those of the heap in the bytes, and past them as `dirty` left them. */
+static void expect_heap(void)
+{
+    static const uint32_t words[] = {0x301, 0, 0, 0x005, 0xA5A5A5A5};
+    for (uint32_t i = 0; i <= N; i++)
+        expect("record", records[i], words[i]);
+    for (uint32_t i = 0; i <= 8 * N; i++)
+        expect("slot", slots[i], i == 0 ? 1 : i == 1 ? 0x92345678 : i < 8 * N ? 0 : 0xA5A5A5A5);
+    expect("root 0", roots[0], 0);
+    expect("root 1", roots[1], 1);
+    expect("past the roots", roots[2], 0xA5A5A5A5);
+}
+
+static void small_heap(void)
+{
+    pakzid_control control = {.objects = N, .roots = R, .last = 4};
+    dirty();
+    pakzid_done loaded = pakzid_load(bytes, SAVED, HEAP(N, R));
+    expect("load", loaded.refusal, 0);
+    expect("control record", memcmp(&loaded.control, &control, sizeof control), 0);
+    expect_heap();
+
+    memset(image, 0xA5, sizeof image);
+    pakzid_saved saved = pakzid_save(control, HEAP(N, R), image, SAVED + 1);
+    expect("save", saved.refusal, 0);
+    expect("length", saved.length, SAVED);
+    expect("bytes", memcmp(image, bytes, SAVED), 0);
+    expect("byte past the image", image[SAVED], 0xA5);
+}
+
+/* --- Images of the small heap, changed ------------------------------------ */
+
+static void put(const uint8_t *from, size_t count)
+{
+    memcpy(image + length, from, count);
+    length += count;
+}
+
+static void put_chunk(uint32_t kind, uint32_t body)
+{
+    const uint8_t front[] = {(uint8_t)body, 0, 0, 0, (uint8_t)kind, (uint8_t)(kind >> 8)};
+    put(front, sizeof front);
+    memset(image + length, 7, body);
+    length += body;
+}
+
+/* The image of the small heap, unchanged. */
+static void whole(void)
+{
+    length = 0;
+    put(bytes, SAVED);
+}
+
+static void set_length(size_t chunk, uint32_t to)
+{
+    for (uint32_t i = 0; i < 4; i++)
+        image[place[chunk] + i] = (uint8_t)(to >> 8 * i);
+}
+
+/* Loads the image, over the small heap: accepted it gives the same heap, refused it changes nothing. The next image
+ * begins as the whole one. */
+static void expect_load(const char *what, uint32_t refusal)
+{
+    static const pakzid_control zeros;
+    pakzid_done a = pakzid_load(image, length, HEAP(N, R));
+    expect(what, a.refusal, refusal);
+    if (a.refusal != 0)
+        expect("control record of zeros", memcmp(&a.control, &zeros, sizeof zeros), 0);
+    expect_heap();
+    whole();
+}
+
+static void expect_with(const char *what, size_t at, uint8_t byte, uint32_t refusal)
+{
+    image[at] = byte;
+    expect_load(what, refusal);
+}
+
+static void cuts(void)
+{
+    for (size_t cut = 0; cut < SAVED; cut++) {
+        length = cut;
+        expect_load("cut", 26);
+    }
+    for (size_t stray = 1; stray <= 5; stray++) {
+        put(bytes, stray);
+        expect_load("stray bytes", 26);
+    }
+}
+
+/* All lists of at most four chunks. A digit of `list` is the kind of a chunk, 0 the end. */
+static void orders(void)
+{
+    for (uint32_t list = 0; list < 256; list++) {
+        uint32_t count = 0, right = 0; /* right: how many begin as they should */
+        length = 0;
+        for (uint32_t rest = list; rest % 4 != 0; rest /= 4, count++) {
+            right += right == count && rest % 4 == count + 1;
+            put(bytes + place[rest % 4 - 1], place[rest % 4] - place[rest % 4 - 1]);
+        }
+        expect_load("chunks in this order", right < count ? 27 : right < 3 ? 26 : 0);
+    }
+}
+
+/* Each of the three chunks, and one after them, as each of the 65,536 kinds. */
+static void kinds(void)
+{
+    for (uint32_t at = 0; at < 4; at++)
+        for (uint32_t kind = 0; kind < 0x10000; kind++) {
+            int known = 1 <= kind && kind <= 3, further = kind >= 0x8000;
+            int fits = at < 3 ? kind == at + 1 : further;
+            if (at == 3)
+                put_chunk(0, 3);
+            image[place[at] + 4] = (uint8_t)kind;
+            image[place[at] + 5] = (uint8_t)(kind >> 8);
+            expect_load("this kind in this place", fits ? 0 : known || further ? 27 : 28);
+        }
+}
+
+/* Each chunk longer than what is left, whatever its kind. */
+static void hostile_lengths(void)
+{
+    static const uint32_t too_long[] = {SAVED, 0x7FFFFFFF, 0x80000000, 0xFFFFFFF4, 0xFFFFFFFA, 0xFFFFFFFF};
+    for (uint32_t at = 0; at < 4; at++)
+        for (size_t i = 0; i < sizeof too_long / sizeof too_long[0]; i++)
+            for (uint32_t kind = 0; kind < 256; kind++) {
+                if (at == 3)
+                    put_chunk(0x8000, 3);
+                set_length(at, too_long[i]);
+                image[place[at] + 4] = (uint8_t)kind;
+                expect_load("longer than what is left", 26);
+            }
+}
+
+/* Of two faults the chunk decides that comes first; 2 comes after all chunks. */
+static void first_faults(void)
+{
+    image[WIDTH_1] = 9;
+    expect_with("width 9, and the next chunk cut", place[2] + 3, 0xFF, 27);
+    image[WIDTH_1] = 9;
+    expect_with("width 9, and the next kind unknown", place[2] + 4, 9, 27);
+    image[place[1] + 4] = 9;
+    expect_with("kind 9, and the next chunk cut", place[2] + 3, 0xFF, 28);
+    image[place[1] + 4] = 9;
+    expect_with("kind 9, and a root of no object", ROOT_1, 2, 28);
+    put_chunk(7, 1);
+    length--;
+    expect_with("a root of no object, and the next chunk cut", ROOT_1, 2, 27);
+    length = place[1];
+    expect_with("version 2, and nothing after it", VERSION, 2, 27);
+
+    expect("too few records", pakzid_load(bytes, SAVED, records, N - 1, slots, 8 * N, roots, R).refusal, 2);
+    expect("too few slots", pakzid_load(bytes, SAVED, records, N, slots, 8 * N - 1, roots, R).refusal, 2);
+    expect("too few roots", pakzid_load(bytes, SAVED, records, N, slots, 8 * N, roots, R - 1).refusal, 2);
+    expect("a root of no object, and no room", (image[ROOT_1] = 2, pakzid_load(image, SAVED, HEAP(0, 0)).refusal), 27);
+    whole();
+    put_chunk(0, 0);
+    expect("an unknown kind at the end, and no room", pakzid_load(image, length, HEAP(0, 0)).refusal, 28);
+    expect("a stray byte at the end, and no room", pakzid_load(image, SAVED + 1, HEAP(0, 0)).refusal, 26);
+    expect_heap();
+    whole();
+}
+
+static void bodies(void)
+{
+    expect_with("version 0x101", VERSION + 1, 1, 27);
+    expect_with("object 0", OBJECT_4, 0, 27);
+    expect_with("object 1 twice", OBJECT_4, 1, 27);
+    expect_with("object 5 of 4", OBJECT_4, 5, 27);
+    expect_with("width 4, and words for 3", WIDTH_1, 4, 27);
+    expect_with("sink byte 2", SINK_1, 2, 27);
+    expect_with("word to a free object", WORD_1_0, 3, 27);
+    expect_with("illegal word", WORD_1_0 + 3, 0x7F, 27);
+    expect_with("root to a free object", ROOT_1, 3, 27);
+    expect_with("immediate as a root", ROOT_1 + 3, 0x80, 27);
+}
+
+/* --- Other heaps ---------------------------------------------------------- */
+
+/* Heaps without an object in use, with sizes at their bounds. */
+static void sizes(void)
+{
+    static const struct {
+        uint32_t n, r, last, refusal;
+    } rows[] = {
+        {1, 1, 0, 0}, {1, 1, 1, 0}, {1, 64, 0, 0}, {4095, 1, 4095, 0}, {4095, 64, 0, 0},
+        {0, 1, 0, 27}, {1, 0, 0, 27}, {1, 1, 2, 27}, {1, 1, 0x100, 27}, {1, 65, 0, 27}, {4096, 1, 0, 27},
+        {0xFFFF, 1, 0, 27},
+    };
+    for (size_t i = 0; i < sizeof rows / sizeof rows[0]; i++) {
+        uint32_t n = rows[i].n, r = rows[i].r, last = rows[i].last;
+        const uint8_t body[] = {1, 0, (uint8_t)n, (uint8_t)(n >> 8), (uint8_t)r, 0, (uint8_t)last,
+                                (uint8_t)(last >> 8)};
+        length = 0;
+        put(bytes, VERSION);
+        put(body, sizeof body);
+        put_chunk(2, 0);
+        put_chunk(3, 0);
+        image[length - 6] = (uint8_t)(4 * r);
+        image[length - 5] = (uint8_t)(4 * r >> 8);
+        memset(image + length, 0, 4 * r);
+        pakzid_done a = pakzid_load(image, length + 4 * r, HEAP(MOST_OBJECTS, MOST_ROOTS));
+        expect("sizes of a heap", a.refusal, rows[i].refusal);
+        expect("n", a.control.objects, a.refusal ? 0 : n);
+        expect("r", a.control.roots, a.refusal ? 0 : r);
+        expect("last", a.control.last, a.refusal ? 0 : last);
+    }
+}
+
+/* Every object in use and of width 8. */
+static void longest(uint32_t n, uint32_t r)
+{
+    size_t most = PAKZID_IMAGE_LENGTH(n, r);
+    pakzid_control control = pakzid_create(n, r, HEAP(n, r)).control;
+    for (uint32_t object = 1; object <= n; object++)
+        control = pakzid_allocate(control, 8, records, n, slots, PAKZID_SLOTS_LENGTH(n)).control;
+    expect("a byte too little", pakzid_save(control, HEAP(n, r), image, most - 1).refusal, 2);
+    expect("longest image", pakzid_save(control, HEAP(n, r), image, most).length, most);
+    dirty();
+    expect("longest image loaded", pakzid_load(image, most, HEAP(n, r)).refusal, 0);
+}
+
+int main(void)
+{
+    small_heap();
+    whole();
+    cuts();
+    orders();
+    kinds();
+    hostile_lengths();
+    first_faults();
+    bodies();
+    sizes();
+    longest(1, 1);
+    longest(MOST_OBJECTS, MOST_ROOTS);
+    if (!failed)
+        printf("images: ok\n");
+    return failed;
+}
