@@ -83,6 +83,32 @@ pub laid-turn : (base k : ℕ) (h : ℕ → ℕ) (l m : List ℕ) (v : ℕ) → 
 unfolding laid
 laid-turn base k h l m v e f = let o : k + 1 ≡ suc k = omega arith in rw (o, e, f) refl
 
+-- the words from a place on, stored one after the other, with so many left
+pub record Storing (body : List ℕ) (from k : ℕ) (words₀ : List ℕ) (base : ℕ) (words : List ℕ) (at to left : ℕ) : Type 0 where
+  pub few : left ≤ k
+  pub place : at ≡ from + 4 * (k - left)
+  pub target : to ≡ base + (k - left)
+  pub long : length words ≡ length words₀
+  pub stored : words ≡ laid base (k - left) (λ i. numberAt 4 (from + 4 * i) body) words₀
+
+module _ (body : List ℕ) (from k : ℕ) (words₀ : List ℕ) (base : ℕ) where
+  pub storing-start : Storing body from k words₀ base words₀ from base k
+  storing-start =
+      let z : k - k ≡ 0 = omega arith in
+      record { few = omega arith; place = omega arith; target = omega arith; long = refl; stored = rw z (laid-none base _ words₀) }
+
+  pub storing-turn : (words : List ℕ) (at to left : ℕ) → Storing body from k words₀ base words at to left → left ≢ 0 → (v : ℕ) → v ≡ numberAt 4 at body
+      → Storing body from k words₀ base (set words to v) (at + 4) (to + 1) (left - 1)
+  storing-turn words at to left s d v e =
+      let z : k - (left - 1) ≡ k - left + 1 = omega (arith, s .few, d) in
+      record {
+        few = omega (arith, s .few);
+        place = omega (arith, s .place, s .few, d);
+        target = omega (arith, s .target, s .few, d);
+        long = length-set words to v ∙ s .long;
+        stored = rw (z, s .target) (laid-turn base (k - left) _ words₀ words v (s .stored) (e ∙ ap (λ (a : ℕ). numberAt 4 a body) (s .place)));
+      }
+
 -- words that all of a list's first k become
 pub laid-all : (k : ℕ) (h : ℕ → ℕ) (l : List ℕ) → laid 0 k h l ≡ eachFrom 0 k (λ j w. h j) l
 laid-all k h l =

@@ -7,45 +7,54 @@ use mathlib.Core.List.{List, [], _∷_, map}
 use mathlib.Core.Logic.{_≢_}
 use native.Mathlib.Decide.{decLe, ℕ-discrete}
 use native.Mathlib.Omega.{arith}
-use borrow.Author.Tests.{lt-ltb, eq-eqb, ne-eqb}
+use borrow.Author.Tests.{lt-ltb, eq-eqb, ne-eqb, eqb-false}
 use lib.Dec.{eqb, leb}
 use lib.ListN.{length, getD}
 use lib.Seq.{getD-drop}
 use Rattle.layout.specs.Limits.{objectMax}
 use Rattle.layout.specs.Word.{isNil, isPointer, isImmediate}
 use Rattle.layout.proofs.LimitLaws.{in-within, above-within}
-use Rattle.layout.proofs.WordLaws.{not-immediate, pointer-bound}
+use Rattle.layout.proofs.WordLaws.{pointer-bound}
 use Rattle.endian.specs.Bytes.{numberAt}
 use Rattle.bitmap.specs.Bits.{holds}
 use Rattle.rules.specs.Buffers.{allOf, allTo, numbers}
 use Rattle.rules.specs.Image.{headLen, listed, savedWidth, savedWord, savedWords, savedRoot, namesListed, wordsOk, objectsOk, rootsOk}
 use Rattle.rules.proofs.ListLaws.{allTo-at, allTo-all, same-numbers}
-use Rattle.rules.proofs.BoolLaws.{is-false}
-use Rattle.loads.specs.Bodies.{shapeOk, Reached, numberOf, widthAt, entryEnd, Fit, Listed, passes, wordsAt, rootsPass, Checked}
+use Rattle.rules.proofs.BoolLaws.{is-false, or-split}
+use Rattle.loads.specs.Bodies.{shapeOk, Reached, numberOf, widthAt, entryEnd, Fit, Listed, passes, wordsAt, WordsEnd, rootsPass, Checked}
 use Rattle.loads.proofs.PlaceLaws.{number-drop}
 use Rattle.loads.proofs.EntryLaws.{Entry, entry, fits, fit-reached, unlisted, ended, start}
 
 -- ---- one word
 
 module _ (i : Bool) (n : ℕ) (words : List ℕ) (w : ℕ) where
-  pub pass-nil : w ≡ 0 → true ≡ passes i n words w
-  unfolding passes isNil
-  pass-nil e = sym (rw (eq-eqb w 0 e) refl)
+  -- nil, or an immediate where these may stand
+  abbrev plain : Bool
+  plain = eqb w 0 || (i && leb (2 ^ 31) w)
 
-  pub pass-number : n ≤ objectMax → w ≢ 0 → w ≤ n → holds w words ≡ passes i n words w
-  unfolding passes isNil isPointer
-  pass-number m d p =
-      sym (rw (ne-eqb w 0 d, not-immediate w (omega arith), and-false i, in-within 1 n w (omega (arith, d)) p) refl)
+  module _ (f : w < 2 ^ 32) where
+    -- the first two tests and the third
+    as-plain : passes i n words w ≡ plain || (isPointer n w && holds w words)
+    unfolding passes isNil isImmediate
+    as-plain = rw (lt-ltb w (2 ^ 32) f) (ap (λ (b : Bool). (eqb w 0 || (i && b)) || (isPointer n w && holds w words)) (go (leb (2 ^ 31) w)))
+      where
+        go : (b : Bool) → b && true ≡ b
+        go true = refl
+        go false = refl
 
-  pub pass-high : n < w → w < 2 ^ 32 → i && leb (2 ^ 31) w ≡ passes i n words w
-  unfolding passes isNil isPointer isImmediate
-  pass-high p f =
-      sym (rw (ne-eqb w 0 (λ e. omega arith), above-within 1 n w p, lt-ltb w (2 ^ 32) f) (go i (leb (2 ^ 31) w)))
-    where
-      go : (a b : Bool) → (false || (a && (b && true))) || (false && holds w words) ≡ a && b
-      go true true = refl
-      go true false = refl
-      go false b = refl
+    pub pass-plain : plain ≡ true → true ≡ passes i n words w
+    pass-plain e = sym (as-plain ∙ rw e refl)
+
+    module _ (e : plain ≡ false) where
+      pub pass-above : n < w → false ≡ passes i n words w
+      unfolding isPointer
+      pass-above p = sym (as-plain ∙ rw (e, above-within 1 n w p) refl)
+
+      pub pass-number : w ≤ n → holds w words ≡ passes i n words w
+      unfolding isPointer
+      pass-number p =
+          let d = eqb-false w 0 (or-split (eqb w 0) (i && leb (2 ^ 31) w) e .0) in
+          sym (as-plain ∙ rw (e, in-within 1 n w (omega (arith, d)) p) refl)
 
 -- ---- words in turn
 
@@ -74,6 +83,66 @@ unfolding wordsAt
 all-start t at k body =
     let z : k - 0 ≡ k = omega arith in
     ap (λ (j : ℕ). allOf t (map (λ i. numberAt 4 (at + 4 * i) body) (numbers 0 j))) z
+
+-- ---- word after word, with so many left
+
+-- the words before place `at` pass, and those that are left decide
+pub record Testing (t : ℕ → Bool) (from k : ℕ) (body : List ℕ) (at left : ℕ) : Type 0 where
+  pub few : left ≤ k
+  pub place : at ≡ from + 4 * (k - left)
+  pub rest : allOf t (map (λ j. numberAt 4 (from + 4 * j) body) (numbers (k - left) (k - (k - left)))) ≡ allOf t (wordsAt from k body)
+
+module _ (t : ℕ → Bool) (from k : ℕ) (body : List ℕ) where
+  abbrev word : ℕ → ℕ
+  word i = numberAt 4 (from + 4 * i) body
+
+  pub testing-start : Testing t from k body from k
+  testing-start =
+      let z : k - k ≡ 0 = omega arith in
+      record { few = omega arith; place = omega arith; rest = rw z (all-start t from k body) }
+
+  module _ (at left : ℕ) (s : Testing t from k body at left) where
+    word-here : (b : Bool) → t (numberAt 4 at body) ≡ b → t (word (k - left)) ≡ b
+    word-here b e = ap (λ (a : ℕ). t (numberAt 4 a body)) (sym (s .place)) ∙ e
+
+    pub testing-stop : left ≢ 0 → t (numberAt 4 at body) ≡ false → WordsEnd from k (allOf t (wordsAt from k body)) 0
+    testing-stop d e =
+        let no = sym (s .rest) ∙ all-stop t word (k - left) k (omega (arith, s .few, d)) (word-here false e) in
+        record { passed = λ y. absurd (true≢false (sym y ∙ no)); stopped = λ y. refl }
+
+    pub testing-turn : left ≢ 0 → t (numberAt 4 at body) ≡ true → Testing t from k body (at + 4) (left - 1)
+    testing-turn d e =
+        let z : k - (left - 1) ≡ k - left + 1 = omega (arith, s .few, d) in
+        record {
+          few = omega (arith, s .few);
+          place = omega (arith, s .place, s .few, d);
+          rest = rw z (all-turn t word (k - left) k (omega (arith, s .few, d)) (word-here true e) ∙ s .rest);
+        }
+
+    pub testing-end : left ≡ 0 → WordsEnd from k (allOf t (wordsAt from k body)) at
+    testing-end d =
+        let yes = sym (s .rest) ∙ all-end t word (k - left) k (omega arith) in
+        record { passed = λ y. omega (arith, s .place); stopped = λ y. absurd (true≢false (sym yes ∙ y)) }
+
+-- ---- the place behind the words
+
+pub end-passed : (from k e : ℕ) (all : Bool) → WordsEnd from k all e → e ≢ 0 → all ≡ true
+end-passed from k e true w d = refl
+end-passed from k e false w d = absurd (d (w .stopped refl))
+
+pub end-stopped : (from k e : ℕ) (all : Bool) → WordsEnd from k all e → 1 ≤ from → e ≡ 0 → all ≡ false
+end-stopped from k e true w p z = absurd (omega (arith, w .passed refl))
+end-stopped from k e false w p z = refl
+
+-- of words from place 0 on
+pub end-all : (t : ℕ → Bool) (k e : ℕ) (body : List ℕ) → WordsEnd 0 k (allOf t (wordsAt 0 k body)) e → eqb e (4 * k) ≡ allOf t (wordsAt 0 k body)
+unfolding wordsAt allOf numbers
+end-all t zero e body w = eq-eqb e 0 (w .passed refl)
+end-all t (suc k) e body w = go (allOf t (wordsAt 0 (suc k) body)) (w .passed) (w .stopped)
+  where
+    go : (all : Bool) → (all ≡ true → e ≡ 0 + 4 * suc k) → (all ≡ false → e ≡ 0) → eqb e (4 * suc k) ≡ all
+    go true p q = eq-eqb e (4 * suc k) (let z = p refl in omega arith)
+    go false p q = ne-eqb e (4 * suc k) (λ z. absurd (let y = q refl in omega arith))
 
 allOf-same : (t u : ℕ → Bool) (l : List ℕ) → ((w : ℕ) → t w ≡ u w) → allOf t l ≡ allOf u l
 unfolding allOf

@@ -60,6 +60,11 @@ passes immediates n words w = isNil w || (immediates && isImmediate w) || (isPoi
 unfoldable pub wordsAt : ℕ → ℕ → List ℕ → List ℕ
 wordsAt at k body = map (λ i. numberAt 4 (at + 4 * i) body) (numbers 0 k)
 
+-- e is the place behind k words of four bytes from a place on, if all of them pass, and else 0
+pub record WordsEnd (from k : ℕ) (all : Bool) (e : ℕ) : Type 0 where
+  pub passed : all ≡ true → e ≡ from + 4 * k
+  pub stopped : all ≡ false → e ≡ 0
+
 -- the roots of a body of kind 3, tested by the set
 unfoldable pub rootsPass : ℕ → ℕ → List ℕ → List ℕ → Bool
 rootsPass n r words body = eqb (length body) (4 * r) && allOf (passes false n words) (wordsAt 0 r body)

@@ -7,7 +7,7 @@ ghost use Rattle.layout.specs.Field.{putFlag};
 ghost use Rattle.layout.specs.Limits.{objectMax};
 ghost use Rattle.rules.specs.Buffers.{allOf, allTo};
 ghost use Rattle.rules.specs.Image.{sizesOk, wordsOk, objectsOk};
-ghost use Rattle.loads.specs.Bodies.{shapeOk, Fit, Listed, Empty, passes, wordsAt, rootsPass};
+ghost use Rattle.loads.specs.Bodies.{shapeOk, Fit, Listed, Empty, passes, wordsAt, WordsEnd, rootsPass};
 use crate::words::head_byte;
 use crate::words::word_at;
 use bitmap::has_bit;
@@ -60,7 +60,7 @@ pub(crate) fn fits(n: u32, last: u32, body: &[u8], at: usize) -> bool
     if 1 < byte_at(body, at + 3) {
         return false;
     }
-    if left - 4 < 4 * width as usize {
+    if (left - 4) / 4 < width as usize {
         return false;
     }
     true
@@ -93,35 +93,38 @@ pub(crate) fn word_passes(immediates: bool, n: u32, word: u32, words: &[u64]) ->
     requires { ⌜ n ≤ objectMax ⌝ }
     ensures { λ b. ⌜ b ≡ passes immediates n (now (words .entry)) word ⌝ }
 {
-    if word == 0 {
+    if (word == 0) | (immediates & (0x8000_0000 <= word)) {
         return true;
     }
-    if word <= n {
-        return has_bit(words, (word % 4096) as usize);
+    if n < word {
+        return false;
     }
-    immediates && 0x8000_0000 <= word
+    has_bit(words, (word % 4096) as usize)
 }
 
-// Whether the k words from a place on pass.
-pub(crate) fn words_pass(
+// The place behind the k words from a place on, if all of them pass, and else 0. The place is counted on word by word, so that a caller who
+// goes on from there need not wait for k.
+pub(crate) fn words_end(
     immediates: bool,
     n: u32,
     body: &[u8],
-    at: usize,
-    k: usize,
+    from: usize,
+    k: u32,
     words: &[u64],
-) -> bool
-    requires { ⌜ (n ≤ objectMax) × (at + 4 * k ≤ length (now body)) ⌝ }
-    ensures { λ b. ⌜ b ≡ allOf (passes immediates n (now (words .entry))) (wordsAt at k (now (body .entry))) ⌝ }
+) -> usize
+    requires { ⌜ (n ≤ objectMax) × (from + 4 * k ≤ length (now body)) ⌝ }
+    ensures { λ e. ⌜ WordsEnd from k (allOf (passes immediates n (now (words .entry))) (wordsAt from k (now (body .entry)))) e ⌝ }
 {
-    let mut i: usize = 0;
-    while i < k {
-        if !word_passes(immediates, n, word_at(body, at + 4 * i), words) {
-            return false;
+    let mut at = from;
+    let mut left = k;
+    while left != 0 {
+        if !word_passes(immediates, n, word_at(body, at), words) {
+            return 0;
         }
-        i += 1;
+        at += 4;
+        left -= 1;
     }
-    true
+    at
 }
 
 // Whether the words of every listed object are legal.
@@ -131,11 +134,11 @@ pub(crate) fn words_ok(n: u32, body: &[u8], words: &[u64]) -> bool
 {
     let mut at: usize = 0;
     while at < body.len() {
-        let width = head_byte(body, at, 2) as usize;
-        if !words_pass(true, n, body, at + 4, width, words) {
+        let width = head_byte(body, at, 2);
+        at = words_end(true, n, body, at + 4, width, words);
+        if at == 0 {
             return false;
         }
-        at += 4 + 4 * width;
     }
     true
 }
@@ -161,5 +164,5 @@ pub(crate) fn roots_ok(n: u32, r: u32, body: &[u8], words: &[u64]) -> bool
     if body.len() != 4 * k {
         return false;
     }
-    words_pass(false, n, body, 0, k, words)
+    words_end(false, n, body, 0, r, words) == 4 * k
 }

@@ -18,19 +18,25 @@ use records::new_record;
 use records::with_sink;
 use table::buffers::zero;
 
-// The k words from a place of a body on, stored from place `base` on.
-pub(crate) fn lay_words(body: &[u8], at: usize, k: usize, words: &mut [u32], base: usize)
-    requires { ⌜ (at + 4 * k ≤ length (now body)) × (base + k ≤ length (now words)) ⌝ }
-    ensures { λ _. ⌜ now (words .exit) ≡ laid base k (λ i. numberAt 4 (at + 4 * i) (now (body .entry))) (now (words .entry)) ⌝ }
+// The k words from a place of a body on, stored from place `base` on. The place behind them is counted on word by word and answered, so that
+// a caller who goes on from there need not wait for k.
+pub(crate) fn lay_words(body: &[u8], from: usize, k: u32, words: &mut [u32], base: usize) -> usize
+    requires { ⌜ (from + 4 * k ≤ length (now body)) × (base + k ≤ length (now words)) ⌝ }
+    ensures { λ e. ⌜ (e ≡ from + 4 * k) × (now (words .exit) ≡ laid base k (λ i. numberAt 4 (from + 4 * i) (now (body .entry))) (now (words .entry))) ⌝ }
 {
-    let mut i: usize = 0;
-    while i < k {
-        words[base + i] = word_at(body, at + 4 * i);
-        i += 1;
+    let mut at = from;
+    let mut to = base;
+    let mut left = k;
+    while left != 0 {
+        words[to] = word_at(body, at);
+        at += 4;
+        to += 1;
+        left -= 1;
     }
+    at
 }
 
-// The records and the words of the listed objects. By the remainder, which is the width itself, the compiler knows that the words are few.
+// The records and the words of the listed objects.
 pub(crate) fn lay_objects(n: u32, body: &[u8], records: &mut [u32], slots: &mut [u32])
     requires { ⌜ Roomy n (now body) (now records) (now slots) ⌝ }
     ensures { λ _. ⌜ now (records .exit) ≡ eachRecord n (recordOr (now (body .entry))) (now (records .entry)) ⌝ }
@@ -39,10 +45,9 @@ pub(crate) fn lay_objects(n: u32, body: &[u8], records: &mut [u32], slots: &mut 
     let mut at: usize = 0;
     while at < body.len() {
         let i = number_at(body, at) - 1;
-        let width = head_byte(body, at, 2) % 16;
+        let width = head_byte(body, at, 2);
         records[i as usize] = with_sink(new_record(width), head_byte(body, at, 3) == 1);
-        lay_words(body, at + 4, width as usize, slots, slots_len(i));
-        at += 4 + 4 * width as usize;
+        at = lay_words(body, at + 4, width, slots, slots_len(i));
     }
 }
 
@@ -68,5 +73,5 @@ pub(crate) fn lay(
     let objects = second + FRONT;
     lay_objects(n, &image[objects..third], records, slots);
     let words = third + FRONT;
-    lay_words(&image[words..end], 0, r as usize, roots, 0);
+    lay_words(&image[words..end], 0, r, roots, 0);
 }

@@ -42,9 +42,6 @@ returns-5 c = (λ e. absurd (false≢true e), λ f. absurd (omega (arith, f .sin
 cast-if6 : tie.Need-cast-if6
 cast-if6 c = search needs
 
-mul-if6 : tie.Need-mul-if6
-mul-if6 c = search needs
-
 returns-6 : tie.Need-returns-6
 returns-6 c = (λ e. absurd (false≢true e), λ f. absurd (omega (arith, f .whole)))
 
@@ -67,6 +64,5 @@ fits-spec =
     byte-at-requires-2
     returns-5
     cast-if6
-    mul-if6
     returns-6
     returns-7)

@@ -79,7 +79,7 @@ returns c =
       records-laid _ _ _ _ _ _ (c .before .before .before .before .before .before .before .before .before .before .before .before .before .before .before .before .before .before .before .before .zero .ensures) (o .0) objects,
       (
         slots-laid _ _ _ _ _ _ _ (c .before .before .before .before .before .before .before .before .before .before .before .before .before .before .before .before .slots-len .ensures) (c .before .before .before .before .before .before .before .before .before .before .before .before .before .before .before .zero2 .ensures) (o .1) objects,
-        roots-laid _ _ _ _ _ (c .before .before .lay-words .ensures) (body-at _ 2 _ (third-at (c .before .before .before .before .before .before .before .before .before .before .before .before .before .before .before .before .before .before .before .before .before .before .before)) _ (c .before .before .before .before .before .before .before .before .before .before .before .before .before .before .before .before .before .before .before .before .before .before .end-of3 .ensures)),
+        roots-laid _ _ _ _ _ (c .before .before .lay-words .ensures .1) (body-at _ 2 _ (third-at (c .before .before .before .before .before .before .before .before .before .before .before .before .before .before .before .before .before .before .before .before .before .before .before)) _ (c .before .before .before .before .before .before .before .before .before .before .before .before .before .before .before .before .before .before .before .before .before .before .end-of3 .ensures)),
       ),
     )
 

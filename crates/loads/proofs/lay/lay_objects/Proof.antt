@@ -1,9 +1,9 @@
 -- `loads::lay::lay_objects` lays object after object. Assumes nothing.
 use mathlib.Core.Path.{_≡_, refl, ap, _∙_}
-use Prim.Native.Nat.{ℕ, _-_, _%_}
+use Prim.Native.Nat.{ℕ, _-_}
 use lib.ListN.{length}
 use Rattle.layout.specs.Limits.{slotsLen}
-use Rattle.loads.specs.Bodies.{Fit, widthAt}
+use Rattle.loads.specs.Bodies.{Fit, widthAt, entryEnd}
 use Rattle.loads.proofs.LayLaws.{Laying, laying-start, laying-records, laying-slots, laying-fit, laying-turn, laid-records, laid-slots}
 use borrow.Author.Needs.{needs}
 use native.Mathlib.Omega.{arith}
@@ -52,9 +52,6 @@ slice-write-records c = omega (arith, fit-at (c .before .before .before .before 
 add-lay-words : tie.Need-add-lay-words Inv-loop μ-loop
 add-lay-words c = omega arith
 
-cast-lay-words : tie.Need-cast-lay-words Inv-loop μ-loop
-cast-lay-words c = omega arith
-
 slots-len-requires : tie.Need-slots-len-requires Inv-loop μ-loop
 slots-len-requires c κs = search needs
 
@@ -62,20 +59,11 @@ lay-words-requires : tie.Need-lay-words-requires Inv-loop μ-loop
 unfolding slotsLen
 lay-words-requires c κs = (omega (arith, fit-at (c .before .before .before .before .before .before .before) .whole, c .before .before .before .before .before .head-byte .ensures), omega (arith, fit-at (c .before .before .before .before .before .before .before) .above, fit-at (c .before .before .before .before .before .before .before) .most, fit-at (c .before .before .before .before .before .before .before) .wide, c .before .before .before .before .before .before .number-at .ensures, c .before .before .before .before .before .head-byte .ensures, c .slots-len .ensures, c .before .before .before .before .before .before .before .before .before .before .before .before .pre .slots-room, laying-slots _ _ _ _ _ _ _ (c .before .before .before .before .before .before .before .before .loop .inv)))
 
-cast-at : tie.Need-cast-at Inv-loop μ-loop
-cast-at c = omega arith
-
-mul-at : tie.Need-mul-at Inv-loop μ-loop
-mul-at c = omega arith
-
-add-at : tie.Need-add-at Inv-loop μ-loop
-add-at c = omega arith
-
-add-at-2 : tie.Need-add-at-2 Inv-loop μ-loop
-add-at-2 c = omega arith
+next-at : (c : tie.After-lay-words Inv-loop μ-loop) → c .lay-words .result ≡ entryEnd (c .before .before .before .before .before .before .before .before .before .before .before .before .before .args .body .now) (c .before .before .before .before .before .before .before .before .before .loop .at)
+next-at c = omega (arith, c .lay-words .ensures .0, c .before .before .before .before .before .before .head-byte .ensures)
 
 loop-less : tie.Need-loop-less Inv-loop μ-loop
-loop-less c = omega arith
+loop-less c = omega (arith, next-at (c .before .before), fit-at (c .before .before .before .before .before .before .before .before .before .before) .whole)
 
 loop-again : tie.Need-loop-again Inv-loop μ-loop
 unfolding slotsLen
@@ -83,13 +71,14 @@ loop-again c =
     let s = c .before .before .before .before .before .before .before .before .before .before .before .before .before .before .before in
     let b = c .before .before .before .before .before .before .before .before in
     let i = b .before .before .before in
-    let w : b .head-byte .result % 16 ≡ widthAt (s .args .body .now) (i .loop .at) = omega (arith, b .head-byte .ensures, fit-at (b .before .before) .wide) in
-    laying-turn _ _ _ _ _ _ _ (i .loop .inv) (s .pre .shape) (b .before .before .loop-test .taken) _ _ _ _ _
+    let w = b .head-byte .ensures in
+    rw (next-at (c .before .before))
+    (laying-turn _ _ _ _ _ _ _ (i .loop .inv) (s .pre .shape) (b .before .before .loop-test .taken) _ _ _ _ _
     (ap (λ (z : ℕ). z - 1) (b .before .number-at .ensures))
     (c .before .before .before .before .before .with-sink .ensures ∙ rw (c .before .before .before .before .before .before .before .new-record .ensures, w, c .before .before .before .before .before .before .head-byte2 .ensures) refl)
     refl
-    w
-    (c .before .before .lay-words .ensures ∙ rw (c .before .before .before .slots-len .ensures) refl)
+    refl
+    (c .before .before .lay-words .ensures .1 ∙ rw (c .before .before .before .slots-len .ensures, w) refl))
 
 same-length : tie.Need-same-length Inv-loop μ-loop
 same-length c = laying-records _ _ _ _ _ _ _ (c .before .loop .inv)
@@ -117,13 +106,8 @@ lay-objects-spec =
     mul-records
     slice-write-records
     add-lay-words
-    cast-lay-words
     slots-len-requires
     lay-words-requires
-    cast-at
-    mul-at
-    add-at
-    add-at-2
     loop-less
     loop-again
     same-length
