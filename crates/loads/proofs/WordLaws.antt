@@ -21,7 +21,7 @@ use Rattle.rules.specs.Buffers.{allOf, allTo, numbers}
 use Rattle.rules.specs.Image.{headLen, listed, savedWidth, savedWord, savedWords, savedRoot, namesListed, wordsOk, objectsOk, rootsOk}
 use Rattle.rules.proofs.ListLaws.{allTo-at, allTo-all, same-numbers}
 use Rattle.rules.proofs.BoolLaws.{is-false, or-split}
-use Rattle.loads.specs.Bodies.{shapeOk, Reached, numberOf, widthAt, entryEnd, Fit, Listed, passes, wordsAt, WordsEnd, rootsPass, Checked}
+use Rattle.loads.specs.Bodies.{shapeOk, Reached, numberOf, widthAt, entryEnd, Fit, Listed, passes, wordsAt, fourPass, WordsEnd, rootsPass, Checked}
 use Rattle.loads.proofs.PlaceLaws.{number-drop}
 use Rattle.loads.proofs.EntryLaws.{Entry, entry, fits, fit-reached, unlisted, ended, start}
 
@@ -123,6 +123,73 @@ module _ (t : ℕ → Bool) (from k : ℕ) (body : List ℕ) where
     testing-end d =
         let yes = sym (s .rest) ∙ all-end t word (k - left) k (omega arith) in
         record { passed = λ y. omega (arith, s .place); stopped = λ y. absurd (true≢false (sym yes ∙ y)) }
+
+-- ---- the first four of k words, and the others
+
+shift : (f : ℕ → ℕ) (a k : ℕ) → map f (numbers (suc a) k) ≡ map (λ i. f (suc i)) (numbers a k)
+unfolding numbers
+shift f a zero = refl
+shift f a (suc k) = ap (λ (l : List ℕ). f (suc a) ∷ l) (shift f (suc a) k)
+
+module _ (t : ℕ → Bool) (from : ℕ) (body : List ℕ) where
+  past-four : (k : ℕ) → map (λ i. numberAt 4 (from + 4 * i) body) (numbers 4 k) ≡ wordsAt (from + 16) k body
+  unfolding wordsAt
+  past-four k =
+      shift (λ i. numberAt 4 (from + 4 * i) body) 3 k ∙ shift (λ i. numberAt 4 (from + 4 * suc i) body) 2 k
+      ∙ shift (λ i. numberAt 4 (from + 4 * suc (suc i)) body) 1 k ∙ shift (λ i. numberAt 4 (from + 4 * suc (suc (suc i))) body) 0 k
+      ∙ same-numbers _ _ 0 k (λ i p q. ap (λ (a : ℕ). numberAt 4 a body) (let e : from + 4 * suc (suc (suc (suc i))) ≡ from + 16 + 4 * i = omega arith in e))
+
+  joined : (a b c d r : Bool) → a && (b && (c && (d && r))) ≡ (a && b && c && d) && r
+  joined true true true d r = refl
+  joined true true false d r = refl
+  joined true false c d r = refl
+  joined false b c d r = refl
+
+  -- the four tested one by one
+  pub four-one : t (numberAt 4 from body) ≡ false → false ≡ fourPass t from body
+  unfolding fourPass
+  four-one e = sym (rw e refl)
+
+  pub four-two : t (numberAt 4 from body) ≡ true → t (numberAt 4 (from + 4) body) ≡ false → false ≡ fourPass t from body
+  unfolding fourPass
+  four-two e f = sym (rw (e, f) refl)
+
+  pub four-three : t (numberAt 4 from body) ≡ true → t (numberAt 4 (from + 4) body) ≡ true → t (numberAt 4 (from + 8) body) ≡ false → false ≡ fourPass t from body
+  unfolding fourPass
+  four-three e f g = sym (rw (e, f, g) refl)
+
+  pub four-all : t (numberAt 4 from body) ≡ true → t (numberAt 4 (from + 4) body) ≡ true → t (numberAt 4 (from + 8) body) ≡ true
+      → t (numberAt 4 (from + 12) body) ≡ fourPass t from body
+  unfolding fourPass
+  four-all e f g = sym (rw (e, f, g) refl)
+
+  by-four : (j : ℕ) → allOf t (wordsAt from (suc (suc (suc (suc j)))) body) ≡ fourPass t from body && allOf t (wordsAt (from + 16) j body)
+  unfolding fourPass wordsAt allOf numbers
+  by-four j =
+      let z : from + 0 ≡ from = omega arith in
+      rw (z, past-four j)
+      (joined (t (numberAt 4 from body)) (t (numberAt 4 (from + 4) body)) (t (numberAt 4 (from + 8) body)) (t (numberAt 4 (from + 12) body)) (allOf t (wordsAt (from + 16) j body)))
+
+  pub four-first : (k : ℕ) → 4 ≤ k → allOf t (wordsAt from k body) ≡ fourPass t from body && allOf t (wordsAt (from + 16) (k - 4) body)
+  four-first k p =
+      let e : k ≡ suc (suc (suc (suc (k - 4)))) = omega arith in
+      ap (λ (m : ℕ). allOf t (wordsAt from m body)) e ∙ by-four (k - 4)
+
+-- the place behind them, by the two parts
+end-four : (from k e : ℕ) (all four rest : Bool) → 4 ≤ k → all ≡ four && rest → four ≡ true → WordsEnd (from + 16) (k - 4) rest e → WordsEnd from k all e
+end-four from k e all true rest p q r w = rw q (record { passed = λ y. omega (arith, w .passed y); stopped = w .stopped })
+end-four from k e all false rest p q r w = absurd (true≢false (sym r))
+
+module _ (t : ℕ → Bool) (from k : ℕ) (body : List ℕ) (at left e : ℕ) (w : WordsEnd at left (allOf t (wordsAt at left body)) e) where
+  pub end-after-four : at ≡ from + 16 → left ≡ k - 4 → 4 ≤ k → fourPass t from body ≡ true → WordsEnd from k (allOf t (wordsAt from k body)) e
+  end-after-four p q l f = end-four from k e _ (fourPass t from body) _ l (four-first t from body k l) f (rw (p, q) at w)
+
+  pub end-of-all : at ≡ from → left ≡ k → WordsEnd from k (allOf t (wordsAt from k body)) e
+  end-of-all p q = rw (p, q) at w
+
+pub end-none : (from k : ℕ) (all four rest : Bool) → all ≡ four && rest → four ≡ false → WordsEnd from k all 0
+end-none from k all true rest q r = absurd (true≢false r)
+end-none from k all false rest q r = rw q (record { passed = λ y. absurd (true≢false (sym y)); stopped = λ y. refl })
 
 -- ---- the place behind the words
 

@@ -60,6 +60,10 @@ passes immediates n words w = isNil w || (immediates && isImmediate w) || (isPoi
 unfoldable pub wordsAt : ℕ → ℕ → List ℕ → List ℕ
 wordsAt at k body = map (λ i. numberAt 4 (at + 4 * i) body) (numbers 0 k)
 
+-- the four words from a place on pass a test
+unfoldable pub fourPass : (ℕ → Bool) → ℕ → List ℕ → Bool
+fourPass t at body = t (numberAt 4 at body) && t (numberAt 4 (at + 4) body) && t (numberAt 4 (at + 8) body) && t (numberAt 4 (at + 12) body)
+
 -- e is the place behind k words of four bytes from a place on, if all of them pass, and else 0
 pub record WordsEnd (from k : ℕ) (all : Bool) (e : ℕ) : Type 0 where
   pub passed : all ≡ true → e ≡ from + 4 * k

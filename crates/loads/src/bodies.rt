@@ -7,7 +7,7 @@ ghost use Rattle.layout.specs.Field.{putFlag};
 ghost use Rattle.layout.specs.Limits.{objectMax};
 ghost use Rattle.rules.specs.Buffers.{allOf, allTo};
 ghost use Rattle.rules.specs.Image.{sizesOk, wordsOk, objectsOk};
-ghost use Rattle.loads.specs.Bodies.{shapeOk, Fit, Listed, Empty, passes, wordsAt, WordsEnd, rootsPass};
+ghost use Rattle.loads.specs.Bodies.{shapeOk, Fit, Listed, Empty, passes, wordsAt, fourPass, WordsEnd, rootsPass};
 use crate::words::head_byte;
 use crate::words::word_at;
 use bitmap::has_bit;
@@ -102,9 +102,26 @@ pub(crate) fn word_passes(immediates: bool, n: u32, word: u32, words: &[u64]) ->
     has_bit(words, (word % 4096) as usize)
 }
 
+// Whether the four words from a place on pass.
+pub(crate) fn four_pass(immediates: bool, n: u32, body: &[u8], at: usize, words: &[u64]) -> bool
+    requires { ⌜ (n ≤ objectMax) × (at + 16 ≤ length (now body)) ⌝ }
+    ensures { λ b. ⌜ b ≡ fourPass (passes immediates n (now (words .entry))) at (now (body .entry)) ⌝ }
+{
+    if !word_passes(immediates, n, word_at(body, at), words) {
+        return false;
+    }
+    if !word_passes(immediates, n, word_at(body, at + 4), words) {
+        return false;
+    }
+    if !word_passes(immediates, n, word_at(body, at + 8), words) {
+        return false;
+    }
+    word_passes(immediates, n, word_at(body, at + 12), words)
+}
+
 // The place behind the k words from a place on, if all of them pass, and else 0. The place is counted on word by word, so that a caller who
 // goes on from there need not wait for k.
-pub(crate) fn words_end(
+pub(crate) fn rest_end(
     immediates: bool,
     n: u32,
     body: &[u8],
@@ -125,6 +142,30 @@ pub(crate) fn words_end(
         left -= 1;
     }
     at
+}
+
+// The same, with the first four words at once where there are as many.
+pub(crate) fn words_end(
+    immediates: bool,
+    n: u32,
+    body: &[u8],
+    from: usize,
+    k: u32,
+    words: &[u64],
+) -> usize
+    requires { ⌜ (n ≤ objectMax) × (from + 4 * k ≤ length (now body)) ⌝ }
+    ensures { λ e. ⌜ WordsEnd from k (allOf (passes immediates n (now (words .entry))) (wordsAt from k (now (body .entry)))) e ⌝ }
+{
+    let mut at = from;
+    let mut left = k;
+    if 3 < k {
+        if !four_pass(immediates, n, body, from, words) {
+            return 0;
+        }
+        at += 16;
+        left -= 4;
+    }
+    rest_end(immediates, n, body, at, left, words)
 }
 
 // Whether the words of every listed object are legal.
@@ -164,5 +205,5 @@ pub(crate) fn roots_ok(n: u32, r: u32, body: &[u8], words: &[u64]) -> bool
     if body.len() != 4 * k {
         return false;
     }
-    words_end(false, n, body, 0, r, words) == 4 * k
+    rest_end(false, n, body, 0, r, words) == 4 * k
 }
