@@ -175,21 +175,33 @@ module _ (t : ℕ → Bool) (from : ℕ) (body : List ℕ) where
       let e : k ≡ suc (suc (suc (suc (k - 4)))) = omega arith in
       ap (λ (m : ℕ). allOf t (wordsAt from m body)) e ∙ by-four (k - 4)
 
--- the place behind them, by the two parts
-end-four : (from k e : ℕ) (all four rest : Bool) → 4 ≤ k → all ≡ four && rest → four ≡ true → WordsEnd (from + 16) (k - 4) rest e → WordsEnd from k all e
-end-four from k e all true rest p q r w = rw q (record { passed = λ y. omega (arith, w .passed y); stopped = w .stopped })
-end-four from k e all false rest p q r w = absurd (true≢false (sym r))
+-- the words before place `at` pass, four at a time, and those that are left decide
+pub record Halfway (t : ℕ → Bool) (from k : ℕ) (body : List ℕ) (at left : ℕ) : Type 0 where
+  pub few : left ≤ k
+  pub place : at ≡ from + 4 * (k - left)
+  pub same : allOf t (wordsAt at left body) ≡ allOf t (wordsAt from k body)
 
-module _ (t : ℕ → Bool) (from k : ℕ) (body : List ℕ) (at left e : ℕ) (w : WordsEnd at left (allOf t (wordsAt at left body)) e) where
-  pub end-after-four : at ≡ from + 16 → left ≡ k - 4 → 4 ≤ k → fourPass t from body ≡ true → WordsEnd from k (allOf t (wordsAt from k body)) e
-  end-after-four p q l f = end-four from k e _ (fourPass t from body) _ l (four-first t from body k l) f (rw (p, q) at w)
+module _ (t : ℕ → Bool) (from k : ℕ) (body : List ℕ) where
+  pub halfway-start : Halfway t from k body from k
+  halfway-start = record { few = omega arith; place = omega arith; same = refl }
 
-  pub end-of-all : at ≡ from → left ≡ k → WordsEnd from k (allOf t (wordsAt from k body)) e
-  end-of-all p q = rw (p, q) at w
+  module _ (at left : ℕ) (s : Halfway t from k body at left) where
+    pub halfway-stop : 3 < left → fourPass t at body ≡ false → WordsEnd from k (allOf t (wordsAt from k body)) 0
+    halfway-stop p e =
+        let no = sym (s .same) ∙ four-first t at body left p ∙ ap (λ (b : Bool). b && allOf t (wordsAt (at + 16) (left - 4) body)) e in
+        record { passed = λ y. absurd (true≢false (sym y ∙ no)); stopped = λ y. refl }
 
-pub end-none : (from k : ℕ) (all four rest : Bool) → all ≡ four && rest → four ≡ false → WordsEnd from k all 0
-end-none from k all true rest q r = absurd (true≢false r)
-end-none from k all false rest q r = rw q (record { passed = λ y. absurd (true≢false (sym y)); stopped = λ y. refl })
+    pub halfway-turn : 3 < left → fourPass t at body ≡ true → Halfway t from k body (at + 16) (left - 4)
+    halfway-turn p e =
+        record {
+          few = omega (arith, s .few);
+          place = omega (arith, s .place, s .few);
+          same = sym (four-first t at body left p ∙ ap (λ (b : Bool). b && allOf t (wordsAt (at + 16) (left - 4) body)) e) ∙ s .same;
+        }
+
+    pub halfway-end : (e : ℕ) → WordsEnd at left (allOf t (wordsAt at left body)) e → WordsEnd from k (allOf t (wordsAt from k body)) e
+    halfway-end e w =
+        record { passed = λ y. omega (arith, w .passed (s .same ∙ y), s .place, s .few); stopped = λ y. w .stopped (s .same ∙ y) }
 
 -- ---- the place behind the words
 

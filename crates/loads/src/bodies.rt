@@ -144,7 +144,7 @@ pub(crate) fn rest_end(
     at
 }
 
-// The same, with the first four words at once where there are as many.
+// The same, four words at a time as long as there are as many.
 pub(crate) fn words_end(
     immediates: bool,
     n: u32,
@@ -158,8 +158,8 @@ pub(crate) fn words_end(
 {
     let mut at = from;
     let mut left = k;
-    if 3 < k {
-        if !four_pass(immediates, n, body, from, words) {
+    while 3 < left {
+        if !four_pass(immediates, n, body, at, words) {
             return 0;
         }
         at += 16;

@@ -1,33 +1,58 @@
--- `loads::bodies::words_end` tests four words, then the others. Assumes nothing.
+-- `loads::bodies::words_end` tests four words at a time, then the others. Assumes nothing.
 use mathlib.Core.Path.{sym, _∙_}
-use mathlib.Core.Logic.{⊎-elim}
 use native.Mathlib.Omega.{arith}
 use borrow.Author.Tests.{not-true, not-false}
 use borrow.Author.Needs.{needs}
-use Rattle.loads.proofs.WordLaws.{four-first, end-none, end-after-four, end-of-all}
+use Rattle.loads.specs.Bodies.{passes}
+use Rattle.loads.proofs.WordLaws.{Halfway, halfway-start, halfway-stop, halfway-turn, halfway-end}
 use Rattle.loads.proofs.bodies.words_end.Statement.{statement}
 use Rattle.loads.proofs.bodies.words_end.Tie as tie
 
-four-pass-requires : tie.Need-four-pass-requires
-four-pass-requires c κs = search needs
+abbrev Inv-loop : tie.InvT-loop
+Inv-loop immediates n body from k words at₀ left₀ at left = Halfway (passes immediates n words) from k body at left
 
-returns : tie.Need-returns
-returns c = end-none _ _ _ _ _ (four-first _ _ _ _ (omega arith)) (sym (c .before .four-pass .ensures) ∙ not-true _ (c .if2 .taken))
+abbrev μ-loop : tie.MeasureT-loop
+μ-loop immediates n body from k words at₀ left₀ at left = left
 
-add-at : tie.Need-add-at
-add-at c = search needs
+loop-holds : tie.Need-loop-holds Inv-loop μ-loop
+loop-holds c = halfway-start _ _ _ _
 
-sub-left : tie.Need-sub-left
-sub-left c = search needs
+four-pass-requires : tie.Need-four-pass-requires Inv-loop μ-loop
+four-pass-requires c κs = let s = c .before .loop .inv in (c .before .before .before .before .pre .0, omega (arith, s .place, s .few, c .before .before .before .before .pre .1))
 
-rest-end-requires : tie.Need-rest-end-requires
-rest-end-requires c κs = (c .before .before .before .pre .0, ⊎-elim (λ w. omega arith) (λ w. omega arith) (c .if1 .came))
+returns : tie.Need-returns Inv-loop μ-loop
+returns c = halfway-stop _ _ _ _ _ _ (c .before .before .before .loop .inv) (c .before .before .loop-test .taken) (sym (c .before .four-pass .ensures) ∙ not-true _ (c .if1 .taken))
 
-returns-2 : tie.Need-returns-2
-returns-2 c =
-    ⊎-elim
-    (λ w. end-after-four _ _ _ _ _ _ _ (c .rest-end .ensures) (w .3) (w .4) (omega arith) (sym (w .1 .ensures) ∙ not-false _ (w .2 .left)))
-    (λ w. end-of-all _ _ _ _ _ _ _ (c .rest-end .ensures) (w .1) (w .2)) (c .before .if1 .came)
+add-at : tie.Need-add-at Inv-loop μ-loop
+add-at c = let s = c .before .before .before .loop .inv in omega (arith, s .place, s .few, c .before .before .before .before .before .before .pre .1)
+
+sub-left : tie.Need-sub-left Inv-loop μ-loop
+sub-left c = omega arith
+
+loop-less : tie.Need-loop-less Inv-loop μ-loop
+loop-less c = omega arith
+
+loop-again : tie.Need-loop-again Inv-loop μ-loop
+loop-again c = halfway-turn _ _ _ _ _ _ (c .before .before .before .loop .inv) (c .before .before .loop-test .taken) (sym (c .before .four-pass .ensures) ∙ not-false _ (c .if1 .left))
+
+rest-end-requires : tie.Need-rest-end-requires Inv-loop μ-loop
+rest-end-requires c κs = let s = c .before .loop .inv in (c .before .before .before .before .pre .0, omega (arith, s .place, s .few, c .before .before .before .before .pre .1))
+
+returns-2 : tie.Need-returns-2 Inv-loop μ-loop
+returns-2 c = halfway-end _ _ _ _ _ _ (c .before .before .loop .inv) _ (c .rest-end .ensures)
 
 pub words-end-spec : {M : Type 1} → statement M
-words-end-spec = tie.close (tie.spec four-pass-requires returns add-at sub-left rest-end-requires returns-2)
+words-end-spec =
+    tie.close
+    (tie.spec
+    Inv-loop
+    μ-loop
+    loop-holds
+    four-pass-requires
+    returns
+    add-at
+    sub-left
+    loop-less
+    loop-again
+    rest-end-requires
+    returns-2)
