@@ -307,8 +307,8 @@ pakzid_saved pakzid_save(pakzid_control control,
  * The image may come from anywhere: all of it is tested before the first store,
  * and what is accepted is a heap without damage. The buffers may be those of a
  * heap in use: a refused load changes none of them, and that heap goes on with
- * its own control record (that of the answer is all 0). Takes about 600 bytes of
- * stack.
+ * its own control record (that of the answer is all 0). Takes less than 1,000
+ * bytes of stack.
  * Tests: at each chunk 26, 27, 28, and last 2.
  */
 pakzid_done pakzid_load(const uint8_t *image, size_t image_length,

@@ -19,7 +19,7 @@ use Rattle.rules.specs.Buffers.{eachFrom, eachRecord, zeros, allTo}
 use Rattle.rules.specs.Image.{frontLen, bodyLen, bodyOf, past, savedRoot, left, shaped, wordsOk, objectsOk, rootsOk}
 use Rattle.rules.specs.Load as Load
 use Rattle.rules.specs.Load.{imageN, imageR, imageTests, chunkTests, loadedRecord, loadedWord, rootWords}
-use Rattle.rules.proofs.ListLaws.{each-same, each-each, length-each}
+use Rattle.rules.proofs.ListLaws.{each-same, each-each}
 use Rattle.rules.proofs.BoolLaws.{and-split}
 use Rattle.table.specs.Room.{heapShort}
 use Rattle.table.proofs.RoomLaws.{heap-long}
@@ -85,10 +85,6 @@ each-const i j (suc k) (w ∷ l) = ap (λ (r : List ℕ). 0 ∷ r) (each-const (
 each-zeros : (i k : ℕ) (g : ℕ → ℕ → ℕ) (l : List ℕ) → eachFrom i k g (zeros k l) ≡ eachFrom i k (λ x w. g x 0) l
 unfolding zeros
 each-zeros i k g l = ap (eachFrom i k g) (each-const 0 i k l) ∙ each-each i k (λ x w. 0) g l
-
-pub length-zeros : (k : ℕ) (l : List ℕ) → length (zeros k l) ≡ length l
-unfolding zeros
-length-zeros k l = length-each 0 k (λ i w. 0) l
 
 module _ (n : ℕ) (image : List ℕ) where
   pub records-laid : (recs recs₁ recs₂ body : List ℕ) → recs₁ ≡ zeros n recs → recs₂ ≡ eachRecord n (recordOr body) recs₁ → body ≡ bodyOf (past 1 image)

@@ -2,7 +2,7 @@
 -- Assumes nothing.
 use Prim.Native.Nat.{ℕ, zero, suc, _+_, _-_, _*_, _^_, _≤_, _<_}
 use mathlib.Core.Path.{_≡_, refl, sym, ap, ap₂, _∙_}
-use mathlib.Core.Bool.{Bool, true, false, _&&_, _||_, and-false, true≢false}
+use mathlib.Core.Bool.{Bool, true, false, _&&_, _||_, true≢false}
 use mathlib.Core.List.{List, [], _∷_, map}
 use mathlib.Core.Logic.{_≢_}
 use native.Mathlib.Decide.{decLe, ℕ-discrete}
@@ -11,7 +11,6 @@ use borrow.Author.Tests.{lt-ltb, eq-eqb, ne-eqb, eqb-false}
 use lib.Dec.{eqb, leb}
 use lib.ListN.{length, getD}
 use lib.Seq.{getD-drop}
-use Rattle.layout.specs.Limits.{objectMax}
 use Rattle.layout.specs.Word.{isNil, isPointer, isImmediate}
 use Rattle.layout.proofs.LimitLaws.{in-within, above-within}
 use Rattle.layout.proofs.WordLaws.{pointer-bound}

@@ -1,29 +1,27 @@
--- What an accepted image is: three chunks in their places with bodies that are right, and a heap in them whose image can be written.
+-- What an accepted image is: three chunks in their places with bodies that are right, and the heap in them.
 -- Assumes nothing.
 use Prim.Native.Nat.{ℕ, zero, suc, _+_, _-_, _*_, _≤_, _<_}
-use mathlib.Core.Path.{_≡_, refl, sym, ap, subst, _∙_}
+use mathlib.Core.Path.{_≡_, refl, sym, ap, _∙_}
 use mathlib.Core.Bool.{Bool, true, false, not, cond, _&&_, _||_, true≢false}
 use mathlib.Core.List.{List, [], _∷_, map, List·Memᴰ}
 use mathlib.Core.Logic.{_⊎_, inl, inr}
-use native.Mathlib.Decide.{decLe}
 use native.Mathlib.Omega.{arith}
 use lib.Dec.{eqb, leb, ltb}
-use lib.ListN.{length, length-drop, List·getD-eq-default}
+use lib.ListN.{length, length-drop}
 use borrow.Author.Tests.{ltb-false, leb-true, eqb-true, not-true, not-false, lt-ltb, ne-eqb}
 use Rattle.layout.specs.ControlRecord.{badSizes}
 use Rattle.layout.specs.Refusal.{first}
-use Rattle.layout.specs.Word.{isNil, isPointer, isImmediate}
+use Rattle.layout.specs.Word.{isNil, isImmediate}
 use Rattle.layout.proofs.BoolLaws.{or-split, and-split}
 use Rattle.layout.proofs.LimitLaws.{within-true}
 use Rattle.layout.proofs.RefusalLaws.{first-passed}
 use Rattle.endian.specs.Bytes.{numberAt}
 use Rattle.rules.specs.Buffers.{numbers, allTo}
-use Rattle.rules.specs.Image.{bodyLen, kindOf, past, cut, savedN, savedR, savedLast, sizesOk, objectLen, left, listed, from, savedWidth, savedSink, savedWord, savedWords, shaped, namesListed, wordsOk, objectsOk, savedRoot, rootsOk}
+use Rattle.rules.specs.Image.{bodyLen, kindOf, past, cut, savedN, savedR, savedLast, sizesOk, objectLen, left, listed, from, savedWidth, savedSink, savedWords, shaped, namesListed, wordsOk, objectsOk, savedRoot, rootsOk}
 use Rattle.rules.specs.Load.{known, passed, misplaced, sizes, objects, rootWords, imageN, imageR, badBody, chunkTests, imageTests}
-use Rattle.rules.specs.Plain.{Cell, vacant, object, isFree, wordsIn, cellAt, plainSize, plainWords, cellFrom, plainLoaded}
-use Rattle.rules.proofs.ListLaws.{allOf-at, allTo-at, length-numbers, get-numbers}
+use Rattle.rules.specs.Plain.{vacant, isFree, cellAt, plainSize, cellFrom, plainLoaded}
+use Rattle.rules.proofs.ListLaws.{allOf-at, length-numbers, get-numbers}
 use Rattle.rules.proofs.ImageLaws.{past-suc}
-use Rattle.rules.proofs.ReloadedLaws.{PlainWritable}
 
 -- ---- a chunk that ends in the input
 
@@ -225,85 +223,5 @@ module _ (b : List ℕ) where
   loaded-cell zero p q = absurd (omega arith)
   loaded-cell (suc i) p q = get-numbers (cellFrom b) 1 (imageN b) i vacant (omega arith) ∙ ap (cellFrom b) (let e : 1 + i ≡ suc i = omega arith in e)
 
-  -- an object that the image lists
-  pub record Object (x : ℕ) : Type 0 where
-    pub some : 1 ≤ x
-    pub most : x ≤ imageN b
-    pub is-listed : listed (objects b) x ≡ true
-    pub cell : cellAt (plainLoaded b .cells) x ≡ object (savedWords (objects b) x) (eqb (savedSink (objects b) x) 1)
-
-  -- each number is free or such an object
-  pub loaded-any : (x : ℕ) → (cellAt (plainLoaded b .cells) x ≡ vacant) ⊎ Object x
-  unfolding cellFrom
-  loaded-any zero = inl (unfold cellAt in refl)
-  loaded-any (suc i) = go (decLe (suc i) (imageN b))
-    where
-      listed-or-not : (p : 1 ≤ suc i) (q : suc i ≤ imageN b) (t : Bool) → listed (objects b) (suc i) ≡ t
-          → cellAt (plainLoaded b .cells) (suc i) ≡ cond t (object (savedWords (objects b) (suc i)) (eqb (savedSink (objects b) (suc i)) 1)) vacant
-          → (cellAt (plainLoaded b .cells) (suc i) ≡ vacant) ⊎ Object (suc i)
-      listed-or-not p q true u e = inr (record { some = p; most = q; is-listed = u; cell = e })
-      listed-or-not p q false u e = inl e
-
-      go : Dec (suc i ≤ imageN b) → (cellAt (plainLoaded b .cells) (suc i) ≡ vacant) ⊎ Object (suc i)
-      go (yes q) = listed-or-not (omega arith) q (listed (objects b) (suc i)) refl (loaded-cell (suc i) (omega arith) q)
-      go (no q) = inl (unfold cellAt in List·getD-eq-default (plainLoaded b .cells) vacant (omega (arith, loaded-size, q)))
-
   abbrev pub usedIn : ℕ → Bool
   usedIn x = not (isFree (cellAt (plainLoaded b .cells) x))
-
-  loaded-used : (x : ℕ) → 1 ≤ x → x ≤ imageN b → usedIn x ≡ listed (objects b) x
-  unfolding cellFrom
-  loaded-used x p q = rw (loaded-cell x p q) (go (listed (objects b) x))
-    where
-      go : (t : Bool) → not (isFree (cond t (object (savedWords (objects b) x) (eqb (savedSink (objects b) x) 1)) vacant)) ≡ t
-      go true = unfold isFree in refl
-      go false = unfold isFree in refl
-
-  -- a word that names a listed object names an object in use
-  loaded-names : (w : ℕ) → (isPointer (plainSize (plainLoaded b)) w && usedIn w) ≡ namesListed (objects b) (imageN b) w
-  unfolding namesListed
-  loaded-names w = rw loaded-size (go (isPointer (imageN b) w) refl)
-    where
-      go : (t : Bool) → isPointer (imageN b) w ≡ t → (t && usedIn w) ≡ (t && listed (objects b) w)
-      go true e = unfold isPointer in (let r = within-true 1 (imageN b) w e in loaded-used w (r .0) (r .1))
-      go false e = refl
-
-  module _ (e : first (imageTests b) ≡ 0) where
-    narrow-loaded : (x : ℕ) → length (plainWords (plainLoaded b) x) ≤ 8
-    unfolding plainWords savedWords
-    narrow-loaded x = go (loaded-any x)
-      where
-        go : (cellAt (plainLoaded b .cells) x ≡ vacant) ⊎ Object x → length (wordsIn (cellAt (plainLoaded b .cells) x)) ≤ 8
-        go (inl z) = rw z (unfold wordsIn in omega arith)
-        go (inr o) =
-            let a = objects-held (objects b) (imageN b) (objects-right b e) .shape in
-            let s = shape-facts (objects b) x (o .is-listed) (allTo-at (imageN b) (shaped (objects b)) a x (o .some) (o .most)) in
-            rw (o .cell) (unfold wordsIn in (omega (arith, length-numbers (savedWord (objects b) x) 0 (savedWidth (objects b) x), s .narrow)))
-
-    worded-loaded : (x w : ℕ) → usedIn x ≡ true → List·Memᴰ w (plainWords (plainLoaded b) x)
-        → (isNil w || isImmediate w || (isPointer (plainSize (plainLoaded b)) w && usedIn w)) ≡ true
-    unfolding plainWords
-    worded-loaded x w u m = rw (loaded-names w) (go (loaded-any x))
-      where
-        go : (cellAt (plainLoaded b .cells) x ≡ vacant) ⊎ Object x → (isNil w || isImmediate w || namesListed (objects b) (imageN b) w) ≡ true
-        go (inl z) = absurd (true≢false (sym u ∙ ap (λ (c : Cell). not (isFree c)) z ∙ unfold isFree in refl))
-        go (inr o) =
-            let a = objects-held (objects b) (imageN b) (objects-right b e) .words in
-            words-held (objects b) (imageN b) x (o .is-listed) (allTo-at (imageN b) (wordsOk (objects b) (imageN b)) a x (o .some) (o .most)) w
-            (subst (λ (l : List ℕ). List·Memᴰ w l) (ap wordsIn (o .cell) ∙ unfold wordsIn in refl) m)
-
-    rooted-loaded : (w : ℕ) → List·Memᴰ w (plainLoaded b .roots) → (isNil w || (isPointer (plainSize (plainLoaded b)) w && usedIn w)) ≡ true
-    unfolding plainLoaded
-    rooted-loaded w m = rw (loaded-names w) (roots-held (imageN b) (imageR b) (objects b) (rootWords b) (roots-right b e) w m)
-
-    -- it can be written
-    pub accepted-writable : PlainWritable (plainLoaded b)
-    accepted-writable =
-        let s = sizes-held (sizes b) (sizes-right b e) in
-        record {
-          sized = rw (loaded-size, loaded-roots) (s .sized);
-          given = rw loaded-size (unfold plainLoaded in s .given);
-          narrow = narrow-loaded;
-          worded = worded-loaded;
-          rooted = rooted-loaded;
-        }

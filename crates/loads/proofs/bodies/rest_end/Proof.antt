@@ -1,14 +1,11 @@
 -- `loads::bodies::rest_end` tests word after word. Assumes nothing.
-use Prim.Native.Nat.{_+_, _-_, _*_, _≤_}
+use Prim.Native.Nat.{_-_}
 use mathlib.Core.Path.{_≡_, ap, sym, _∙_}
-use mathlib.Core.Bool.{true≢false}
-use mathlib.Core.List.{map}
 use native.Mathlib.Omega.{arith}
 use borrow.Author.Tests.{not-true, not-false}
 use borrow.Author.Needs.{needs}
 use Rattle.endian.specs.Bytes.{numberAt}
-use Rattle.rules.specs.Buffers.{allOf, numbers}
-use Rattle.loads.specs.Bodies.{passes, wordsAt}
+use Rattle.loads.specs.Bodies.{passes}
 use Rattle.loads.proofs.WordLaws.{Testing, testing-start, testing-stop, testing-turn, testing-end}
 use Rattle.loads.proofs.bodies.rest_end.Statement.{statement}
 use Rattle.loads.proofs.bodies.rest_end.Tie as tie

@@ -2,7 +2,6 @@
 use mathlib.Core.Path.{sym, _∙_}
 use native.Mathlib.Omega.{arith}
 use borrow.Author.Tests.{not-true, not-false}
-use borrow.Author.Needs.{needs}
 use Rattle.loads.specs.Bodies.{passes}
 use Rattle.loads.proofs.WordLaws.{Halfway, halfway-start, halfway-stop, halfway-turn, halfway-end}
 use Rattle.loads.proofs.bodies.words_end.Statement.{statement}

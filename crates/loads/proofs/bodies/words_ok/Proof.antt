@@ -1,14 +1,12 @@
 -- `loads::bodies::words_ok` tests the words of object after object. Assumes nothing.
-use borrow.Author.Tests.{not-true, not-false}
-use Prim.Native.Nat.{ℕ, _+_, _-_}
-use mathlib.Core.Path.{_≡_, ap, sym, _∙_}
+use Prim.Native.Nat.{_+_, _-_}
+use mathlib.Core.Path.{_≡_}
 use mathlib.Core.Bool.{true}
 use lib.ListN.{length}
 use Rattle.rules.specs.Buffers.{allOf}
 use Rattle.rules.specs.Image.{headLen}
 use Rattle.loads.specs.Bodies.{Fit, Checked, widthAt, entryEnd, passes, wordsAt, WordsEnd}
 use Rattle.loads.proofs.WordLaws.{checked-start, checked-fit, checked-turn, checked-stop, checked-end, end-passed, end-stopped}
-use borrow.Author.Needs.{needs}
 use native.Mathlib.Omega.{arith}
 use Rattle.loads.proofs.bodies.words_ok.Statement.{statement}
 use Rattle.loads.proofs.bodies.words_ok.Tie as tie

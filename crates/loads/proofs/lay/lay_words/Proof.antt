@@ -1,11 +1,9 @@
 -- `loads::lay::lay_words` stores word after word. Assumes nothing.
-use mathlib.Core.Path.{_≡_, refl, ap, _∙_}
-use Prim.Native.Nat.{ℕ, _+_, _-_, _*_, _≤_}
-use lib.ListN.{length, length-set}
+use mathlib.Core.Path.{_≡_, ap, _∙_}
+use Prim.Native.Nat.{ℕ, _+_, _-_, _*_}
 use Rattle.endian.specs.Bytes.{numberAt}
 use Rattle.loads.specs.Laid.{laid}
 use Rattle.loads.proofs.LayLaws.{Storing, storing-start, storing-turn}
-use borrow.Author.Needs.{needs}
 use native.Mathlib.Omega.{arith}
 use Rattle.loads.proofs.lay.lay_words.Statement.{statement}
 use Rattle.loads.proofs.lay.lay_words.Tie as tie
