@@ -83,6 +83,31 @@ pub laid-turn : (base k : ℕ) (h : ℕ → ℕ) (l m : List ℕ) (v : ℕ) → 
 unfolding laid
 laid-turn base k h l m v e f = let o : k + 1 ≡ suc k = omega arith in rw (o, e, f) refl
 
+-- words that are the same
+pub laid-same : (base k : ℕ) (f g : ℕ → ℕ) (l : List ℕ) → ((i : ℕ) → f i ≡ g i) → laid base k f l ≡ laid base k g l
+unfolding laid
+laid-same base zero f g l e = refl
+laid-same base (suc k) f g l e = ap₂ (λ r v. set r (base + k) v) (laid-same base k f g l e) (e k)
+
+-- k words behind a others
+pub laid-more : (base a k : ℕ) (h : ℕ → ℕ) (l : List ℕ) → laid (base + a) k (λ i. h (a + i)) (laid base a h l) ≡ laid base (a + k) h l
+unfolding laid
+laid-more base a zero h l = let z : a + 0 ≡ a = omega arith in rw z refl
+laid-more base a (suc k) h l =
+    let z : a + suc k ≡ suc (a + k) = omega arith in
+    let y : base + a + k ≡ base + (a + k) = omega arith in
+    rw (z, y) (ap (λ (r : List ℕ). set r (base + (a + k)) (h (a + k))) (laid-more base a k h l))
+
+-- four words that were read
+pub laid-four : (body : List ℕ) (at base : ℕ) (l : List ℕ) (a b c d : ℕ) → a ≡ numberAt 4 at body → b ≡ numberAt 4 (at + 4) body
+    → c ≡ numberAt 4 (at + 8) body → d ≡ numberAt 4 (at + 12) body
+    → set (set (set (set l base a) (base + 1) b) (base + 2) c) (base + 3) d ≡ laid base 4 (λ i. numberAt 4 (at + 4 * i) body) l
+unfolding laid
+laid-four body at base l a b c d ea eb ec ed =
+    let z : base + 0 ≡ base = omega arith in
+    let y : at + 0 ≡ at = omega arith in
+    rw (z, y, ea, eb, ec, ed) refl
+
 -- the words from a place on, stored one after the other, with so many left
 pub record Storing (body : List ℕ) (from k : ℕ) (words₀ : List ℕ) (base : ℕ) (words : List ℕ) (at to left : ℕ) : Type 0 where
   pub few : left ≤ k
@@ -108,6 +133,43 @@ module _ (body : List ℕ) (from k : ℕ) (words₀ : List ℕ) (base : ℕ) whe
         long = length-set words to v ∙ s .long;
         stored = rw (z, s .target) (laid-turn base (k - left) _ words₀ words v (s .stored) (e ∙ ap (λ (a : ℕ). numberAt 4 a body) (s .place)));
       }
+
+  -- the first four are stored
+  pub storing-four : 3 < k → (words : List ℕ) (at to left : ℕ) → words ≡ laid base 4 (λ i. numberAt 4 (from + 4 * i) body) words₀ → at ≡ from + 16
+      → to ≡ base + 4 → left ≡ k - 4 → Storing body from k words₀ base words at to left
+  storing-four p words at to left e ea et el =
+      let z : k - left ≡ 4 = omega (arith, el, p) in
+      record {
+        few = omega (arith, el);
+        place = omega (arith, ea, el, p);
+        target = omega (arith, et, el, p);
+        long = ap (λ (r : List ℕ). length r) e ∙ length-laid base 4 _ words₀;
+        stored = rw z e;
+      }
+
+  -- none is
+  pub storing-none : (words : List ℕ) (at to left : ℕ) → words ≡ words₀ → at ≡ from → to ≡ base → left ≡ k → Storing body from k words₀ base words at to left
+  storing-none words at to left e ea et el = rw (e, ea, et, el) storing-start
+
+  -- the others behind them
+  pub storing-end : (words : List ℕ) (at to left : ℕ) → Storing body from k words₀ base words at to left → (e : ℕ) (out : List ℕ)
+      → (e ≡ at + 4 * left) × (out ≡ laid to left (λ i. numberAt 4 (at + 4 * i) body) words)
+      → (e ≡ from + 4 * k) × (out ≡ laid base k (λ i. numberAt 4 (from + 4 * i) body) words₀)
+  storing-end words at to left s e out f =
+      let a : ℕ = k - left in
+      let z : a + left ≡ k = omega (arith, s .few) in
+      (omega (arith, f .0, s .place, s .few), f .1 ∙ moved ∙ laid-more base a left (λ i. numberAt 4 (from + 4 * i) body) words₀ ∙ ap (λ (j : ℕ). laid base j (λ i. numberAt 4 (from + 4 * i) body) words₀) z)
+    where
+      moved : laid to left (λ i. numberAt 4 (at + 4 * i) body) words
+          ≡ laid (base + (k - left)) left (λ i. numberAt 4 (from + 4 * (k - left + i)) body) (laid base (k - left) (λ i. numberAt 4 (from + 4 * i) body) words₀)
+      moved =
+          laid-same to left _ _ words (λ i. ap (λ (x : ℕ). numberAt 4 x body) (omega (arith, s .place)))
+          ∙ ap₂ (λ (t : ℕ) (r : List ℕ). laid t left (λ i. numberAt 4 (from + 4 * (k - left + i)) body) r) (s .target) (s .stored)
+
+  -- they are there, and have room
+  pub storing-room : (words : List ℕ) (at to left : ℕ) → Storing body from k words₀ base words at to left → from + 4 * k ≤ length body
+      → base + k ≤ length words₀ → (at + 4 * left ≤ length body) × (to + left ≤ length words)
+  storing-room words at to left s p q = (omega (arith, s .place, s .few, p), omega (arith, s .target, s .few, s .long, q))
 
 -- words that all of a list's first k become
 pub laid-all : (k : ℕ) (h : ℕ → ℕ) (l : List ℕ) → laid 0 k h l ≡ eachFrom 0 k (λ j w. h j) l

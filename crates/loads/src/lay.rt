@@ -18,9 +18,24 @@ use records::new_record;
 use records::with_sink;
 use table::buffers::zero;
 
-// The k words from a place of a body on, stored from place `base` on. The place behind them is counted on word by word and answered, so that
-// a caller who goes on from there need not wait for k.
-pub(crate) fn lay_words(body: &[u8], from: usize, k: u32, words: &mut [u32], base: usize) -> usize
+// The four words from a place of a body on, stored from place `to` on. All are read before the first is stored, so that they become one store.
+pub(crate) fn lay_four(body: &[u8], at: usize, words: &mut [u32], to: usize)
+    requires { ⌜ (at + 16 ≤ length (now body)) × (to + 4 ≤ length (now words)) ⌝ }
+    ensures { λ _. ⌜ now (words .exit) ≡ laid to 4 (λ i. numberAt 4 (at + 4 * i) (now (body .entry))) (now (words .entry)) ⌝ }
+{
+    let a = word_at(body, at);
+    let b = word_at(body, at + 4);
+    let c = word_at(body, at + 8);
+    let d = word_at(body, at + 12);
+    words[to] = a;
+    words[to + 1] = b;
+    words[to + 2] = c;
+    words[to + 3] = d;
+}
+
+// The k words from a place on, stored from place `base` on. The place behind them is counted on word by word and answered, so that a caller
+// who goes on from there need not wait for k.
+pub(crate) fn lay_rest(body: &[u8], from: usize, k: u32, words: &mut [u32], base: usize) -> usize
     requires { ⌜ (from + 4 * k ≤ length (now body)) × (base + k ≤ length (now words)) ⌝ }
     ensures { λ e. ⌜ (e ≡ from + 4 * k) × (now (words .exit) ≡ laid base k (λ i. numberAt 4 (from + 4 * i) (now (body .entry))) (now (words .entry))) ⌝ }
 {
@@ -34,6 +49,23 @@ pub(crate) fn lay_words(body: &[u8], from: usize, k: u32, words: &mut [u32], bas
         left -= 1;
     }
     at
+}
+
+// The same, the first four at once.
+pub(crate) fn lay_words(body: &[u8], from: usize, k: u32, words: &mut [u32], base: usize) -> usize
+    requires { ⌜ (from + 4 * k ≤ length (now body)) × (base + k ≤ length (now words)) ⌝ }
+    ensures { λ e. ⌜ (e ≡ from + 4 * k) × (now (words .exit) ≡ laid base k (λ i. numberAt 4 (from + 4 * i) (now (body .entry))) (now (words .entry))) ⌝ }
+{
+    let mut at = from;
+    let mut to = base;
+    let mut left = k;
+    if 3 < k {
+        lay_four(body, from, words, base);
+        at += 16;
+        to += 4;
+        left -= 4;
+    }
+    lay_rest(body, at, left, words, to)
 }
 
 // The records and the words of the listed objects. By the remainder, which is the width itself, the compiler knows that the words are few.
