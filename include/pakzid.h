@@ -219,8 +219,9 @@ pakzid_part pakzid_show(pakzid_control control, uint32_t object,
 
 /*
  * Stores a word in a slot. If the word that was there pointed into the object's
- * own cluster, that cluster is dissolved, which takes a pass over the records;
- * any other write takes the same short time in every heap.
+ * own cluster, and none of the object's slots holds it after the write, that
+ * cluster is dissolved, which takes a pass over the records; any other write
+ * takes the same short time in every heap.
  * Tests: 20, 2, 4, 21, 22, 5, 6, 23, and last 25.
  */
 pakzid_done pakzid_write(pakzid_control control, uint32_t object, uint32_t slot, uint32_t word,

@@ -137,7 +137,10 @@ static void collections(void)
     same_words("collected plainly", "library", &plain, WORDS(0, 0, 7, 7, HANDED), 10);
 }
 
-/* The write cuts a pointer inside the cluster of five; a second one finds none. */
+/*
+ * The write cuts a pointer inside the cluster of five; a second one finds none. It leaves 3 in both slots: in place, the
+ * cluster stays while one of them holds it.
+ */
 static void writes(void)
 {
     uint32_t before[N];
@@ -152,6 +155,8 @@ static void writes(void)
     same_words("write in place", "refusal", WORDS(pakzid_write_in_place(&lent, 1, 4, 3, RECORDS, SLOTS)), WORDS(5), 1);
     same_words("write in place", "refused", &lent, WORDS(HANDED), 6);
     same_words("write in place", "accepted", WORDS(pakzid_write_in_place(&lent, 1, 1, 0, RECORDS, SLOTS)), WORDS(0), 1);
+    same_words("write in place", "held", &lent, WORDS(HANDED), 6);
+    same_words("write in place", "accepted", WORDS(pakzid_write_in_place(&lent, 1, 0, 0, RECORDS, SLOTS)), WORDS(0), 1);
     same_words("write in place", "record", &lent, WORDS(N, R, 9, 11, 12, 6), 6);
 
     lent = handed;

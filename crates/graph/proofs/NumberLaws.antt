@@ -2,15 +2,16 @@
 -- Assumes nothing.
 use Prim.Native.Nat.{ℕ, zero, suc, _+_, _*_, _≤_, _<_}
 use mathlib.Core.Path.{_≡_, refl, sym, ap, _∙_}
-use mathlib.Core.Bool.{Bool, true, false, cond, false≢true}
+use mathlib.Core.Bool.{Bool, true, false, cond, _||_, or-true, false≢true}
 use mathlib.Core.List.{List, [], _∷_, _++_, List·Memᴰ, List·Memᴰ·head, List·Memᴰ·tail, Memᴰ·append-left, Memᴰ·append-right, List·Memᴰ·append-cases, List·Memᴰ·not-nil, List·Memᴰ·eq-of-singleton}
 use mathlib.Core.Logic.{_≢_, _⊎_, inl, inr}
 use native.Mathlib.Decide.{ℕ-discrete}
 use native.Mathlib.Nat.{le-suc-iff}
 use native.Mathlib.Omega.{arith}
 use lib.ListN.{length, getD, set, length-append}
-use borrow.Author.Tests.{eq-eqb, ne-eqb}
-use Rattle.graph.specs.Numbers.{Obj, upd, bit, sum, count, gather}
+use lib.Dec.{eqb}
+use borrow.Author.Tests.{eqb-true, eq-eqb, ne-eqb}
+use Rattle.graph.specs.Numbers.{Obj, upd, has, bit, sum, count, gather}
 
 -- ---- a change at one place
 
@@ -128,6 +129,35 @@ bit-mono true true h = omega arith
 bit-mono true false h = absurd (false≢true (h refl))
 bit-mono false true h = omega arith
 bit-mono false false h = omega arith
+
+-- ---- membership, as a test and as a type
+
+pub has-in : (x : ℕ) (l : List ℕ) → has x l ≡ true → List·Memᴰ x l
+unfolding has
+has-in x [] e = absurd (false≢true e)
+has-in x (y ∷ l) e = go (λ h. has-in x l h) (eqb x y) refl e
+  where
+    go : (has x l ≡ true → List·Memᴰ x l) → (b : Bool) → eqb x y ≡ b → (b || has x l) ≡ true → List·Memᴰ x (y ∷ l)
+    go r true d h = List·Memᴰ·head (eqb-true x y d)
+    go r false d h = List·Memᴰ·tail (r h)
+
+pub in-has : (x : ℕ) (l : List ℕ) → List·Memᴰ x l → has x l ≡ true
+unfolding has
+in-has x [] m = absurd (List·Memᴰ·not-nil m)
+in-has x (y ∷ l) (List·Memᴰ·head e) = rw (eq-eqb x y e) refl
+in-has x (y ∷ l) (List·Memᴰ·tail m) = rw (in-has x l m) (or-true (eqb x y))
+
+-- by its place
+pub has-at : (x : ℕ) (l : List ℕ) (q : ℕ) → q < length l → getD l q 0 ≡ x → has x l ≡ true
+unfolding has
+has-at x [] q h e = absurd (omega arith)
+has-at x (y ∷ l) zero h e = rw (eq-eqb x y (sym e)) refl
+has-at x (y ∷ l) (suc q) h e = rw (has-at x l q (omega arith) e) (or-true (eqb x y))
+
+pub has-none : (x : ℕ) (l : List ℕ) → ((q : ℕ) → q < length l → getD l q 0 ≢ x) → has x l ≡ false
+unfolding has
+has-none x [] h = refl
+has-none x (y ∷ l) h = rw (ne-eqb x y (λ e. h 0 (omega arith) (sym e)), has-none x l (λ q p. h (suc q) (omega arith))) refl
 
 -- ---- lists of pointers
 

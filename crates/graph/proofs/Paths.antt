@@ -6,11 +6,10 @@ use mathlib.Core.Bool.{Bool, true, false}
 use mathlib.Core.List.{List, List·Memᴰ}
 use mathlib.Core.Logic.{_≢_}
 use native.Mathlib.Decide.{ℕ-discrete}
-use lib.ListN.{getD, set}
 use Rattle.graph.specs.Numbers.{upd}
 use Rattle.graph.specs.Clusters.{keep}
 use Rattle.graph.specs.Invariant.{Path, here, step, Connected, Heads}
-use Rattle.graph.proofs.NumberLaws.{upd-same, upd-other, mem-set}
+use Rattle.graph.proofs.NumberLaws.{upd-same, upd-other}
 
 pub path-end : {kids : ℕ → List ℕ} {P : ℕ → Type 0} {h y : ℕ} → Path kids P h y → P y
 path-end (here e p) = p
@@ -128,9 +127,3 @@ connected-kids kids cl o l h s y d e p = path-map (λ x i. i) edge (h y d e p)
             let k : cl o ≡ d = ap cl (sym r) ∙ i in
             rw (r, upd-same kids o l) (s (λ n. p (sym k ∙ n)) z (j ∙ sym k) (subst (λ (v : ℕ). List·Memᴰ z (kids v)) r m))
         go (no r) = rw upd-other m
-
--- a store in o changes no cluster if the old pointer was not into o's cluster
-pub connected-store : (kids : ℕ → List ℕ) (cl : ℕ → ℕ) (o k t : ℕ)
-    → Connected kids cl → (cl o ≢ 0 → cl (getD (kids o) k 0) ≢ cl o) → Connected (upd kids o (set (kids o) k t)) cl
-connected-store kids cl o k t h s =
-    connected-kids kids cl o (set (kids o) k t) h (λ n z e m. mem-set (kids o) k t z m (λ q. s n (ap cl q ∙ e)))

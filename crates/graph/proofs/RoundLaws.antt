@@ -7,29 +7,10 @@ use mathlib.Core.List.{List, [], _∷_, List·Memᴰ, List·Memᴰ·head, List·
 use mathlib.Core.Logic.{_⊎_, inl, inr, _↔_}
 use native.Mathlib.Decide.{decLe}
 use native.Mathlib.Omega.{arith}
-use lib.Dec.{eqb}
-use borrow.Author.Tests.{eqb-true, eq-eqb}
 use Rattle.graph.specs.Numbers.{Obj, has, count}
 use Rattle.graph.specs.Heap.{Reach, start, along}
 use Rattle.graph.specs.Rounds.{anyOf, round, rounds}
-use Rattle.graph.proofs.NumberLaws.{count-all, count-back, gather-of, in-gather}
-
--- ---- membership, as a test and as a type
-
-pub has-in : (x : ℕ) (l : List ℕ) → has x l ≡ true → List·Memᴰ x l
-unfolding has
-has-in x [] e = absurd (false≢true e)
-has-in x (y ∷ l) e = go (λ h. has-in x l h) (eqb x y) refl e
-  where
-    go : (has x l ≡ true → List·Memᴰ x l) → (b : Bool) → eqb x y ≡ b → (b || has x l) ≡ true → List·Memᴰ x (y ∷ l)
-    go r true d h = List·Memᴰ·head (eqb-true x y d)
-    go r false d h = List·Memᴰ·tail (r h)
-
-pub in-has : (x : ℕ) (l : List ℕ) → List·Memᴰ x l → has x l ≡ true
-unfolding has
-in-has x [] m = absurd (List·Memᴰ·not-nil m)
-in-has x (y ∷ l) (List·Memᴰ·head e) = rw (eq-eqb x y e) refl
-in-has x (y ∷ l) (List·Memᴰ·tail m) = rw (in-has x l m) (or-true (eqb x y))
+use Rattle.graph.proofs.NumberLaws.{has-in, in-has, count-all, count-back, gather-of, in-gather}
 
 any-in : (t : ℕ → Bool) (l : List ℕ) → anyOf t l ≡ true → (y : ℕ) × List·Memᴰ y l × (t y ≡ true)
 unfolding anyOf

@@ -26,10 +26,11 @@ unfolding
     Writes.dissolves Writes.stored Writes.storeBy Writes.lossBy Writes.store Writes.lossOf Writes.declare
 computed = 0
 
--- analyses: out loss and clusters; collections: what is kept, and how many are scanned
+-- analyses: out loss and clusters; collections: what is kept, and how many are scanned; writes: how many are dissolved
 pub trials : (map Trials.formed Trials.analyses ≡ map Trials.formedAs Trials.analyses)
     × (map Trials.kept Trials.collections ≡ map (λ t. t .kept) Trials.collections)
     × (map Trials.scanned Trials.collections ≡ map (λ t. t .scanned) Trials.collections)
+    × (map Trials.dissolved Trials.stores ≡ map (λ w. w .loss) Trials.stores)
 unfolding computed
-    Trials.nth Trials.upTo Trials.heap Trials.formed Trials.formedAs Trials.analyses Trials.kept Trials.scanned Trials.six Trials.all1 Trials.collections
-trials = (refl, refl, refl)
+    Trials.nth Trials.upTo Trials.heap Trials.formed Trials.formedAs Trials.analyses Trials.kept Trials.scanned Trials.six Trials.all1 Trials.collections Trials.dissolved Trials.storing Trials.stores
+trials = (refl, refl, refl, refl)

@@ -3,20 +3,20 @@
 use Prim.Native.Nat.{ℕ, _+_, _≤_}
 use mathlib.Core.Path.{_≡_, refl, sym, ap, _∙_, fun-ext}
 use mathlib.Core.Bool.{Bool, true, false, not, cond, _&&_}
-use mathlib.Core.List.{List·Memᴰ}
+use mathlib.Core.List.{List, List·Memᴰ}
 use mathlib.Core.Logic.{_≢_, _⊎_, inl, inr}
 use native.Mathlib.Decide.{ℕ-discrete}
 use native.Mathlib.Omega.{arith}
 use lib.Dec.{eqb}
 use lib.ListN.{getD, set}
-use borrow.Author.Tests.{eqb-true, eqb-false, eq-eqb, ne-eqb, not-true, not-false}
-use Rattle.graph.specs.Numbers.{upd, bit, count}
+use borrow.Author.Tests.{eqb-false, eq-eqb, ne-eqb, not-true, not-false}
+use Rattle.graph.specs.Numbers.{upd, bit, count, has}
 use Rattle.graph.specs.Heap.{Heap}
 use Rattle.graph.specs.Clusters.{keep, size, outBit, others}
 use Rattle.graph.specs.Writes.{dissolves, stored, storeBy, lossBy, store, lossOf, declare}
 use Rattle.graph.specs.Invariant.{Connected}
-use Rattle.graph.proofs.NumberLaws.{upd-same, upd-other, bit-le, sum-add, sum-mono, mem-of-set}
-use Rattle.graph.proofs.Paths.{connected-keep, connected-store, keep-out, keep-zero}
+use Rattle.graph.proofs.NumberLaws.{upd-same, upd-other, bit-le, sum-add, sum-mono, mem-set, mem-of-set, has-in}
+use Rattle.graph.proofs.Paths.{connected-keep, connected-kids, keep-out, keep-zero}
 use Rattle.graph.proofs.OutLaws.{outBit-same, outBit-keep, outBit-none}
 use Rattle.graph.proofs.AnalysisInv.{and-split}
 use Rattle.graph.proofs.State.{Good, clustered, keep-fewer}
@@ -94,7 +94,7 @@ module _ (H : Heap) (loss o k t : ℕ) (G : Good H loss) (p : t ≤ H .n) where
 
       conn′ : Connected (stored H o k t) (keep (others c) (H .cluster))
       conn′ = unfold stored in
-          connected-store (H .kids) (keep (others c) (H .cluster)) o k t (connected-keep (H .kids) (others c) (H .cluster) (G .conn))
+          connected-kids (H .kids) (keep (others c) (H .cluster)) o (set (H .kids o) k t) (connected-keep (H .kids) (others c) (H .cluster) (G .conn))
           (λ r. absurd (r gone))
 
       exact′ : (x : ℕ) → Dec (x ≡ o)
@@ -121,19 +121,25 @@ module _ (H : Heap) (loss o k t : ℕ) (G : Good H loss) (p : t ≤ H .n) where
       exact′ x (yes i) = rw i (upd-same (H .out) o _)
       exact′ x (no i) = upd-other (H .out) o x _ i ∙ G .exact x ∙ other-out H o k t x (H .cluster) i
 
-  -- the old pointer was not into o's cluster: the cluster is still connected
+  -- the old pointer was not into o's cluster, or o still has it: the cluster is still connected
   pub still-connected : dissolves H o k t ≡ false → Connected (stored H o k t) (H .cluster)
   unfolding dissolves stored
-  still-connected e = connected-store (H .kids) (H .cluster) o k t (G .conn) (outside _ _ _ refl refl refl e)
+  still-connected e = connected-kids (H .kids) (H .cluster) o l (G .conn) (λ nz z q m. kept nz z q m (ℕ-discrete z u))
     where
       u : ℕ
       u = getD (H .kids o) k 0
 
-      outside : (a b d : Bool) → not (eqb (H .cluster o) 0) ≡ a → not (eqb u 0) ≡ b → eqb (H .cluster u) (H .cluster o) ≡ d
-          → (a && (b && d)) ≡ false → H .cluster o ≢ 0 → H .cluster u ≢ H .cluster o
-      outside true true d f g h e nz j = eqb-false (H .cluster u) (H .cluster o) (h ∙ e) j
-      outside true false d f g h e nz j = nz (sym j ∙ ap (H .cluster) (eqb-true u 0 (not-false (eqb u 0) g)) ∙ G .zero-none)
-      outside false b d f g h e nz j = nz (eqb-true (H .cluster o) 0 (not-false (eqb (H .cluster o) 0) f))
+      l : List ℕ
+      l = set (H .kids o) k t
+
+      held : H .cluster o ≢ 0 → H .cluster u ≡ H .cluster o → List·Memᴰ u l
+      held nz q =
+          has-in u l (not-false (has u l)
+          (rw (ne-eqb (H .cluster o) 0 nz, ne-eqb u 0 (λ z. nz (sym q ∙ ap (H .cluster) z ∙ G .zero-none)), eq-eqb (H .cluster u) (H .cluster o) q) at e))
+
+      kept : H .cluster o ≢ 0 → (z : ℕ) → H .cluster z ≡ H .cluster o → List·Memᴰ z (H .kids o) → Dec (z ≡ u) → List·Memᴰ z l
+      kept nz z q m (yes i) = rw i (held nz (ap (H .cluster) (sym i) ∙ q))
+      kept nz z q m (no i) = mem-set (H .kids o) k t z m (λ j. i (sym j))
 
   pub store-good : Good (store H o k t) (loss + lossOf H o k t)
   unfolding store lossOf

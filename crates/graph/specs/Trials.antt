@@ -1,4 +1,4 @@
--- Small heaps and what the walks make of them, by value.
+-- Small heaps and what writes and the walks make of them, by value.
 use Prim.Native.Nat.{ℕ, zero, suc}
 use mathlib.Core.Bool.{Bool, true, false}
 use mathlib.Core.List.{List, [], _∷_, _++_, map}
@@ -8,6 +8,7 @@ use Rattle.graph.specs.Heap.{Heap, starts}
 use Rattle.graph.specs.Clusters.{outBit}
 use Rattle.graph.specs.Trace.{traced, keeps}
 use Rattle.graph.specs.Analysis.{Rule, analyse}
+use Rattle.graph.specs.Writes.{lossOf}
 
 -- number i of a list, counted from 1; d for 0 and past the end
 unfoldable pub nth : {A : Type 0} → A → List A → ℕ → A
@@ -191,4 +192,33 @@ collections =
       scanned = 2;
       kept = true ∷ true ∷ false ∷ [];
     }
+    ∷ []
+
+-- ---- writes
+
+-- a store of t in slot k of object o, and how many members it is to dissolve
+pub record Stored : Type 0 where
+  pub start : Heap
+  pub o : ℕ
+  pub k : ℕ
+  pub t : ℕ
+  pub loss : ℕ
+
+-- how many it dissolves
+unfoldable pub dissolved : Stored → ℕ
+dissolved w = lossOf (w .start) (w .o) (w .k) (w .t)
+
+-- object 1 with one pointer more, and a store in it
+unfoldable pub storing : ℕ → ℕ → ℕ → ℕ → Stored
+storing more k t loss = record { start = heap (six (more ∷ []) [] []) [] [] all1; o = 1; k = k; t = t; loss = loss }
+
+-- the stores
+unfoldable pub stores : List Stored
+stores =
+    -- over the only pointer at 3: nil, the same, and one into the cluster
+    storing 0 1 0 6 ∷ storing 0 1 3 0 ∷ storing 0 1 6 6
+    -- over one of two, either of them
+    ∷ storing 3 1 0 0 ∷ storing 3 2 0 0
+    -- over a pointer out of the cluster, and over nil
+    ∷ storing 7 2 0 0 ∷ storing 0 2 3 0
     ∷ []

@@ -4,14 +4,15 @@ use mathlib.Core.Bool.{Bool, true, false, not, _&&_}
 use mathlib.Core.List.{List}
 use lib.Dec.{eqb}
 use lib.ListN.{getD, set}
-use Rattle.graph.specs.Numbers.{upd}
+use Rattle.graph.specs.Numbers.{upd, has}
 use Rattle.graph.specs.Heap.{Heap}
 use Rattle.graph.specs.Clusters.{size, keep, others, outBit}
 
--- storing t in slot k of o dissolves o's cluster: the old word pointed into it (t, the new word's target, does not matter)
+-- storing t in slot k of o dissolves o's cluster: the old word pointed into it, and no used slot of o holds that pointer after the store
 unfoldable pub dissolves : Heap → ℕ → ℕ → ℕ → Bool
 dissolves H o k t =
-    not (eqb (H .cluster o) 0) && (not (eqb (getD (H .kids o) k 0) 0) && eqb (H .cluster (getD (H .kids o) k 0)) (H .cluster o))
+    let old = getD (H .kids o) k 0 in
+    not (eqb (H .cluster o) 0) && (not (eqb old 0) && (eqb (H .cluster old) (H .cluster o) && not (has old (set (H .kids o) k t))))
 
 -- the pointers with t in slot k of o
 unfoldable pub stored : Heap → ℕ → ℕ → ℕ → ℕ → List ℕ

@@ -8,12 +8,12 @@ use native.Mathlib.Decide.{decLe}
 use native.Mathlib.Omega.{arith}
 use lib.Dec.{eqb}
 use lib.ListN.{length, getD, take, drop, set}
-use lib.Seq.{getD-take, getD-drop, take-take}
+use lib.Seq.{getD-take, getD-drop, take-take, length-take-le}
 use borrow.Author.Tests.{eq-eqb, ne-eqb}
 use Rattle.layout.specs.Limits.{slotsLen}
 use Rattle.records.specs.Record.{width}
 use Rattle.rules.specs.Buffers.{recOf, eight, usedWords, eachFrom, eachRecord, eachSlot, zeros}
-use Rattle.rules.proofs.ListLaws.{each-nil, each-same, each-id, each-set, recOf-above, recOf-each, eight-each, map-id}
+use Rattle.rules.proofs.ListLaws.{each-nil, each-same, each-id, each-set, recOf-above, recOf-each, eight-each, map-id, length-eight}
 
 -- ---- reading
 
@@ -37,6 +37,10 @@ module _ (n : ℕ) (recs slots : List ℕ) (x : ℕ) (low : 1 ≤ x) (narrow : w
   used-get k p =
       ap (λ (l : List ℕ). getD l k 0) used-part ∙ getD-take (width (recOf n recs x)) (drop (8 * (x - 1)) slots) k 0 p
       ∙ getD-drop (8 * (x - 1)) slots k 0
+
+  pub used-long : x ≤ n → 8 * n ≤ length slots → length (usedWords n recs slots x) ≡ width (recOf n recs x)
+  unfolding usedWords
+  used-long high long = length-take-le (width (recOf n recs x)) (eight slots x) (let e = length-eight n slots x low high long in omega arith)
 
 -- ---- changing
 

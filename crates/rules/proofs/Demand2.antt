@@ -3,7 +3,7 @@
 use Rattle.layout.specs.Limits.{slotsLen}
 use Rattle.rules.specs.Demands.{Demand2}
 use Rattle.rules.proofs.WriteLaws.{write-ruled}
-use Rattle.rules.proofs.WriteFacts.{write-does}
+use Rattle.rules.proofs.WriteFacts.{write-does, write-overflows}
 use Rattle.rules.proofs.DeclareLaws.{declare-ruled, declare-does, declare-twice}
 use Rattle.rules.proofs.AnalyseLaws.{analyse-ruled}
 use Rattle.rules.proofs.AnalyseFacts.{analyse-does, analyse-accepts, analyse-adjusts}
@@ -20,6 +20,7 @@ demand2 = record {
   analyses = λ s m work e. analyse-does s (made-inv m) work e;
   adjusts = analyse-adjusts;
   writes = write-does;
+  overflows = write-overflows;
   declares = λ s i e. declare-does s i e;
   again = λ s i e. declare-twice s i e;
   accepts = λ s m work l. analyse-accepts s (made-inv m) work l;

@@ -51,5 +51,6 @@ pub mod Demand1
 pub mod Demand2
 pub mod Demand3
 pub mod Reloads
+pub mod HeldElsewhere
 -- ---- what is computed from the definitions
 pub mod Trials

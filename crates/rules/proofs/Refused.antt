@@ -2,13 +2,17 @@
 -- Assumes nothing.
 use Prim.Native.Nat.{ℕ, zero, suc, _≤_}
 use mathlib.Core.Path.{_≡_, refl, sym, ap, _∙_}
-use mathlib.Core.Bool.{Bool, true, false, cond}
+use mathlib.Core.Bool.{Bool, true, false, cond, _&&_, _||_, true≢false}
 use mathlib.Core.List.{List, [], _∷_}
 use mathlib.Core.Logic.{_≢_}
+use native.Mathlib.Nat.{suc-ne-zero}
 use native.Mathlib.Omega.{arith}
+use lib.Dec.{eqb}
+use borrow.Author.Tests.{eq-eqb}
 use Rattle.layout.specs.Refusal.{Test, first, by, outcome}
 use Rattle.layout.specs.declared.answers.Control.{Control}
 use Rattle.layout.proofs.RefusalLaws.{by-number}
+use Rattle.layout.proofs.BoolLaws.{or-split}
 use Rattle.rules.specs.Create as Create
 use Rattle.rules.specs.Allocate as Allocate
 use Rattle.rules.specs.Read as Read
@@ -33,6 +37,20 @@ pub refused-first : (T : List Test) (k : ℕ) → Refuses k T → first T ≡ k
 unfolding first
 refused-first (t ∷ l) k (here e h) = rw h e
 refused-first (t ∷ l) k (there h r) = rw h (refused-first l k r)
+
+-- a test of number k holds
+unfoldable pub meets : ℕ → List Test → Bool
+meets k [] = false
+meets k (t ∷ l) = (eqb k (t .0) && t .1) || meets k l
+
+pub unmet-first : (k : ℕ) (T : List Test) → meets (suc k) T ≡ false → first T ≢ suc k
+unfolding meets first
+unmet-first k [] e f = suc-ne-zero k (sym f)
+unmet-first k (t ∷ l) e f = go (t .1) refl f (λ r. unmet-first k l r)
+  where
+    go : (b : Bool) → t .1 ≡ b → cond b (t .0) (first l) ≡ suc k → (meets (suc k) l ≡ false → first l ≢ suc k) → ⊥
+    go true h g r = true≢false (sym (rw (eq-eqb (suc k) (t .0) (sym g), h) refl) ∙ or-split (eqb (suc k) (t .0) && t .1) (meets (suc k) l) e .0)
+    go false h g r = r (or-split (eqb (suc k) (t .0) && t .1) (meets (suc k) l) e .1) g
 
 module _ {A : Type 0} (T : List Test) (a : A) (r : ℕ → A) (refusal : A → ℕ) (zeroth : refusal a ≡ 0) (kth : (k : ℕ) → refusal (r k) ≡ k) where
   -- the refusal that is answered

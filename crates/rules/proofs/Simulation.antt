@@ -8,7 +8,6 @@ use mathlib.Core.Logic.{_⊎_, inl, inr}
 use native.Mathlib.Omega.{arith}
 use lib.Dec.{eqb}
 use lib.ListN.{length, take}
-use lib.Seq.{length-take-le}
 use Rattle.records.specs.Record as R
 use Rattle.layout.specs.Field.{field, flag}
 use Rattle.records.specs.Record.{width}
@@ -23,7 +22,8 @@ use Rattle.rules.specs.Plain.{plainStep}
 use Rattle.rules.specs.Steps.{State, step}
 use Rattle.rules.specs.Demands.{wordsOf, recordIn}
 use Rattle.rules.specs.PlainOf.{plainOf}
-use Rattle.rules.proofs.ListLaws.{length-eight, recOf-range}
+use Rattle.rules.proofs.ListLaws.{recOf-range}
+use Rattle.rules.proofs.BufferLaws.{used-long}
 use Rattle.rules.proofs.Invariant.{Inv}
 
 -- the call does to the buffers what it does to the plain heap
@@ -64,8 +64,7 @@ module _ (s : State) (I : Inv s) where
       go (inl e) = rw e (unfold field in refl)
       go (inr L) =
           let b = recOf-range (s .control .n) (s .records) x (legal-nonzero (s .control .n) (recordIn s x) L) in
-          let e = length-eight (s .control .n) (s .slots) x (b .0) (b .1) (I .slots-long) in
-          length-take-le (width (recordIn s x)) (eight (s .slots) x) (omega (arith, L .narrow))
+          used-long (s .control .n) (s .records) (s .slots) x (b .0) (L .narrow) (b .1) (I .slots-long)
 
   pub widths : (x : ℕ) → width (recordIn s x) ≤ 8
   widths x = go (I .legal x)

@@ -14,7 +14,7 @@ use borrow.Author.Tests.{eq-eqb, ne-eqb, eqb-false}
 use Rattle.layout.specs.Field.{field}
 use Rattle.records.specs.Record.{width, cluster, isOut, isSink, isWritten, withOut, withSink, withCluster, withWritten, loose}
 use Rattle.layout.proofs.FieldLaws.{put-same, field-put-flag, flag-put-other, flag-stays}
-use Rattle.graph.specs.Numbers.{upd}
+use Rattle.graph.specs.Numbers.{upd, has}
 use Rattle.graph.specs.Heap.{Heap}
 use Rattle.graph.specs.Clusters.{keep, others, outCount, outBit}
 use Rattle.graph.specs.Writes.{dissolves, stored, storeBy}
@@ -22,9 +22,9 @@ use Rattle.graph.proofs.NumberLaws.{upd-same, upd-other}
 use Rattle.rules.specs.Buffers.{recOf, eight, usedWords, eachFrom, eachRecord}
 use Rattle.rules.specs.View.{target, view, exactOut, encodedRecord, encoded}
 use Rattle.rules.proofs.ListLaws.{length-each, get-each, each-set, recOf-above, rec-get, eight-set, map-set}
-use Rattle.rules.proofs.ViewLaws.{get-target, rec-target}
+use Rattle.rules.proofs.ViewLaws.{get-target, rec-target, target-word, target-low, has-targets}
 use Rattle.rules.proofs.PassLaws.{get-past}
-use Rattle.rules.proofs.BufferLaws.{recOf-get, used-get}
+use Rattle.rules.proofs.BufferLaws.{recOf-get}
 use Rattle.rules.proofs.EncodedRecord.{encoded-same, encoded-loose}
 
 -- ---- the record of an object
@@ -179,15 +179,6 @@ module _ (n : ℕ) (recs slots : List ℕ) (i k t : ℕ) (p : 1 ≤ i) (q : i �
 
 -- ---- the out bit after a store
 
--- a word's target is in cluster c: the record of the word's number tells, also where it is no pointer
-target-in : (n : ℕ) (recs : List ℕ) (w c : ℕ) → c ≢ 0 → eqb (cluster (recOf n recs w)) c ≡ not (eqb (target n w) 0) && eqb (cluster (recOf n recs (target n w))) c
-unfolding field
-target-in n recs w c h = ap (λ (r : ℕ). eqb (cluster r) c) (sym (rec-target n recs w)) ∙ go (target n w) (ℕ-discrete (target n w) 0)
-  where
-    go : (t : ℕ) → Dec (t ≡ 0) → eqb (cluster (recOf n recs t)) c ≡ not (eqb t 0) && eqb (cluster (recOf n recs t)) c
-    go t (yes z) = rw (z, recOf-zero n recs) (ne-eqb 0 c (λ e. h (sym e)))
-    go t (no z) = rw (ne-eqb t 0 z) refl
-
 module _ (n : ℕ) (recs slots : List ℕ) (i k : ℕ) (p : 1 ≤ i) (u : k < width (recOf n recs i)) (b : width (recOf n recs i) ≤ 8) where
   -- one word stored and written set: the out bit is that of the rule
   pub exact-stored : (w : ℕ) → i ≤ n → n ≤ length recs → exactOut (view n (set recs (i - 1) (withWritten true (recOf n recs i))) (set slots (8 * (i - 1) + k) w)) i
@@ -231,15 +222,33 @@ module _ (n : ℕ) (recs slots : List ℕ) (i k : ℕ) (p : 1 ≤ i) (u : k < wi
           ∙ ap (map (target n)) (take-set-lt (width r) (eight slots i) k w u)
           ∙ map-set (target n) (take (width r) (eight slots i)) k w
 
-  -- the old word's target decides whether the cluster is dissolved
-  pub dissolves-loose : (t : ℕ) → cluster (recOf n recs i) ≡ 0 → false ≡ dissolves (view n recs slots) i k t
-  unfolding dissolves view
-  dissolves-loose t e = rw e refl
+-- ---- whether a write dissolves a cluster, by the words of the buffers
 
-  pub dissolves-member : (t : ℕ) → cluster (recOf n recs i) ≢ 0
-      → eqb (cluster (recOf n recs (getD slots (8 * (i - 1) + k) 0))) (cluster (recOf n recs i)) ≡ dissolves (view n recs slots) i k t
+module _ (n : ℕ) (recs slots : List ℕ) (i k w : ℕ) where
+  abbrev words : List ℕ
+  words = usedWords n recs slots i
+
+  abbrev old : ℕ
+  old = getD words k 0
+
+  abbrev own : ℕ
+  own = cluster (recOf n recs i)
+
+  pub dissolves-words : dissolves (view n recs slots) i k (target n w)
+      ≡ not (eqb own 0) && (eqb (cluster (recOf n recs old)) own && not (has old (set words k w)))
   unfolding dissolves view
-  dissolves-member t h =
-      let o : getD (map (target n) (usedWords n recs slots i)) k 0 ≡ target n (getD slots (8 * (i - 1) + k) 0)
-      = get-target n (usedWords n recs slots i) k ∙ ap (target n) (used-get n recs slots i p b k u) in
-      rw (o, ne-eqb (cluster (recOf n recs i)) 0 h) (target-in n recs (getD slots (8 * (i - 1) + k) 0) (cluster (recOf n recs i)) h)
+  dissolves-words = rw (get-target n words k, ← map-set (target n) words k w) (go (ℕ-discrete own 0) (ℕ-discrete (target n old) 0))
+    where
+      by : ℕ → List ℕ → Bool
+      by t l = not (eqb t 0) && (eqb (cluster (recOf n recs t)) own && not (has t l))
+
+      go : Dec (own ≡ 0) → Dec (target n old ≡ 0)
+          → not (eqb own 0) && by (target n old) (map (target n) (set words k w))
+          ≡ not (eqb own 0) && (eqb (cluster (recOf n recs old)) own && not (has old (set words k w)))
+      go (yes e) d = rw e refl
+      go (no e) (yes z) =
+          rw (← rec-target n recs old, z, recOf-zero n recs) (unfold field in (rw (ne-eqb own 0 e, ne-eqb 0 own (λ j. e (sym j))) refl))
+      go (no e) (no z) =
+          let t = target-word n old z in
+          let h = target-low n old in
+          rw (t, ne-eqb old 0 (λ j. z (t ∙ j)), has-targets n old (set words k w) (omega (arith, z)) (omega arith)) refl

@@ -33,7 +33,7 @@ use Rattle.rules.specs.Trials as Trials
 
 pub trials : (map Trials.observed Trials.table ≡ map Trials.expected Trials.table) × (Trials.createRefusals ≡ 1 ∷ 2 ∷ [])
 unfolding GTrials.computed
-    Trials.answered Trials.standing Trials.observed Trials.expected Trials.new Trials.analysis Trials.clustered Trials.plain Trials.beforeH Trials.heapH Trials.on Trials.wide Trials.fan Trials.marked Trials.stateWith Trials.one Trials.two Trials.recordWith Trials.fresh Trials.ownRows Trials.pair Trials.sizesChunk Trials.objectsChunk Trials.rootsChunk Trials.emptyChunk Trials.pairImage Trials.loading Trials.unloaded Trials.imageRows Trials.small Trials.noBuffers Trials.badControls Trials.full Trials.lossy Trials.refused Trials.noWork Trials.refusals Trials.rows Trials.table Trials.createRefusals
+    Trials.answered Trials.standing Trials.observed Trials.expected Trials.new Trials.analysis Trials.clustered Trials.plain Trials.beforeH Trials.heapH Trials.on Trials.wide Trials.fan Trials.frames Trials.marked Trials.stateWith Trials.one Trials.two Trials.recordWith Trials.fresh Trials.ownRows Trials.pair Trials.sizesChunk Trials.objectsChunk Trials.rootsChunk Trials.emptyChunk Trials.pairImage Trials.loading Trials.unloaded Trials.imageRows Trials.small Trials.noBuffers Trials.badControls Trials.full Trials.lossy Trials.refused Trials.noWork Trials.refusals Trials.rows Trials.table Trials.createRefusals
     LLimits.slotsLen LLimits.workLen LLimits.mapLen LLimits.within
     LField.field LField.put LField.flag LField.digit LField.putFlag
     LRecord.loose LRecord.newRecord LRecord.free LRecord.clear LRecord.legal LRecord.damaged

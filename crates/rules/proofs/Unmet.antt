@@ -1,13 +1,9 @@
 -- No call meets 20, 21 or 25 in a heap with the invariant.
 -- Assumes nothing.
-use Prim.Native.Nat.{ℕ, suc}
+use Prim.Native.Nat.{ℕ}
 use mathlib.Core.Path.{_≡_, refl, sym, _∙_}
-use mathlib.Core.Bool.{Bool, true, false, cond, _&&_, _||_, true≢false}
-use mathlib.Core.List.{List, [], _∷_}
-use mathlib.Core.Logic.{_≢_}
-use lib.Dec.{eqb}
-use borrow.Author.Tests.{eq-eqb}
-use native.Mathlib.Nat.{suc-ne-zero}
+use mathlib.Core.Bool.{false}
+use mathlib.Core.List.{List}
 use Rattle.layout.specs.declared.answers.WordRead.{WordRead}
 use Rattle.layout.specs.Refusal.{Test, first}
 use Rattle.rules.specs.Allocate as Allocate
@@ -22,26 +18,11 @@ use Rattle.rules.specs.Save as Save
 use Rattle.rules.specs.Calls.{Call, allocate, allocateInPlace, read, show, write, writeInPlace, setRoot, declareSink, collect, analyse, save, load}
 use Rattle.rules.specs.Steps.{State}
 use Rattle.rules.specs.Demands.{refusalOf}
-use Rattle.rules.proofs.BoolLaws.{or-split}
 use Rattle.rules.proofs.Invariant.{Inv, inv-control, inv-sane, inv-formed}
 use Rattle.rules.proofs.WriteLaws.{no-25}
-use Rattle.rules.proofs.Refused.{answered}
+use Rattle.rules.proofs.Refused.{meets, unmet-first, answered}
 use Rattle.rules.proofs.LoadTests.{Never}
 use Rattle.rules.proofs.LoadLaws.{load-unmet}
-
--- a test of number k holds
-meets : ℕ → List Test → Bool
-meets k [] = false
-meets k (t ∷ l) = (eqb k (t .0) && t .1) || meets k l
-
-unmet-first : (k : ℕ) (T : List Test) → meets (suc k) T ≡ false → first T ≢ suc k
-unfolding meets first
-unmet-first k [] e f = suc-ne-zero k (sym f)
-unmet-first k (t ∷ l) e f = go (t .1) refl f (λ r. unmet-first k l r)
-  where
-    go : (b : Bool) → t .1 ≡ b → cond b (t .0) (first l) ≡ suc k → (meets (suc k) l ≡ false → first l ≢ suc k) → ⊥
-    go true h g r = true≢false (sym (rw (eq-eqb (suc k) (t .0) (sym g), h) refl) ∙ or-split (eqb (suc k) (t .0) && t .1) (meets (suc k) l) e .0)
-    go false h g r = r (or-split (eqb (suc k) (t .0) && t .1) (meets (suc k) l) e .1) g
 
 -- none of the three numbers is met
 abbrev Unmet : List Test → Type 0

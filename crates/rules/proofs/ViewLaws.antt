@@ -1,17 +1,18 @@
 -- What holds of the heap that any buffers hold.
 -- Assumes nothing.
 use Prim.Native.Nat.{ℕ, zero, suc, _≤_}
-use mathlib.Core.Path.{_≡_, refl, sym}
-use mathlib.Core.Bool.{Bool, true, false, cond}
+use mathlib.Core.Path.{_≡_, refl, sym, ap₂, _∙_}
+use mathlib.Core.Bool.{Bool, true, false, cond, _||_}
 use mathlib.Core.List.{List, [], _∷_, map, List·Memᴰ}
 use mathlib.Core.Logic.{_≢_}
 use native.Mathlib.Omega.{arith}
-use lib.Dec.{leb}
+use lib.Dec.{eqb, leb}
 use lib.ListN.{length, getD, take, length-take, length-map}
-use borrow.Author.Tests.{leb-true, leb-false}
+use borrow.Author.Tests.{leb-true, leb-false, ne-eqb}
 use Rattle.layout.specs.Limits.{widthMax}
 use Rattle.layout.specs.Field.{field}
 use Rattle.records.specs.Record.{width}
+use Rattle.graph.specs.Numbers.{has}
 use Rattle.graph.proofs.TraceSafe.{Ranged, words-ranged}
 use Rattle.rules.specs.Buffers.{recOf, eight, usedWords}
 use Rattle.graph.specs.Invariant.{Ready}
@@ -47,6 +48,16 @@ unfolding target
 get-target n [] k = sym (cond-same (leb 0 n) 0)
 get-target n (x ∷ l) zero = refl
 get-target n (x ∷ l) (suc k) = get-target n l k
+
+-- an object is among the words exactly if it is among their targets
+pub has-targets : (n x : ℕ) (l : List ℕ) → 1 ≤ x → x ≤ n → has x (map (target n) l) ≡ has x l
+unfolding has target
+has-targets n x [] p q = refl
+has-targets n x (y ∷ l) p q = ap₂ (λ (a b : Bool). a || b) (go (leb y n) refl) (has-targets n x l p q)
+  where
+    go : (b : Bool) → leb y n ≡ b → eqb x (cond b y 0) ≡ eqb x y
+    go true e = refl
+    go false e = let h = leb-false y n e in ne-eqb x 0 (λ z. omega arith) ∙ sym (ne-eqb x y (λ z. omega arith))
 
 -- the record that a word points at, or of no object
 pub rec-target : (n : ℕ) (recs : List ℕ) (w : ℕ) → recOf n recs (target n w) ≡ recOf n recs w

@@ -2,18 +2,26 @@
 -- Assumes nothing.
 use Prim.Native.Nat.{ℕ, _+_, _<_, _^_}
 use mathlib.Core.Path.{_≡_, refl, sym, ap, _∙_}
-use mathlib.Core.Bool.{Bool, true, false, not, cond, _&&_}
+use mathlib.Core.Bool.{Bool, true, false, not, cond, _&&_, true≢false}
+use mathlib.Core.List.{List}
+use mathlib.Core.Logic.{_≢_}
+use native.Mathlib.Decide.{ℕ-discrete, decLt}
 use native.Mathlib.Nat.{suc-ne-zero}
 use native.Mathlib.Omega.{arith}
-use lib.Dec.{eqb}
-use lib.ListN.{getD}
-use borrow.Author.Tests.{eqb-true, eqb-false, eq-eqb, ne-eqb, not-true}
+use lib.Dec.{eqb, ltb}
+use lib.ListN.{length, getD, set, length-set, List·getD-eq-default}
+use lib.Seq.{getD-set-same, getD-set-other}
+use borrow.Author.Tests.{eqb-true, eqb-false, eq-eqb, ne-eqb, not-true, ltb-true}
 use Rattle.layout.specs.Field.{field}
 use Rattle.records.specs.Record.{cluster}
 use Rattle.layout.proofs.FieldLaws.{field-lt}
-use Rattle.layout.specs.ControlRecord.{withWriteLoss}
-use Rattle.graph.specs.Heap.{Heap}
+use Rattle.layout.specs.ControlRecord.{badControl, withWriteLoss}
+use Rattle.layout.specs.Refusal.{Test, first}
+use Rattle.layout.proofs.ControlLaws.{Sound, control-facts}
+use Rattle.layout.proofs.RefusalLaws.{first-holds}
+use Rattle.graph.specs.Numbers.{has}
 use Rattle.graph.specs.Clusters.{size, keep, others}
+use Rattle.graph.proofs.NumberLaws.{has-at, has-none}
 use Rattle.graph.specs.Writes.{dissolves, storeBy, store, lossBy, lossOf}
 use Rattle.rules.specs.Buffers.{recOf}
 use Rattle.rules.specs.View.{target, view, encoded}
@@ -22,53 +30,67 @@ use Rattle.rules.specs.Write as Write
 use Rattle.rules.specs.Calls.{write}
 use Rattle.rules.specs.Plain.{answer}
 use Rattle.rules.specs.Steps.{State, step}
-use Rattle.rules.specs.Demands.{recordIn, heapOf, refusalOf, PointsIn, Writes, wordsOf}
+use Rattle.rules.specs.Demands.{recordIn, heapOf, refusalOf, Dissolves, Writes, clusterSize, wordsOf}
 use Rattle.rules.proofs.BoolLaws.{is-false, and-split, cond-same, cond-not}
 use Rattle.rules.proofs.Answers.{write-named}
 use Rattle.rules.proofs.Frames.{Named}
 use Rattle.rules.proofs.EncodedRecord.{encoded-cluster}
-use Rattle.rules.proofs.StoreLaws.{store-size}
+use Rattle.rules.proofs.StoreLaws.{store-size, dissolves-words}
 use Rattle.rules.proofs.EncodedLaws.{read-at}
 use Rattle.rules.proofs.Simulation.{all-by}
-use Rattle.rules.proofs.ViewLaws.{get-target, rec-target}
+use Rattle.rules.proofs.Refused.{meets, unmet-first, answered}
 
--- a write dissolves exactly if the old word pointed into the cluster
-module _ (s : State) (i k t : ℕ) where
-  abbrev H : Heap
-  H = heapOf s
+-- the words of an object after a store, by their places
+module _ (l : List ℕ) (k w x : ℕ) where
+  pub stored-none : w ≢ x → ((q : ℕ) → q < length l → q ≢ k → getD l q 0 ≢ x) → has x (set l k w) ≡ false
+  stored-none d h = has-none x (set l k w) (λ q p. at q (rw (length-set l k w) at p) (ℕ-discrete q k))
+    where
+      at : (q : ℕ) → q < length l → Dec (q ≡ k) → getD (set l k w) q 0 ≢ x
+      at q p (yes e) z = d (sym (getD-set-same l q w 0 p) ∙ ap (λ (j : ℕ). getD (set l j w) q 0) e ∙ z)
+      at q p (no e) z = h q p e (sym (getD-set-other l k q w 0 e) ∙ z)
+
+  pub stored-other : has x (set l k w) ≡ false → (q : ℕ) → q < length l → q ≢ k → getD l q 0 ≢ x
+  stored-other e q p d z = true≢false (sym (has-at x (set l k w) q (rw (length-set l k w) p) (getD-set-other l k q w 0 d ∙ z)) ∙ e)
+
+  pub stored-new : has x (set l k w) ≡ false → k < length l → w ≢ x
+  stored-new e p z = true≢false (sym (has-at x (set l k w) k (rw (length-set l k w) p) (getD-set-same l k w 0 p ∙ z)) ∙ e)
+
+-- a write dissolves, by the rule, exactly where the demands say so
+module _ (s : State) (i k w : ℕ) where
+  abbrev words : List ℕ
+  words = wordsOf s i
 
   abbrev old : ℕ
-  old = getD (wordsOf s i) k 0
+  old = getD words k 0
 
-  old-kid : getD (H .kids i) k 0 ≡ target (s .control .n) old
-  unfolding view
-  old-kid = get-target (s .control .n) (wordsOf s i) k
+  abbrev c : ℕ
+  c = cluster (recordIn s i)
 
-  old-cluster : H .cluster (getD (H .kids i) k 0) ≡ cluster (recordIn s old)
-  unfolding view
-  old-cluster = ap (λ (x : ℕ). cluster (recordIn s x)) old-kid ∙ ap cluster (rec-target (s .control .n) (s .records) old)
+  abbrev rule : Bool
+  rule = dissolves (heapOf s) i k (target (s .control .n) w)
 
-  no-cluster : H .cluster 0 ≡ 0
-  unfolding view recOf field
-  no-cluster = refl
+  pub dissolves-so : Dissolves s i k w → rule ≡ true
+  dissolves-so (nz, e, d, h) =
+      dissolves-words (s .control .n) (s .records) (s .slots) i k w
+      ∙ rw (ne-eqb c 0 nz, eq-eqb (cluster (recordIn s old)) c e, stored-none words k w old d h) refl
 
-  pub points-dissolves : PointsIn s i k → dissolves H i k t ≡ true
-  unfolding dissolves view
-  points-dissolves (nz, e) =
-      let c : H .cluster (getD (H .kids i) k 0) ≡ H .cluster i = old-cluster ∙ e in
-      rw (
-        ne-eqb (H .cluster i) 0 nz,
-        ne-eqb (getD (H .kids i) k 0) 0 (λ z. nz (sym c ∙ ap (H .cluster) z ∙ no-cluster)),
-        eq-eqb (H .cluster (getD (H .kids i) k 0)) (H .cluster i) c,
-      ) refl
+  -- an object that is no part of the heap has no cluster
+  in-range : cluster (recordIn s old) ≢ 0 → k < length words
+  unfolding recOf field
+  in-range nz = go (decLt k (length words))
+    where
+      go : Dec (k < length words) → k < length words
+      go (yes p) = p
+      go (no p) = absurd (nz (ap (λ (x : ℕ). cluster (recordIn s x)) (List·getD-eq-default words 0 (omega (arith, p)))))
 
-  pub dissolves-points : dissolves H i k t ≡ true → PointsIn s i k
-  unfolding dissolves view
-  dissolves-points e =
-      let u = getD (H .kids i) k 0 in
-      let a = and-split (not (eqb (H .cluster i) 0)) (not (eqb u 0) && eqb (H .cluster u) (H .cluster i)) e in
-      let b = and-split (not (eqb u 0)) (eqb (H .cluster u) (H .cluster i)) (a .1) in
-      (eqb-false (H .cluster i) 0 (not-true _ (a .0)), sym old-cluster ∙ eqb-true (H .cluster (getD (H .kids i) k 0)) (H .cluster i) (b .1))
+  pub so-dissolves : rule ≡ true → Dissolves s i k w
+  so-dissolves e =
+      let a = and-split (not (eqb c 0)) (eqb (cluster (recordIn s old)) c && not (has old (set words k w))) (sym (dissolves-words (s .control .n) (s .records) (s .slots) i k w) ∙ e) in
+      let b = and-split (eqb (cluster (recordIn s old)) c) (not (has old (set words k w))) (a .1) in
+      let nz : c ≢ 0 = eqb-false c 0 (not-true _ (a .0)) in
+      let in-c : cluster (recordIn s old) ≡ c = eqb-true (cluster (recordIn s old)) c (b .0) in
+      let none : has old (set words k w) ≡ false = not-true _ (b .1) in
+      (nz, in-c, stored-new words k w old none (in-range (λ z. nz (sym in-c ∙ z))), stored-other words k w old none)
 
 module _ (s : State) (i k w : ℕ) (accepted : refusalOf (write i k w) s ≡ 0) where
   abbrev t : ℕ
@@ -113,15 +135,54 @@ module _ (s : State) (i k w : ℕ) (accepted : refusalOf (write i k w) s ≡ 0) 
   pub write-does : Writes s i k w
   unfolding store storeBy lossAfter lossOf lossBy
   write-does = record {
-    dissolved = λ p x. after x ∙ ap (λ (b : Bool). storeBy b (heapOf s) i k t .cluster x) (points-dissolves s i k t p) ∙ member x;
-    lost = λ p. loss ∙ ap (λ (b : Bool). s .control .«write_loss» + lossBy b (heapOf s) i) (points-dissolves s i k t p) ∙ (unfold size view in refl);
+    dissolved = λ p x. after x ∙ ap (λ (b : Bool). storeBy b (heapOf s) i k t .cluster x) (dissolves-so s i k w p) ∙ member x;
+    lost = λ p. loss ∙ ap (λ (b : Bool). s .control .«write_loss» + lossBy b (heapOf s) i) (dissolves-so s i k w p) ∙ (unfold size view in refl);
     kept = λ p x. after x ∙ ap (λ (b : Bool). storeBy b (heapOf s) i k t .cluster x) (stays p) ∙ (unfold view in refl);
     unlost = λ p. loss ∙ ap (λ (b : Bool). s .control .«write_loss» + lossBy b (heapOf s) i) (stays p) ∙ omega arith;
   }
     where
-      stays : (PointsIn s i k → ⊥) → dissolves (heapOf s) i k t ≡ false
-      stays p = is-false (dissolves (heapOf s) i k t) (λ e. p (dissolves-points s i k t e))
+      stays : (Dissolves s i k w → ⊥) → dissolves (heapOf s) i k t ≡ false
+      stays p = is-false (dissolves (heapOf s) i k t) (λ e. p (so-dissolves s i k w e))
 
       member : (x : ℕ) → keep (others (heapOf s .cluster i)) (heapOf s .cluster) x
           ≡ cond (eqb (cluster (recordIn s x)) (cluster (recordIn s i))) 0 (cluster (recordIn s x))
       member x = unfold keep others view in (cond-not (eqb (cluster (recordIn s x)) (cluster (recordIn s i))) (cluster (recordIn s x)) 0)
+
+-- refused for its loss: of the tests, only the last holds
+module _ (s : State) (i k w : ℕ) (refused : refusalOf (write i k w) s ≡ 25) where
+  abbrev loss′ : ℕ
+  loss′ = lossAfter (s .control) i k w (s .records) (s .slots)
+
+  abbrev tests : List Test
+  tests = Write.writeTests (s .control) i k w (s .records) (s .slots)
+
+  first-25 : first tests ≡ 25
+  unfolding Write.write
+  first-25 = sym (answered _ _ _ (λ (o : Write.Outcome). o .answer .refusal) refl (λ m. refl)) ∙ refused
+
+  above : s .control .n < loss′
+  above = go (ltb (s .control .n) loss′) refl
+    where
+      go : (b : Bool) → ltb (s .control .n) loss′ ≡ b → s .control .n < loss′
+      go true e = ltb-true (s .control .n) loss′ e
+      go false e = absurd (unmet-first 24 tests (unfold meets Write.writeTests in (rw e refl)) first-25)
+
+  sound : Sound (s .control)
+  unfolding Write.writeTests
+  sound = go (badControl (s .control)) refl
+    where
+      go : (b : Bool) → badControl (s .control) ≡ b → Sound (s .control)
+      go false e = control-facts (s .control) e
+      go true e = let z : _≡_ {A = ℕ} 20 25 = sym (first-holds 20 _ (badControl (s .control)) e) ∙ first-25 in absurd (omega arith)
+
+  pub write-overflows : Dissolves s i k w × (s .control .n < s .control .«write_loss» + clusterSize s i)
+  unfolding lossAfter lossOf
+  write-overflows = go (dissolves (heapOf s) i k (target (s .control .n) w)) refl
+    where
+      go : (b : Bool) → dissolves (heapOf s) i k (target (s .control .n) w) ≡ b
+          → Dissolves s i k w × (s .control .n < s .control .«write_loss» + clusterSize s i)
+      go true e = (so-dissolves s i k w e, (unfold lossBy size view in (rw e at above)))
+      go false e =
+          let a : s .control .n < s .control .«write_loss» + 0 = unfold lossBy in (rw e at above) in
+          let b = sound .writes in
+          absurd (omega arith)

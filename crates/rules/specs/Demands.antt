@@ -352,19 +352,25 @@ pub record Adjusts (s : State) (work : List ℕ) : Type 0 where
   pub outLoss : analysed s work .answer .control .«out_loss»
       ≡ sum (s .control .n) (λ h. cond (eqb (cluster (recordIn s h)) 0 && eqb (walkedIn s work h) h && ltb (5 * membersIn s work h) (2 * outsIn s work h)) (membersIn s work h) 0)
 
--- the word in slot k of object i points into the cluster of i
-abbrev pub PointsIn : State → ℕ → ℕ → Type 0
-PointsIn s i k = (cluster (recordIn s i) ≢ 0) × (cluster (recordIn s (getD (wordsOf s i) k 0)) ≡ cluster (recordIn s i))
+-- how many objects are in the cluster of i
+abbrev pub clusterSize : State → ℕ → ℕ
+clusterSize s i = count (s .control .n) (λ x. eqb (cluster (recordIn s x)) (cluster (recordIn s i)))
 
--- what an accepted write does to the clusters and to the write loss: if the old word pointed into the cluster, all members lose it; else nothing
+-- w in slot k of object i dissolves: the old word points into the cluster of i, and no used slot of i, slot k with w, then holds it
+abbrev pub Dissolves : State → ℕ → ℕ → ℕ → Type 0
+Dissolves s i k w =
+    let words = wordsOf s i in
+    let old = getD words k 0 in
+    (cluster (recordIn s i) ≢ 0) × (cluster (recordIn s old) ≡ cluster (recordIn s i))
+    × (w ≢ old) × ((q : ℕ) → q < length words → q ≢ k → getD words q 0 ≢ old)
+
+-- what an accepted write does to the clusters and to the write loss: if it dissolves, all members lose their cluster; else nothing
 pub record Writes (s : State) (i k w : ℕ) : Type 0 where
-  pub dissolved : PointsIn s i k → (x : ℕ)
+  pub dissolved : Dissolves s i k w → (x : ℕ)
       → cluster (recordAfter (write i k w) s x) ≡ cond (eqb (cluster (recordIn s x)) (cluster (recordIn s i))) 0 (cluster (recordIn s x))
-  pub lost : PointsIn s i k
-      → step (write i k w) s .after .control .«write_loss»
-      ≡ s .control .«write_loss» + count (s .control .n) (λ x. eqb (cluster (recordIn s x)) (cluster (recordIn s i)))
-  pub kept : (PointsIn s i k → ⊥) → (x : ℕ) → cluster (recordAfter (write i k w) s x) ≡ cluster (recordIn s x)
-  pub unlost : (PointsIn s i k → ⊥) → step (write i k w) s .after .control .«write_loss» ≡ s .control .«write_loss»
+  pub lost : Dissolves s i k w → step (write i k w) s .after .control .«write_loss» ≡ s .control .«write_loss» + clusterSize s i
+  pub kept : (Dissolves s i k w → ⊥) → (x : ℕ) → cluster (recordAfter (write i k w) s x) ≡ cluster (recordIn s x)
+  pub unlost : (Dissolves s i k w → ⊥) → step (write i k w) s .after .control .«write_loss» ≡ s .control .«write_loss»
 
 -- what an accepted declaration does: the object becomes a sink, and the members of its cluster lose it
 pub record Declares (s : State) (i : ℕ) : Type 0 where
@@ -403,6 +409,9 @@ pub record Demand2 : Type 0 where
   pub adjusts : (s : State) (work : List ℕ) → refusalOf (analyse work) s ≡ 0 → Adjusts s work
   -- every accepted write, in any heap
   pub writes : (s : State) (i k w : ℕ) → refusalOf (write i k w) s ≡ 0 → Writes s i k w
+  -- only a write that dissolves is refused for its loss, and only where the loss after it would be more than n
+  pub overflows : (s : State) (i k w : ℕ) → refusalOf (write i k w) s ≡ 25
+      → Dissolves s i k w × (s .control .n < s .control .«write_loss» + clusterSize s i)
   -- every accepted declaration, in any heap; a second one, accepted or refused, leaves all as it was
   pub declares : (s : State) (i : ℕ) → refusalOf (declareSink i) s ≡ 0 → Declares s i
   pub again : (s : State) (i : ℕ) → isSink (recordIn s i) ≡ true → step (declareSink i) s .after ≡ s
@@ -501,3 +510,18 @@ pub record Reloads : Type 0 where
   -- the heap that any accepted image makes is the plain heap that the image holds
   pub holds : (image recs slots roots : List ℕ) → Load.load image recs slots roots .answer .refusal ≡ 0
       → plainOf (loaded image recs slots roots) ≡ plainLoaded image
+
+-- ==== the same pointer held elsewhere
+
+-- a write, accepted or refused, changes no cluster and no write loss, and is not refused for its loss
+abbrev pub Spares : State → ℕ → ℕ → ℕ → Type 0
+Spares s i k w =
+    ((x : ℕ) → cluster (recordAfter (write i k w) s x) ≡ cluster (recordIn s x))
+    × (step (write i k w) s .after .control .«write_loss» ≡ s .control .«write_loss») × (refusalOf (write i k w) s ≢ 25)
+
+-- the writes, in any heap, that spare the clusters although they may be over a pointer into one
+pub record HeldElsewhere : Type 0 where
+  -- of the word that the slot has
+  pub equal : (s : State) (i k : ℕ) → Spares s i k (getD (wordsOf s i) k 0)
+  -- of any word, where another used slot of the object holds what this one does
+  pub elsewhere : (s : State) (i k q w : ℕ) → q < length (wordsOf s i) → q ≢ k → getD (wordsOf s i) q 0 ≡ getD (wordsOf s i) k 0 → Spares s i k w

@@ -119,6 +119,11 @@ fan more =
     wide 4 ++ (write 1 0 2 ∷ write 2 0 3 ∷ write 3 0 4 ∷ write 1 1 5 ∷ write 1 2 5 ∷ write 1 3 5 ∷ write 1 4 5 ∷ write 2 1 5 ∷ write 2 2 5 ∷ write 2 3 5
     ∷ write 3 1 5 ∷ write 3 2 5 ∷ write 4 0 5 ∷ []) ++ more ++ (setRoot 0 1 ∷ analysis 24 ∷ write 5 0 0 ∷ [])
 
+-- frames of a script: of the two slots of object 1 that hold 3 one is cleared, a collection is made, and 3 is stored there again
+unfoldable pub frames : ℕ → List Call
+frames zero = []
+frames (suc k) = write 1 1 0 ∷ clustered 16 ∷ write 1 1 3 ∷ frames k
+
 -- ---- the marked trials
 
 -- the rows marked P in "Trials"; h is heap H
@@ -144,7 +149,7 @@ marked h =
     ∷ on h (setRoot 0 3 ∷ []) (clustered 16) (0 ∷ 4 ∷ 2 ∷ 2 ∷ 86 ∷ []) (0 ∷ 0 ∷ 0 ∷ 0 ∷ 0 ∷ 0 ∷ 0 ∷ [])
     ∷ on h (write 5 0 1 ∷ setRoot 0 3 ∷ []) (clustered 16) (0 ∷ 0 ∷ 6 ∷ 2 ∷ 0 ∷ []) (0 ∷ 1 ∷ 1 ∷ 1 ∷ 1 ∷ 1 ∷ 1 ∷ [])
     -- an equal word is stored; a member becomes a sink
-    ∷ on h [] (write 4 0 6) (0 ∷ []) (6 ∷ 0 ∷ 0 ∷ 0 ∷ 0 ∷ 0 ∷ 0 ∷ [])
+    ∷ on h [] (write 4 0 6) (0 ∷ []) (0 ∷ 1 ∷ 1 ∷ 1 ∷ 1 ∷ 1 ∷ 1 ∷ [])
     ∷ on h [] (declareSink 6) (0 ∷ []) (0 ∷ 0 ∷ 0 ∷ 0 ∷ 0 ∷ 0 ∷ 0 ∷ [])
     -- four members with ten out pointers, with eleven, and three members
     ∷ record { from = new 24 2; before = fan []; call = analysis 24; answers = 0 ∷ 1 ∷ 4 ∷ 16 ∷ 0 ∷ []; stands = 0 ∷ 1 ∷ 1 ∷ 1 ∷ 1 ∷ 0 ∷ [] }
@@ -187,6 +192,10 @@ two a b = a ∷ b ∷ replicate 6 0
 -- the record of an object of this width with these flags (written 2, sink 4, out 8) and this cluster
 unfoldable pub recordWith : ℕ → ℕ → ℕ → ℕ
 recordWith width flags c = 1 + flags + 256 * width + 65536 * c
+
+-- objects 1 and 2 are a cluster, 1 points at 2, and the write loss is n already
+unfoldable pub full : State
+full = stateWith 2 8 2 (recordWith 1 0 1 ∷ recordWith 1 0 1 ∷ []) (one 2 ++ one 0) 1
 
 -- a trial of one call
 unfoldable pub fresh : State → Call → List ℕ → List ℕ → Trial
@@ -266,6 +275,13 @@ ownRows h =
     -- in place: 7 and 8 are given one after the other; a pointer inside the cluster is cleared
     ∷ on h (allocateInPlace 1 ∷ []) (allocateInPlace 1) (0 ∷ 8 ∷ []) (0 ∷ 1 ∷ 1 ∷ 1 ∷ 1 ∷ 1 ∷ 1 ∷ 0 ∷ 0 ∷ [])
     ∷ on h [] (writeInPlace 1 0 0) (0 ∷ []) (6 ∷ 0 ∷ 0 ∷ 0 ∷ 0 ∷ 0 ∷ 0 ∷ [])
+    -- a pointer in two slots: frame by frame the cluster stands, and a collection scans none of it; it goes with the last of the two
+    ∷ on h (write 1 2 3 ∷ frames 2) (clustered 16) (0 ∷ 0 ∷ 6 ∷ 0 ∷ 0 ∷ []) (0 ∷ 1 ∷ 1 ∷ 1 ∷ 1 ∷ 1 ∷ 1 ∷ [])
+    ∷ on h (write 1 2 3 ∷ write 1 1 0 ∷ []) (write 1 2 0) (0 ∷ []) (6 ∷ 0 ∷ 0 ∷ 0 ∷ 0 ∷ 0 ∷ 0 ∷ [])
+    -- held by another object, or in a slot that is not used; and an equal word where there is no room for a loss
+    ∷ on h (write 5 0 6 ∷ []) (write 4 0 0) (0 ∷ []) (6 ∷ 0 ∷ 0 ∷ 0 ∷ 0 ∷ 0 ∷ 0 ∷ [])
+    ∷ fresh (stateWith 2 8 0 (recordWith 1 0 1 ∷ recordWith 1 0 1 ∷ []) (two 2 2 ++ one 0) 1) (write 1 0 0) (0 ∷ []) (2 ∷ 0 ∷ 0 ∷ [])
+    ∷ fresh full (write 1 0 2) (0 ∷ []) (2 ∷ 1 ∷ 1 ∷ [])
     ∷ []
 
 -- ---- saves and loads, byte by byte
@@ -362,10 +378,6 @@ noBuffers = stateWith 2 0 0 [] [] 0
 -- a control record out of range, and no buffers
 unfoldable pub badControls : State
 badControls = stateWith 4096 0 0 [] [] 0
-
--- objects 1 and 2 are a cluster, 1 points at 2, and the write loss is n already
-unfoldable pub full : State
-full = stateWith 2 8 2 (recordWith 1 0 1 ∷ recordWith 1 0 1 ∷ []) (one 2 ++ one 0) 1
 
 -- 1 and 2 are such a cluster, and 3 is free
 unfoldable pub lossy : State

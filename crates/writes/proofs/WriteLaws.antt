@@ -7,9 +7,9 @@ use mathlib.Core.Logic.{_≢_}
 use native.Mathlib.Decide.{ℕ-discrete}
 use native.Mathlib.Omega.{arith}
 use lib.Dec.{leb, ltb, eqb, lit<}
-use lib.ListN.{length, getD, set}
-use lib.Seq.{set-set}
-use borrow.Author.Tests.{le-leb, lt-leb, leb-false, lt-ltb, le-ltb, eqb-true, not-true, not-false}
+use lib.ListN.{length, getD, set, length-set}
+use lib.Seq.{set-set, getD-set-same, getD-set-other}
+use borrow.Author.Tests.{le-leb, lt-leb, leb-false, lt-ltb, le-ltb, eqb-true, eq-eqb, ne-eqb, not-true, not-false}
 use Rattle.layout.specs.declared.answers.Control.{Control}
 use Rattle.layout.specs.declared.words.Word.{Word}
 use Rattle.layout.specs.declared.words.Word.the-variants.{Nil, Object, Immediate, Illegal}
@@ -22,15 +22,16 @@ use Rattle.layout.proofs.LimitLaws.{below-within, above-within}
 use Rattle.layout.proofs.ControlLaws.{writes-sound, facts-control}
 use Rattle.layout.proofs.WordLaws.{Says, sort-says, pointer-legal, immediate-bounds}
 use Rattle.layout.proofs.RefusalLaws.{Numbered, nil, cons, first-passed, first-front, first-skip, first-zero, first-holds, first-fails, outcome-zero, outcome-number}
+use Rattle.graph.specs.Numbers.{has}
 use Rattle.graph.specs.Writes.{dissolves, storeBy, store, lossBy, lossOf}
 use Rattle.graph.specs.Clusters.{size, outBit}
-use Rattle.graph.proofs.NumberLaws.{count-le}
-use Rattle.rules.specs.Buffers.{recOf, eachRecord}
+use Rattle.graph.proofs.NumberLaws.{count-le, has-at, has-none}
+use Rattle.rules.specs.Buffers.{recOf, usedWords, eachRecord}
 use Rattle.rules.specs.View.{target, view, exactOut, encoded}
 use Rattle.rules.specs.Show.{showTests}
 use Rattle.rules.specs.Write as Write
-use Rattle.rules.proofs.BufferLaws.{recOf-get}
-use Rattle.rules.proofs.StoreLaws.{recOf-set-same, store-staying, store-dissolving, exact-stored, dissolves-loose, dissolves-member}
+use Rattle.rules.proofs.BufferLaws.{recOf-get, used-get, used-long}
+use Rattle.rules.proofs.StoreLaws.{recOf-set-same, store-staying, store-dissolving, exact-stored, dissolves-words}
 use Rattle.table.specs.Clusters.{clusterOf, membersOf, dissolvedRecord, dissolved}
 use Rattle.writes.specs.Writes.{wordTests, frontTests, Slot, Attempted, refuses, keeps, overflows, asks, breaks}
 use Rattle.table.proofs.NamedLaws.{named, named-rest}
@@ -160,17 +161,75 @@ module _ (n i k : ℕ) (recs slots : List ℕ) (s : Slot n i k recs slots) (at :
 -- ---- whether the write dissolves
 
 module _ (n i k : ℕ) (recs slots : List ℕ) (s : Slot n i k recs slots) where
-  module _ (r d : ℕ) (e : r ≡ recOf n recs i) (f : d ≡ cluster r) where
-    pub dissolves-none : d ≡ 0 → false ≡ dissolves (view n recs slots) i k 0
-    dissolves-none z = dissolves-loose n recs slots i k (s .low) (s .used) (s .narrow) 0 (sym (f ∙ ap cluster e) ∙ z)
+  -- any other used slot is there too
+  pub other-slot : (q u r : ℕ) → q < u → u ≡ width r → r ≡ recOf n recs i → Slot n i q recs slots
+  other-slot q u r p e f = record {
+    room = s .room;
+    low = s .low;
+    high = s .high;
+    used = rw (← f, ← e) p;
+    narrow = s .narrow;
+  }
 
-    pub dissolves-by : d ≢ 0 → (at : ℕ) → at ≡ slotsLen (i - 1) → (q m : ℕ) → q ≡ recOf n recs (getD slots (at + k) 0) → m ≡ cluster q
-        → eqb m d ≡ dissolves (view n recs slots) i k 0
+  -- its words after the store: what each slot holds, and whether one of them is x
+  module _ (w u r : ℕ) (e : u ≡ width r) (f : r ≡ recOf n recs i) where
+    abbrev words : List ℕ
+    words = usedWords n recs slots i
+
+    as-many : length (set words k w) ≡ u
+    as-many = length-set words k w ∙ used-long n recs slots i (s .low) (s .narrow) (s .high) (s .room .slots-long) ∙ sym (e ∙ ap width f)
+
+    pub after-at : (q : ℕ) → q < u → (at : ℕ) → at ≡ slotsLen (i - 1) → (v : ℕ) → v ≡ cond (eqb q k) w (getD slots (at + q) 0) → v ≡ getD (set words k w) q 0
     unfolding slotsLen
-    dissolves-by h at a q m g j =
-        let y : cluster (recOf n recs i) ≡ d = sym (f ∙ ap cluster e) in
-        let x : m ≡ cluster (recOf n recs (getD slots (8 * (i - 1) + k) 0)) = j ∙ ap cluster (g ∙ ap (λ (p : ℕ). recOf n recs (getD slots (p + k) 0)) a) in
-        ap₂ eqb x (sym y) ∙ dissolves-member n recs slots i k (s .low) (s .used) (s .narrow) 0 (λ o. h (sym y ∙ o))
+    after-at q p at a v g = g ∙ go (ℕ-discrete q k)
+      where
+        go : Dec (q ≡ k) → cond (eqb q k) w (getD slots (at + q) 0) ≡ getD (set words k w) q 0
+        go (yes h) = rw (h, eq-eqb k k refl) (sym (getD-set-same words k w 0 (let z = as-many in let y = length-set words k w in omega arith)))
+        go (no h) =
+            rw (ne-eqb q k h, a) (sym (used-get n recs slots i (s .low) (s .narrow) q (rw (← f, ← e) p)) ∙ sym (getD-set-other words k q w 0 h))
+
+    -- one more word that is not x
+    pub not-yet : (x q v : ℕ) → v ≡ getD (set words k w) q 0 → v ≢ x → ((p : ℕ) → p < q → getD (set words k w) p 0 ≢ x)
+        → (p : ℕ) → p < q + 1 → getD (set words k w) p 0 ≢ x
+    not-yet x q v g d h p l = go (ℕ-discrete p q)
+      where
+        go : Dec (p ≡ q) → getD (set words k w) p 0 ≢ x
+        go (yes j) = λ z. d (g ∙ ap (λ (y : ℕ). getD (set words k w) y 0) (sym j) ∙ z)
+        go (no j) = h p (omega (arith, j))
+
+    pub still-there : (x q : ℕ) → q < u → getD (set words k w) q 0 ≡ x → true ≡ has x (set words k w)
+    still-there x q p h = sym (has-at x (set words k w) q (rw as-many p) h)
+
+    pub not-there : (x q : ℕ) → u ≤ q → ((p : ℕ) → p < q → getD (set words k w) p 0 ≢ x) → false ≡ has x (set words k w)
+    not-there x q p h = sym (has-none x (set words k w) (λ j l. h j (let z = as-many in omega arith)))
+
+  module _ (w r d : ℕ) (e : r ≡ recOf n recs i) (f : d ≡ cluster r) where
+    abbrev rule : Bool
+    rule = dissolves (view n recs slots) i k (target n w)
+
+    -- the object's cluster
+    own : cluster (recOf n recs i) ≡ d
+    own = sym (f ∙ ap cluster e)
+
+    pub dissolves-none : d ≡ 0 → false ≡ rule
+    dissolves-none z = sym (dissolves-words n recs slots i k w ∙ rw (own, z) refl)
+
+    -- the old word and its cluster
+    module _ (h : d ≢ 0) (at : ℕ) (a : at ≡ slotsLen (i - 1)) (q m : ℕ) (g : q ≡ recOf n recs (getD slots (at + k) 0)) (j : m ≡ cluster q) where
+      same-old : getD slots (at + k) 0 ≡ getD (usedWords n recs slots i) k 0
+      unfolding slotsLen
+      same-old = ap (λ (p : ℕ). getD slots (p + k) 0) a ∙ sym (used-get n recs slots i (s .low) (s .narrow) k (s .used))
+
+      in-old : cluster (recOf n recs (getD (usedWords n recs slots i) k 0)) ≡ m
+      in-old = sym (j ∙ ap cluster (g ∙ ap (recOf n recs) same-old))
+
+      pub dissolves-outside : m ≢ d → false ≡ rule
+      dissolves-outside o = sym (dissolves-words n recs slots i k w ∙ rw (own, in-old, ne-eqb d 0 h, ne-eqb m d o) refl)
+
+      pub dissolves-inside : m ≡ d → (b : Bool) → b ≡ has (getD slots (at + k) 0) (set (usedWords n recs slots i) k w) → not b ≡ rule
+      dissolves-inside o b t =
+          sym (dissolves-words n recs slots i k w
+          ∙ rw (own, in-old, o, ne-eqb d 0 h, eq-eqb d d refl, ← same-old, ← t) refl)
 
 -- ---- the stores
 
@@ -247,10 +306,10 @@ module _ (c : Control) (i k w : ℕ) (recs slots : List ℕ) where
           (λ j. Write.gives (record { refusal = 0; control = q j }) (v j) (y j))
           ∙ sym (outcome-zero _ _ (Write.writeTests c i k w recs slots) (only-last ∙ first-fails 25 [] _ (le-ltb _ _ h)))
 
-    pub stayed : (b : Bool) → b ≡ dissolves (view (c .n) recs slots) i k 0 → not b ≡ true → (rs ss : List ℕ)
+    pub stayed : (b : Bool) → b ≡ dissolves (view (c .n) recs slots) i k (target (c .n) w) → not b ≡ true → (rs ss : List ℕ)
         → rs ≡ encoded (storeBy false (view (c .n) recs slots) i k (target (c .n) w)) recs → ss ≡ set slots (8 * (i - 1) + k) w
         → Write.gives (record { refusal = 0; control = c }) rs ss ≡ Write.write c i k w recs slots
-    unfolding dissolves lossBy withWriteLoss
+    unfolding lossBy withWriteLoss
     stayed b f t rs ss x y =
         let g = sym f ∙ not-true b t in
         let l : Write.lossAfter c i k w recs slots ≡ c .«write_loss» + 0 = loss-by false g in
@@ -258,10 +317,9 @@ module _ (c : Control) (i k w : ℕ) (recs slots : List ℕ) where
         let same : c .«write_loss» ≡ Write.lossAfter c i k w recs slots = omega arith in
         done false g (omega arith) c (ap (λ (q : ℕ). withWriteLoss q c) same) rs ss x y
 
-    module _ (b : Bool) (f : b ≡ dissolves (view (c .n) recs slots) i k 0) (t : not b ≡ false)
+    module _ (b : Bool) (f : b ≡ dissolves (view (c .n) recs slots) i k (target (c .n) w)) (t : not b ≡ false)
         (l : ℕ) (g : l ≡ c .«write_loss» + membersOf (c .n) recs (clusterOf (c .n) recs i)) where
       dissolving : dissolves (view (c .n) recs slots) i k (target (c .n) w) ≡ true
-      unfolding dissolves
       dissolving = sym f ∙ not-false b t
 
       grown : Write.lossAfter c i k w recs slots ≡ l
@@ -283,7 +341,7 @@ module _ (c : Control) (i k w : ℕ) (recs slots : List ℕ) where
 
 -- the ends of an attempt whose tests passed
 module _ (c : Control) (i k w : ℕ) (recs slots : List ℕ) (m : ℕ) (e : m ≡ first (frontTests c i k w recs slots)) (z : m ≡ 0)
-    (b : Bool) (f : b ≡ dissolves (view (c .n) recs slots) i k 0) (may : Bool) where
+    (b : Bool) (f : b ≡ dissolves (view (c .n) recs slots) i k (target (c .n) w)) (may : Bool) where
   pub ends-kept : not b ≡ true → (rs ss : List ℕ) → rs ≡ encoded (storeBy false (view (c .n) recs slots) i k (target (c .n) w)) recs
       → ss ≡ set slots (8 * (i - 1) + k) w → Attempted c i k w recs slots may 0 rs ss
   ends-kept t rs ss = keeps (sym z ∙ e) (sym (not-true b t) ∙ f) refl
@@ -335,7 +393,7 @@ module _ (c : Control) (i k w : ℕ) (recs slots : List ℕ) where
       first-fails 20 _ _ (facts-control _ (writes-sound c s l h)) ∙ first-passed 19 _ _ (sym e) .1
 
   -- the second attempt, after one that asked
-  granted : (l b : ℕ) (rs ss : List ℕ) → 0 ≡ first (frontTests c i k w recs slots) → true ≡ dissolves (view (c .n) recs slots) i k 0
+  granted : (l b : ℕ) (rs ss : List ℕ) → 0 ≡ first (frontTests c i k w recs slots) → true ≡ dissolves (view (c .n) recs slots) i k (target (c .n) w)
       → l ≡ c .«write_loss» + membersOf (c .n) recs (clusterOf (c .n) recs i) → l ≤ c .n → Attempted (withWriteLoss l c) i k w recs slots true b rs ss
       → Write.gives (record { refusal = b; control = withWriteLoss l c }) rs ss ≡ Write.write c i k w recs slots
   unfolding withWriteLoss

@@ -37,15 +37,15 @@ pub record Slot (n i k : ℕ) (recs slots : List ℕ) : Type 0 where
 -- what an attempt at a write answers and leaves: a refusal, the word stored, or the loss after a store that may not dissolve yet
 pub data Attempted (c : Control) (i k w : ℕ) (recs slots : List ℕ) (may : Bool) (a : ℕ) (rs ss : List ℕ) : Type 0 where
   refuses : a ≡ first (frontTests c i k w recs slots) → a ≢ 0 → rs ≡ recs → ss ≡ slots → Attempted c i k w recs slots may a rs ss
-  keeps : 0 ≡ first (frontTests c i k w recs slots) → false ≡ dissolves (view (c .n) recs slots) i k 0 → a ≡ 0
+  keeps : 0 ≡ first (frontTests c i k w recs slots) → false ≡ dissolves (view (c .n) recs slots) i k (target (c .n) w) → a ≡ 0
       → rs ≡ encoded (storeBy false (view (c .n) recs slots) i k (target (c .n) w)) recs → ss ≡ set slots (widthMax * (i - 1) + k) w
       → Attempted c i k w recs slots may a rs ss
-  overflows : 0 ≡ first (frontTests c i k w recs slots) → true ≡ dissolves (view (c .n) recs slots) i k 0 → may ≡ false
+  overflows : 0 ≡ first (frontTests c i k w recs slots) → true ≡ dissolves (view (c .n) recs slots) i k (target (c .n) w) → may ≡ false
       → (l : ℕ) → l ≡ c .«write_loss» + membersOf (c .n) recs (clusterOf (c .n) recs i) → c .n < l → a ≡ 25 → rs ≡ recs → ss ≡ slots
       → Attempted c i k w recs slots may a rs ss
-  asks : 0 ≡ first (frontTests c i k w recs slots) → true ≡ dissolves (view (c .n) recs slots) i k 0 → may ≡ false
+  asks : 0 ≡ first (frontTests c i k w recs slots) → true ≡ dissolves (view (c .n) recs slots) i k (target (c .n) w) → may ≡ false
       → (l : ℕ) → l ≡ c .«write_loss» + membersOf (c .n) recs (clusterOf (c .n) recs i) → l ≤ c .n → a ≡ 64 + l → rs ≡ recs → ss ≡ slots
       → Attempted c i k w recs slots may a rs ss
-  breaks : 0 ≡ first (frontTests c i k w recs slots) → true ≡ dissolves (view (c .n) recs slots) i k 0 → may ≡ true → a ≡ 0
+  breaks : 0 ≡ first (frontTests c i k w recs slots) → true ≡ dissolves (view (c .n) recs slots) i k (target (c .n) w) → may ≡ true → a ≡ 0
       → rs ≡ encoded (storeBy true (view (c .n) recs slots) i k (target (c .n) w)) recs → ss ≡ set slots (widthMax * (i - 1) + k) w
       → Attempted c i k w recs slots may a rs ss

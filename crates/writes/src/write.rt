@@ -1,13 +1,15 @@
 // Write: a word is stored in a slot; the object's cluster is dissolved, or its out bit made exact.
 ghost use mathlib.Core.Path.{_≡_};
-ghost use mathlib.Core.Bool.{true, false};
-ghost use Prim.Native.Nat.{_+_, _-_, _*_, _≤_};
-ghost use lib.ListN.{set};
+ghost use mathlib.Core.Bool.{true, false, cond};
+ghost use Prim.Native.Nat.{_+_, _-_, _*_, _≤_, _<_};
+ghost use lib.Dec.{eqb};
+ghost use lib.ListN.{length, getD, set};
 ghost use Rattle.layout.specs.Limits.{widthMax, objectMax};
 ghost use Rattle.records.specs.Record.{withWritten};
 ghost use Rattle.layout.specs.Refusal.{first};
+ghost use Rattle.graph.specs.Numbers.{has};
 ghost use Rattle.graph.specs.Writes.{dissolves, storeBy};
-ghost use Rattle.rules.specs.Buffers.{recOf};
+ghost use Rattle.rules.specs.Buffers.{recOf, usedWords};
 ghost use Rattle.rules.specs.View.{target, view, encoded};
 ghost use Rattle.rules.specs.Write as Write;
 ghost use Rattle.table.specs.Clusters.{clusterOf, membersOf};
@@ -74,17 +76,56 @@ fn write_refusal(
     word_refusal(c.n, word, records)
 }
 
-// Whether the old word points into the object's own cluster.
-fn does_dissolve(n: u32, object: u32, slot: u32, records: &[u32], slots: &[u32]) -> bool
+// What slot k of the object whose words begin at `at` holds once the word is stored.
+fn word_after(slot: u32, word: u32, k: u32, at: usize, slots: &[u32]) -> u32
+    requires { ⌜ (at + k < widthMax * objectMax) × (at + k < length (now slots)) ⌝ }
+    ensures { λ w. ⌜ w ≡ cond (eqb k slot) word (getD (now (slots .entry)) (at + k) 0) ⌝ }
+{
+    if k == slot {
+        return word;
+    }
+    slots[at + k as usize]
+}
+
+// Whether a used slot of the object holds the pointer once the word is stored.
+fn still_holds(
+    n: u32,
+    object: u32,
+    slot: u32,
+    word: u32,
+    pointer: u32,
+    records: &[u32],
+    slots: &[u32],
+) -> bool
     requires { ⌜ Slot n object slot (now records) (now slots) ⌝ }
-    ensures { λ b. ⌜ b ≡ dissolves (view n (now (records .entry)) (now (slots .entry))) object slot 0 ⌝ }
+    ensures { λ b. ⌜ b ≡ has pointer (set (usedWords n (now (records .entry)) (now (slots .entry)) object) slot word) ⌝ }
+{
+    let width = width_of(record_of(n, object, records));
+    let at = slots_len(object - 1);
+    let mut k: u32 = 0;
+    while k < width {
+        if word_after(slot, word, k, at, slots) == pointer {
+            return true;
+        }
+        k += 1;
+    }
+    false
+}
+
+// Whether the old word points into the object's own cluster, and the object does not hold it any more after the write.
+fn does_dissolve(n: u32, object: u32, slot: u32, word: u32, records: &[u32], slots: &[u32]) -> bool
+    requires { ⌜ Slot n object slot (now records) (now slots) ⌝ }
+    ensures { λ b. ⌜ b ≡ dissolves (view n (now (records .entry)) (now (slots .entry))) object slot (target n word) ⌝ }
 {
     let c = cluster_of(record_of(n, object, records));
     if c == 0 {
         return false;
     }
     let old = slots[slots_len(object - 1) + slot as usize];
-    cluster_of(record_of(n, old, records)) == c
+    if cluster_of(record_of(n, old, records)) != c {
+        return false;
+    }
+    !still_holds(n, object, slot, word, old, records, slots)
 }
 
 // Write loss after the object's cluster is dissolved.
@@ -162,7 +203,7 @@ fn attempt(
     if refusal != 0 {
         return refusal;
     }
-    if !does_dissolve(c.n, object, slot, records, slots) {
+    if !does_dissolve(c.n, object, slot, word, records, slots) {
         store_staying(c.n, object, slot, word, records, slots);
         return 0;
     }
