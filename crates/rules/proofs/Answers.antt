@@ -7,7 +7,7 @@ use mathlib.Core.List.{List, [], _∷_, map}
 use mathlib.Core.Logic.{_≢_, _⊎_, inl, inr}
 use native.Mathlib.Nat.{suc-ne-zero}
 use native.Mathlib.Omega.{arith}
-use lib.Dec.{eqb}
+use lib.Dec.{eqb, ltb}
 use lib.ListN.{length, getD, take, drop, replicate}
 use borrow.Author.Tests.{leb-false, ltb-false, eqb-true, eqb-false, eq-eqb}
 use Rattle.layout.specs.ControlRecord.{newControl, withLast, withWriteLoss}
@@ -212,6 +212,11 @@ module _ (n : ℕ) (recs slots : List ℕ) (i k t : ℕ) (low : 1 ≤ i) (high :
 pub write-named : (c : Control) (i k w : ℕ) (recs slots : List ℕ) → first (Write.writeTests c i k w recs slots) ≡ 0 → Named c i recs slots
 unfolding Write.writeTests
 write-named c i k w recs slots z = named c i recs slots _ z .0
+
+pub write-fits : (c : Control) (i k w : ℕ) (recs slots : List ℕ) → first (Write.writeTests c i k w recs slots) ≡ 0 → ltb (c .n) (Write.lossAfter c i k w recs slots) ≡ false
+unfolding Write.writeTests
+write-fits c i k w recs slots z =
+    first-passed 24 _ _ (first-passed 22 _ _ (first-passed 5 _ _ (first-passed 4 _ _ (named c i recs slots _ z .1) .1) .1) .1) .0
 
 pub write-stores : (c : Control) (i k w : ℕ) (recs slots : List ℕ)
     → let o = Write.write c i k w recs slots in

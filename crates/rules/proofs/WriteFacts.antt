@@ -1,6 +1,6 @@
 -- What an accepted write does to the clusters, in any heap.
 -- Assumes nothing.
-use Prim.Native.Nat.{ℕ, _+_, _<_, _^_}
+use Prim.Native.Nat.{ℕ, _+_, _≤_, _<_, _^_}
 use mathlib.Core.Path.{_≡_, refl, sym, ap, _∙_}
 use mathlib.Core.Bool.{Bool, true, false, not, cond, _&&_, true≢false}
 use mathlib.Core.List.{List}
@@ -11,7 +11,7 @@ use native.Mathlib.Omega.{arith}
 use lib.Dec.{eqb, ltb}
 use lib.ListN.{length, getD, set, length-set, List·getD-eq-default}
 use lib.Seq.{getD-set-same, getD-set-other}
-use borrow.Author.Tests.{eqb-true, eqb-false, eq-eqb, ne-eqb, not-true, ltb-true}
+use borrow.Author.Tests.{eqb-true, eqb-false, eq-eqb, ne-eqb, not-true, ltb-true, ltb-false}
 use Rattle.layout.specs.Field.{field}
 use Rattle.records.specs.Record.{cluster}
 use Rattle.layout.proofs.FieldLaws.{field-lt}
@@ -32,7 +32,7 @@ use Rattle.rules.specs.Plain.{answer}
 use Rattle.rules.specs.Steps.{State, step}
 use Rattle.rules.specs.Demands.{recordIn, heapOf, refusalOf, Dissolves, Writes, clusterSize, wordsOf}
 use Rattle.rules.proofs.BoolLaws.{is-false, and-split, cond-same, cond-not}
-use Rattle.rules.proofs.Answers.{write-named}
+use Rattle.rules.proofs.Answers.{write-named, write-fits}
 use Rattle.rules.proofs.Frames.{Named}
 use Rattle.rules.proofs.EncodedRecord.{encoded-cluster}
 use Rattle.rules.proofs.StoreLaws.{store-size, dissolves-words}
@@ -92,6 +92,11 @@ module _ (s : State) (i k w : ℕ) where
       let none : has old (set words k w) ≡ false = not-true _ (b .1) in
       (nz, in-c, stored-new words k w old none (in-range (λ z. nz (sym in-c ∙ z))), stored-other words k w old none)
 
+-- the refusal is that of the tests
+tested : (s : State) (i k w : ℕ) → refusalOf (write i k w) s ≡ first (Write.writeTests (s .control) i k w (s .records) (s .slots))
+unfolding Write.write
+tested s i k w = answered _ _ _ (λ (o : Write.Outcome). o .answer .refusal) refl (λ m. refl)
+
 module _ (s : State) (i k w : ℕ) (accepted : refusalOf (write i k w) s ≡ 0) where
   abbrev t : ℕ
   t = target (s .control .n) w
@@ -132,6 +137,9 @@ module _ (s : State) (i k w : ℕ) (accepted : refusalOf (write i k w) s ≡ 0) 
       all-by (λ (o : Write.Outcome). o .answer .refusal ≡ 0 → o .answer .control .«write_loss» ≡ lossAfter (s .control) i k w (s .records) (s .slots)) _ _ _
       (λ z e. refl) (λ m e. absurd (suc-ne-zero m e)) accepted
 
+  within : lossAfter (s .control) i k w (s .records) (s .slots) ≤ s .control .n
+  within = ltb-false (s .control .n) _ (write-fits (s .control) i k w (s .records) (s .slots) (sym (tested s i k w) ∙ accepted))
+
   pub write-does : Writes s i k w
   unfolding store storeBy lossAfter lossOf lossBy
   write-does = record {
@@ -139,6 +147,7 @@ module _ (s : State) (i k w : ℕ) (accepted : refusalOf (write i k w) s ≡ 0) 
     lost = λ p. loss ∙ ap (λ (b : Bool). s .control .«write_loss» + lossBy b (heapOf s) i) (dissolves-so s i k w p) ∙ (unfold size view in refl);
     kept = λ p x. after x ∙ ap (λ (b : Bool). storeBy b (heapOf s) i k t .cluster x) (stays p) ∙ (unfold view in refl);
     unlost = λ p. loss ∙ ap (λ (b : Bool). s .control .«write_loss» + lossBy b (heapOf s) i) (stays p) ∙ omega arith;
+    fits = rw loss within;
   }
     where
       stays : (Dissolves s i k w → ⊥) → dissolves (heapOf s) i k t ≡ false
@@ -157,8 +166,7 @@ module _ (s : State) (i k w : ℕ) (refused : refusalOf (write i k w) s ≡ 25) 
   tests = Write.writeTests (s .control) i k w (s .records) (s .slots)
 
   first-25 : first tests ≡ 25
-  unfolding Write.write
-  first-25 = sym (answered _ _ _ (λ (o : Write.Outcome). o .answer .refusal) refl (λ m. refl)) ∙ refused
+  first-25 = sym (tested s i k w) ∙ refused
 
   above : s .control .n < loss′
   above = go (ltb (s .control .n) loss′) refl

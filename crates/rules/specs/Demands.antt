@@ -371,6 +371,7 @@ pub record Writes (s : State) (i k w : ℕ) : Type 0 where
   pub lost : Dissolves s i k w → step (write i k w) s .after .control .«write_loss» ≡ s .control .«write_loss» + clusterSize s i
   pub kept : (Dissolves s i k w → ⊥) → (x : ℕ) → cluster (recordAfter (write i k w) s x) ≡ cluster (recordIn s x)
   pub unlost : (Dissolves s i k w → ⊥) → step (write i k w) s .after .control .«write_loss» ≡ s .control .«write_loss»
+  pub fits : step (write i k w) s .after .control .«write_loss» ≤ s .control .n
 
 -- what an accepted declaration does: the object becomes a sink, and the members of its cluster lose it
 pub record Declares (s : State) (i : ℕ) : Type 0 where
