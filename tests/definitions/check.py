@@ -309,7 +309,13 @@ for i in range(made, made + hostile):
     last = random_call(n, r, s)
     other = R.random()
     if other < .2: last = random_save(s)
-    elif other < .5: last = ('write', [R.randint(1, n), R.randint(0, 2), R.choice([0, R.randint(1, n), word(n)])])
+    elif other < .5:
+        # often over a word that another slot holds too, used or not, and often of the word that the slot has
+        x = R.choice([y + 1 for y, q in enumerate(recs[:n]) if q >> 8 & 15] or [1])
+        k = R.randint(0, max(0, min(3, recs[x - 1] >> 8 & 15) - R.randint(0, 1)))
+        old = 8 * x - 8 + k
+        if R.random() < .5: slots[8 * x - 8 + R.randint(0, 3)] = slots[old]
+        last = ('write', [x, k, R.choice([0, R.randint(1, n), word(n), slots[old]])])
     t, _ = call(last[0], s, last[1])
     st = '(stateOf ' + ' '.join(par(x) for x in s) + ')'
     emit(i, [], last, st, t)
