@@ -213,9 +213,10 @@ pub write-named : (c : Control) (i k w : ℕ) (recs slots : List ℕ) → first 
 unfolding Write.writeTests
 write-named c i k w recs slots z = named c i recs slots _ z .0
 
-pub write-fits : (c : Control) (i k w : ℕ) (recs slots : List ℕ) → first (Write.writeTests c i k w recs slots) ≡ 0 → ltb (c .n) (Write.lossAfter c i k w recs slots) ≡ false
+-- the last of them, 25, too
+pub loss-passed : (c : Control) (i k w : ℕ) (recs slots : List ℕ) → first (Write.writeTests c i k w recs slots) ≡ 0 → ltb (c .n) (Write.lossAfter c i k w recs slots) ≡ false
 unfolding Write.writeTests
-write-fits c i k w recs slots z =
+loss-passed c i k w recs slots z =
     first-passed 24 _ _ (first-passed 22 _ _ (first-passed 5 _ _ (first-passed 4 _ _ (named c i recs slots _ z .1) .1) .1) .1) .0
 
 pub write-stores : (c : Control) (i k w : ℕ) (recs slots : List ℕ)

@@ -1,4 +1,4 @@
--- What an accepted write does to the clusters, in any heap.
+-- What a write does to the clusters, and when it is refused for its loss, in any heap.
 -- Assumes nothing.
 use Prim.Native.Nat.{ℕ, _+_, _≤_, _<_, _^_}
 use mathlib.Core.Path.{_≡_, refl, sym, ap, _∙_}
@@ -32,7 +32,7 @@ use Rattle.rules.specs.Plain.{answer}
 use Rattle.rules.specs.Steps.{State, step}
 use Rattle.rules.specs.Demands.{recordIn, heapOf, refusalOf, Dissolves, Writes, clusterSize, wordsOf}
 use Rattle.rules.proofs.BoolLaws.{is-false, and-split, cond-same, cond-not}
-use Rattle.rules.proofs.Answers.{write-named, write-fits}
+use Rattle.rules.proofs.Answers.{write-named, loss-passed}
 use Rattle.rules.proofs.Frames.{Named}
 use Rattle.rules.proofs.EncodedRecord.{encoded-cluster}
 use Rattle.rules.proofs.StoreLaws.{store-size, dissolves-words}
@@ -40,19 +40,19 @@ use Rattle.rules.proofs.EncodedLaws.{read-at}
 use Rattle.rules.proofs.Simulation.{all-by}
 use Rattle.rules.proofs.Refused.{meets, unmet-first, answered}
 
--- the words of an object after a store, by their places
+-- whether x is among the words after a store: it is the new one, or at another place
 module _ (l : List ℕ) (k w x : ℕ) where
-  pub stored-none : w ≢ x → ((q : ℕ) → q < length l → q ≢ k → getD l q 0 ≢ x) → has x (set l k w) ≡ false
+  stored-none : w ≢ x → ((q : ℕ) → q < length l → q ≢ k → getD l q 0 ≢ x) → has x (set l k w) ≡ false
   stored-none d h = has-none x (set l k w) (λ q p. at q (rw (length-set l k w) at p) (ℕ-discrete q k))
     where
       at : (q : ℕ) → q < length l → Dec (q ≡ k) → getD (set l k w) q 0 ≢ x
       at q p (yes e) z = d (sym (getD-set-same l q w 0 p) ∙ ap (λ (j : ℕ). getD (set l j w) q 0) e ∙ z)
       at q p (no e) z = h q p e (sym (getD-set-other l k q w 0 e) ∙ z)
 
-  pub stored-other : has x (set l k w) ≡ false → (q : ℕ) → q < length l → q ≢ k → getD l q 0 ≢ x
+  stored-other : has x (set l k w) ≡ false → (q : ℕ) → q < length l → q ≢ k → getD l q 0 ≢ x
   stored-other e q p d z = true≢false (sym (has-at x (set l k w) q (rw (length-set l k w) p) (getD-set-other l k q w 0 d ∙ z)) ∙ e)
 
-  pub stored-new : has x (set l k w) ≡ false → k < length l → w ≢ x
+  stored-new : has x (set l k w) ≡ false → k < length l → w ≢ x
   stored-new e p z = true≢false (sym (has-at x (set l k w) k (rw (length-set l k w) p) (getD-set-same l k w 0 p ∙ z)) ∙ e)
 
 -- a write dissolves, by the rule, exactly where the demands say so
@@ -69,12 +69,12 @@ module _ (s : State) (i k w : ℕ) where
   abbrev rule : Bool
   rule = dissolves (heapOf s) i k (target (s .control .n) w)
 
-  pub dissolves-so : Dissolves s i k w → rule ≡ true
+  dissolves-so : Dissolves s i k w → rule ≡ true
   dissolves-so (nz, e, d, h) =
       dissolves-words (s .control .n) (s .records) (s .slots) i k w
       ∙ rw (ne-eqb c 0 nz, eq-eqb (cluster (recordIn s old)) c e, stored-none words k w old d h) refl
 
-  -- an object that is no part of the heap has no cluster
+  -- the old word of a slot past the words is nil, which is in no cluster
   in-range : cluster (recordIn s old) ≢ 0 → k < length words
   unfolding recOf field
   in-range nz = go (decLt k (length words))
@@ -83,7 +83,7 @@ module _ (s : State) (i k w : ℕ) where
       go (yes p) = p
       go (no p) = absurd (nz (ap (λ (x : ℕ). cluster (recordIn s x)) (List·getD-eq-default words 0 (omega (arith, p)))))
 
-  pub so-dissolves : rule ≡ true → Dissolves s i k w
+  so-dissolves : rule ≡ true → Dissolves s i k w
   so-dissolves e =
       let a = and-split (not (eqb c 0)) (eqb (cluster (recordIn s old)) c && not (has old (set words k w))) (sym (dissolves-words (s .control .n) (s .records) (s .slots) i k w) ∙ e) in
       let b = and-split (eqb (cluster (recordIn s old)) c) (not (has old (set words k w))) (a .1) in
@@ -138,7 +138,7 @@ module _ (s : State) (i k w : ℕ) (accepted : refusalOf (write i k w) s ≡ 0) 
       (λ z e. refl) (λ m e. absurd (suc-ne-zero m e)) accepted
 
   within : lossAfter (s .control) i k w (s .records) (s .slots) ≤ s .control .n
-  within = ltb-false (s .control .n) _ (write-fits (s .control) i k w (s .records) (s .slots) (sym (tested s i k w) ∙ accepted))
+  within = ltb-false (s .control .n) _ (loss-passed (s .control) i k w (s .records) (s .slots) (sym (tested s i k w) ∙ accepted))
 
   pub write-does : Writes s i k w
   unfolding store storeBy lossAfter lossOf lossBy

@@ -356,7 +356,7 @@ pub record Adjusts (s : State) (work : List ℕ) : Type 0 where
 abbrev pub clusterSize : State → ℕ → ℕ
 clusterSize s i = count (s .control .n) (λ x. eqb (cluster (recordIn s x)) (cluster (recordIn s i)))
 
--- w in slot k of object i dissolves: the old word points into the cluster of i, and no used slot of i, slot k with w, then holds it
+-- to store w in slot k of object i dissolves: the old word points into the cluster of i, w is another, and no other used slot of i holds the old one
 abbrev pub Dissolves : State → ℕ → ℕ → ℕ → Type 0
 Dissolves s i k w =
     let words = wordsOf s i in
