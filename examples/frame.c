@@ -16,7 +16,8 @@
  *   frame  6  The list of two items gives a cluster of one (the newer item was
  *             written), too small to be left. The level's head is reached and
  *             no member has a pointer out, since one to a sink does not count;
- *             scanned are the player, two items and the bank.
+ *             scanned are the player, two items and the bank, which the set of
+ *             the cluster names.
  *   frame  8  The third door was cut off, over a pointer inside the cluster,
  *             which is dissolved; so the limit is halved. The level and the
  *             second door were written; nothing of four members remains.
@@ -25,8 +26,9 @@
  *             Level, two doors and two switches were left alone: five members.
  *   frame 12  Scanned are the player and the bank. The items dropped in frame
  *             11 go, with three sparks. Seven objects with fifteen words in all
- *             are saved: 26 + 4 * 2 + 4 * 7 + 4 * 15 bytes. The loaded heap has
- *             no limit yet, since no analysis has run on it.
+ *             are saved, and a list of one sink: 26 + 4 * 2 + 4 * 7 + 4 * 15
+ *             bytes and 6 + 2. The loaded heap has no limit yet, since no
+ *             analysis has run on it.
  *   frame 13  Two saves that someone has changed: in one the objects are longer
  *             than the file, in the other root 0 names an object that the save
  *             does not have. Both are refused, and the heap is as it was.
@@ -59,7 +61,8 @@ enum { SPARK_FROM, SPARK_WIDTH };
 /* Two sets of buffers, of which one has the heap, and scratch for analyses and
  * collections. */
 typedef struct {
-    uint32_t records[OBJECTS], slots[PAKZID_SLOTS_LENGTH(OBJECTS)], roots[ROOTS];
+    uint32_t records[OBJECTS], slots[PAKZID_SLOTS_LENGTH(OBJECTS)], roots[ROOTS], sinks[PAKZID_SINKS_LENGTH];
+    uint64_t sink_sets[OBJECTS];
 } buffers;
 static buffers first, second, *heap = &first;
 static pakzid_control control;
@@ -69,12 +72,13 @@ static uint64_t map[PAKZID_MAP_LENGTH(OBJECTS)];
 /* The saved game: the bytes of a file. */
 static uint8_t image[PAKZID_IMAGE_LENGTH(OBJECTS, ROOTS)];
 static uint32_t image_length;
-enum { OBJECTS_CHUNK = 6 + 8 }; /* behind the chunk of the sizes */
+enum { OBJECTS_CHUNK = 6 + 8, SINKS_CHUNK = 6 + 2 }; /* where the objects begin, and how long the list of one sink is */
 
 #define LENGTH(array) (sizeof(array) / sizeof(array)[0])
 #define RECORDS heap->records, LENGTH(heap->records)
 #define SLOTS heap->slots, LENGTH(heap->slots)
 #define ROOT_WORDS heap->roots, LENGTH(heap->roots)
+#define SINKS heap->sinks, LENGTH(heap->sinks), heap->sink_sets, LENGTH(heap->sink_sets)
 #define WORK work, LENGTH(work)
 #define MAP map, LENGTH(map)
 
@@ -101,7 +105,7 @@ static uint32_t allocate(uint32_t width)
 
 static void store(uint32_t object, uint32_t slot, uint32_t word)
 {
-    must("write", pakzid_write_in_place(&control, object, slot, word, RECORDS, SLOTS));
+    must("write", pakzid_write_in_place(&control, object, slot, word, RECORDS, SLOTS, SINKS));
 }
 
 static uint32_t word_in(uint32_t object, uint32_t slot)
@@ -124,7 +128,7 @@ static uint32_t level, player, door[DOORS];
 
 static void build(void)
 {
-    pakzid_done created = pakzid_create(OBJECTS, ROOTS, RECORDS, SLOTS, ROOT_WORDS);
+    pakzid_done created = pakzid_create(OBJECTS, ROOTS, RECORDS, SLOTS, ROOT_WORDS, SINKS);
     must("create", created.refusal);
     control = created.control;
 
@@ -143,7 +147,7 @@ static void build(void)
     player = allocate(PLAYER_WIDTH);
     set_root(PLAYER_ROOT, player);
 
-    pakzid_done declared = pakzid_declare_sink(control, sounds, RECORDS, SLOTS, ROOT_WORDS);
+    pakzid_done declared = pakzid_declare_sink(control, sounds, RECORDS, SLOTS, ROOT_WORDS, SINKS);
     must("declare_sink", declared.refusal);
     control = declared.control;
 }
@@ -173,7 +177,7 @@ static void play(uint32_t frame)
         break;
     case 10:
         printf("frame %2u: write to door %u refused with %u\n", (unsigned)frame, (unsigned)door[2],
-               (unsigned)pakzid_write_in_place(&control, door[2], DOOR_STATE, immediate(1), RECORDS, SLOTS));
+               (unsigned)pakzid_write_in_place(&control, door[2], DOOR_STATE, immediate(1), RECORDS, SLOTS, SINKS));
         break;
     case 11:
         store(player, PLAYER_ITEMS, 0);
@@ -186,7 +190,7 @@ static void play(uint32_t frame)
 
 static void analyse(uint32_t frame)
 {
-    pakzid_analysed a = pakzid_analyse(control, RECORDS, SLOTS, ROOT_WORDS, WORK);
+    pakzid_analysed a = pakzid_analyse(control, RECORDS, SLOTS, ROOT_WORDS, SINKS, WORK);
     must("analyse", a.refusal);
     control = a.control;
     printf("frame %2u: analysed, clusters %u, members %u, limit %u\n", (unsigned)frame, (unsigned)a.clusters,
@@ -195,7 +199,7 @@ static void analyse(uint32_t frame)
 
 static void collect(uint32_t frame)
 {
-    pakzid_collected a = pakzid_collect_clusters(control, RECORDS, SLOTS, ROOT_WORDS, WORK, MAP);
+    pakzid_collected a = pakzid_collect_clusters(control, RECORDS, SLOTS, ROOT_WORDS, SINKS, WORK, MAP);
     must("collect_clusters", a.refusal);
     control = a.control;
     printf("frame %2u: collected, kept %u, freed %u, scanned %u, gone:", (unsigned)frame, (unsigned)a.kept,
@@ -210,7 +214,7 @@ static void collect(uint32_t frame)
 
 static void save(uint32_t frame)
 {
-    pakzid_saved a = pakzid_save(control, RECORDS, SLOTS, ROOT_WORDS, image, LENGTH(image));
+    pakzid_saved a = pakzid_save(control, RECORDS, SLOTS, ROOT_WORDS, SINKS, image, LENGTH(image));
     must("save", a.refusal);
     image_length = a.length;
     printf("frame %2u: saved, %u bytes\n", (unsigned)frame, (unsigned)image_length);
@@ -222,7 +226,7 @@ static void load(uint32_t frame)
 {
     heap = &second;
     memset(heap, 0xA5, sizeof *heap);
-    pakzid_done a = pakzid_load(image, image_length, RECORDS, SLOTS, ROOT_WORDS);
+    pakzid_done a = pakzid_load(image, image_length, RECORDS, SLOTS, ROOT_WORDS, SINKS);
     must("load", a.refusal);
     control = a.control;
     printf("frame %2u: loaded, objects %u, roots %u, last %u, limit %u\n", (unsigned)frame, (unsigned)control.objects,
@@ -240,7 +244,7 @@ static void load_changed(uint32_t frame, const char *what, size_t at, uint32_t n
         changed[at + i] = (uint8_t)(number >> 8 * i);
 
     buffers before = *heap;
-    pakzid_done a = pakzid_load(changed, image_length, RECORDS, SLOTS, ROOT_WORDS);
+    pakzid_done a = pakzid_load(changed, image_length, RECORDS, SLOTS, ROOT_WORDS, SINKS);
     printf("frame %2u: %s, load refused with %u, heap %s\n", (unsigned)frame, what, (unsigned)a.refusal,
            memcmp(heap, &before, sizeof before) == 0 ? "as it was" : "changed");
 }
@@ -260,7 +264,7 @@ int main(void)
         }
         if (frame == 13) {
             load_changed(frame, "length 0xFFFFFFFF", OBJECTS_CHUNK, 0xFFFFFFFF);
-            load_changed(frame, "root to a free object", image_length - 4 * ROOTS, door[2]);
+            load_changed(frame, "root to a free object", image_length - SINKS_CHUNK - 4 * ROOTS, door[2]);
         }
     }
     return 0;

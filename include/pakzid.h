@@ -25,20 +25,36 @@
  *   records   uint32_t   n                     record i - 1 describes object i
  *   slots     uint32_t   8 * n                 object i has 8, from 8 * (i - 1)
  *   roots     uint32_t   r                     one word for each root
+ *   sinks     uint32_t   64                    the list of sinks; 0 is an empty place
+ *   sink_sets uint64_t   n                     see below
  *   work      uint32_t   10 * n + 64           scratch; all 0 after acceptance
  *   map       uint64_t   n / 64 + 1            which objects were freed
- *   image     uint8_t    26 + 36 * n + 4 * r   the heap as bytes; see save
+ *   image     uint8_t    160 + 36 * n + 4 * r  the heap as bytes; see save
  *
- * (PAKZID_SLOTS_LENGTH, PAKZID_WORK_LENGTH, PAKZID_MAP_LENGTH and
- * PAKZID_IMAGE_LENGTH compute these.)
+ * (PAKZID_SLOTS_LENGTH, PAKZID_SINKS_LENGTH, PAKZID_WORK_LENGTH,
+ * PAKZID_MAP_LENGTH and PAKZID_IMAGE_LENGTH compute these.)
  * A buffer is handed over as a pointer and its length in elements. It may be
  * longer than needed; the rest is never touched. Work and map may hold anything
  * before a call, and may be others at each call, or shared by heaps that take
  * turns.
  *
  * The engine reads these buffers as it likes, and changes them by the calls
- * alone. A heap may be copied: it is its records, slots, roots and control
- * record, with no address inside.
+ * alone. A heap may be copied: it is its records, slots, roots, sinks, sink sets
+ * and control record, with no address inside.
+ *
+ * Sinks
+ *
+ * A sink is an object that very many others point to. At most 64 objects are
+ * sinks at a time; each is in one place of the list `sinks`. Word h - 1 of
+ * `sink_sets` is for the cluster with head h: bit k is set exactly if a member
+ * points to the sink in place k. A sink that no root leads to is freed like any
+ * other object, and its place is empty then.
+ *
+ * Stack
+ *
+ * Each call that goes through the whole heap (declare_sink, analyse, both
+ * collections, save) takes up to 40,000 bytes of stack, the others less than
+ * 2,000.
  *
  * Images
  *
@@ -51,10 +67,13 @@
  *   0x0002          each object in use, by number: number (two bytes), width and
  *                   sink (0 or 1; one byte each), its words (four bytes each)
  *   0x0003          the roots; four bytes each
- *   0x8000 and up   anything; a load passes over it
+ *   0x8001          the sinks, in the order of the list; two bytes each
+ *   0x8000 and up   anything else; a load passes over it
  *
- * The first three stand in this order, once each. Others, which save does not
- * write, may follow. Clusters, written bits, limit and losses are in no image.
+ * The first three stand in this order, once each. A heap with sinks has 0x8001
+ * behind them, once; without it a load lists the sinks by number. Others, which
+ * save does not write, may follow. Clusters, written bits, limit and losses are
+ * in no image.
  *
  * What the engine must see to (nothing here can test it)
  *
@@ -93,6 +112,7 @@
  *            its third chunk
  *   27       a chunk is out of place, or its body is wrong        load
  *   28       the kind of a chunk is below 0x8000 and unknown      load
+ *   29       a new sink, and 64 are listed                        declare_sink
  *
  * As long as nothing but the library stores into the buffers of a heap, and each
  * call is handed the latest control record, 20, 21 and 25 do not occur.
@@ -108,9 +128,10 @@ extern "C" {
 #endif
 
 #define PAKZID_SLOTS_LENGTH(objects) (8 * (objects))
+#define PAKZID_SINKS_LENGTH 64
 #define PAKZID_WORK_LENGTH(objects) (10 * (objects) + 64)
 #define PAKZID_MAP_LENGTH(objects) ((objects) / 64 + 1)
-#define PAKZID_IMAGE_LENGTH(objects, roots) (26 + 36 * (objects) + 4 * (roots))
+#define PAKZID_IMAGE_LENGTH(objects, roots) (160 + 36 * (objects) + 4 * (roots))
 
 /*
  * The control record. The engine keeps one for each heap, and replaces it by
@@ -179,19 +200,21 @@ typedef struct {
 } pakzid_allocated_in_place;
 
 /*
- * Makes an empty heap: zeroes records, slots and roots up to the lengths above,
- * whatever they held, and gives the first control record.
+ * Makes an empty heap: zeroes records, slots, roots, sinks and sink sets up to
+ * the lengths above, whatever they held, and gives the first control record.
  * Tests: 1, 2.
  */
 pakzid_done pakzid_create(uint32_t objects, uint32_t roots,
                           uint32_t *records, size_t records_length,
                           uint32_t *slots, size_t slots_length,
-                          uint32_t *root_words, size_t root_words_length);
+                          uint32_t *root_words, size_t root_words_length,
+                          uint32_t *sinks, size_t sinks_length,
+                          uint64_t *sink_sets, size_t sink_sets_length);
 
 /*
  * Gives a free object the width, with nil in every slot, and answers its number.
- * The search begins after `last` and goes round. An object that no root, sink
- * or pointer leads to by the next collection is freed there.
+ * The search begins after `last` and goes round. An object that no path of
+ * pointers from a root leads to by the next collection is freed there.
  * Tests: 20, 2, 3, 24.
  */
 pakzid_allocated pakzid_allocate(pakzid_control control, uint32_t width,
@@ -220,13 +243,17 @@ pakzid_part pakzid_show(pakzid_control control, uint32_t object,
 /*
  * Stores a word in a slot. If the word that was there pointed into the object's
  * own cluster, and none of the object's slots holds it after the write, that
- * cluster is dissolved, which takes a pass over the records; any other write
- * takes the same short time in every heap.
+ * cluster is dissolved. The set at the head of the object's cluster is made
+ * exact. A write into a cluster that is dissolved, or while sinks are listed,
+ * takes a pass over the records; any other takes the same short time in every
+ * heap.
  * Tests: 20, 2, 4, 21, 22, 5, 6, 23, and last 25.
  */
 pakzid_done pakzid_write(pakzid_control control, uint32_t object, uint32_t slot, uint32_t word,
                          uint32_t *records, size_t records_length,
-                         uint32_t *slots, size_t slots_length);
+                         uint32_t *slots, size_t slots_length,
+                         const uint32_t *sinks, size_t sinks_length,
+                         uint64_t *sink_sets, size_t sink_sets_length);
 
 /*
  * Stores nil or a pointer in a root.
@@ -237,43 +264,49 @@ pakzid_done pakzid_set_root(pakzid_control control, uint32_t index, uint32_t wor
                             uint32_t *roots, size_t roots_length);
 
 /*
- * Makes an object a sink, for good: no collection frees it, nor what it leads
- * to, and a pointer to it does not count against a cluster. Meant for objects
- * that very many others point to. Its own cluster is dissolved. A second
- * declaration is accepted and changes nothing. Goes through the whole heap;
- * changes records only.
- * Tests: 20, 2, 4, 21, 22.
+ * Makes an object a sink, for as long as it lives: it is put into the first
+ * empty place of the list, and a pointer to it does not count against a cluster.
+ * Its own cluster is dissolved. A second declaration is accepted and changes
+ * nothing. Goes through the whole heap; changes records, sinks and sink sets.
+ * Tests: 20, 2, 4, 21, 22, 29.
  */
 pakzid_done pakzid_declare_sink(pakzid_control control, uint32_t object,
                                 uint32_t *records, size_t records_length,
                                 const uint32_t *slots, size_t slots_length,
-                                const uint32_t *roots, size_t roots_length);
+                                const uint32_t *roots, size_t roots_length,
+                                uint32_t *sinks, size_t sinks_length,
+                                uint64_t *sink_sets, size_t sink_sets_length);
 
 /*
  * Forms clusters for later collections, out of objects that are in none and
  * were not written since the analysis before. The engine decides when; the game
  * can't tell from any other answer whether it ran, but for `scanned`. Changes
- * records and work only.
+ * records, sink sets and work only.
  * Tests: 20, 2, 21.
  */
 pakzid_analysed pakzid_analyse(pakzid_control control,
                                uint32_t *records, size_t records_length,
                                const uint32_t *slots, size_t slots_length,
                                const uint32_t *roots, size_t roots_length,
+                               const uint32_t *sinks, size_t sinks_length,
+                               uint64_t *sink_sets, size_t sink_sets_length,
                                uint32_t *work, size_t work_length);
 
 /*
  * The two collections. Each frees the objects that can't be reached along
- * pointers from a root or a sink, and names them in the map: object i is bit
- * i % 64 of map[i / 64]. Both keep the same objects. The plain one scans all
- * that it keeps; that by clusters passes over the members of a cluster whose
- * head it meets, unless they have pointers out of it. Roots stay as they are.
+ * pointers from a root, and names them in the map: object i is bit i % 64 of
+ * map[i / 64]. Both keep the same objects. The plain one scans all that it keeps;
+ * that by clusters passes over the members of a cluster whose head it meets,
+ * unless they have pointers out of it, and finds the sinks that they point to in
+ * the set. The places of freed sinks are empty then. Roots stay as they are.
  * Tests of both: 20, 2, 21.
  */
 pakzid_collected pakzid_collect_plain(pakzid_control control,
                                       uint32_t *records, size_t records_length,
                                       uint32_t *slots, size_t slots_length,
                                       const uint32_t *roots, size_t roots_length,
+                                      uint32_t *sinks, size_t sinks_length,
+                                      uint64_t *sink_sets, size_t sink_sets_length,
                                       uint32_t *work, size_t work_length,
                                       uint64_t *map, size_t map_length);
 
@@ -281,41 +314,47 @@ pakzid_collected pakzid_collect_clusters(pakzid_control control,
                                          uint32_t *records, size_t records_length,
                                          uint32_t *slots, size_t slots_length,
                                          const uint32_t *roots, size_t roots_length,
+                                         uint32_t *sinks, size_t sinks_length,
+                                         uint64_t *sink_sets, size_t sink_sets_length,
                                          uint32_t *work, size_t work_length,
                                          uint64_t *map, size_t map_length);
 
 /*
  * Writes the heap as an image and answers the length of it, in bytes: 26, 4 for
- * each root, and for each object in use 4 and 4 for each of its slots. So no
- * image is longer than PAKZID_IMAGE_LENGTH. Changes no byte past that length,
- * and nothing of the heap.
+ * each root, for each object in use 4 and 4 for each of its slots, and, if there
+ * are sinks, 6 and 2 for each of them. So no image is longer than
+ * PAKZID_IMAGE_LENGTH. Changes no byte past that length, and nothing of the heap.
  * Tests: 20, 2, 21, and last 2 once more, if the image does not fit.
  */
 pakzid_saved pakzid_save(pakzid_control control,
                          const uint32_t *records, size_t records_length,
                          const uint32_t *slots, size_t slots_length,
                          const uint32_t *roots, size_t roots_length,
+                         const uint32_t *sinks, size_t sinks_length,
+                         const uint64_t *sink_sets, size_t sink_sets_length,
                          uint8_t *image, size_t image_length);
 
 /*
  * Makes the heap of an image, with the n and r that the image names: sets
- * records, slots and roots up to the lengths above, whatever they held, and
- * gives the control record. `image_length` is that of the image, in bytes. The
- * heap has no clusters. Loaded from the image of a heap, it answers each later
+ * records, slots, roots, sinks and sink sets up to the lengths above, whatever
+ * they held, and gives the control record. `image_length` is that of the image,
+ * in bytes. The heap has no clusters, and its list of sinks no empty place
+ * between two of them. Loaded from the image of a heap, it answers each later
  * call as that heap would have, but for `scanned`, what an analysis answers, and
- * control records.
+ * control records; the bytes of a later save may have the sinks in another order.
  *
  * The image may come from anywhere: all of it is tested before the first store,
  * and what is accepted is a heap without damage. The buffers may be those of a
  * heap in use: a refused load changes none of them, and that heap goes on with
- * its own control record (that of the answer is all 0). Takes less than 1,000
- * bytes of stack.
+ * its own control record (that of the answer is all 0).
  * Tests: at each chunk 26, 27, 28, and last 2.
  */
 pakzid_done pakzid_load(const uint8_t *image, size_t image_length,
                         uint32_t *records, size_t records_length,
                         uint32_t *slots, size_t slots_length,
-                        uint32_t *roots, size_t roots_length);
+                        uint32_t *roots, size_t roots_length,
+                        uint32_t *sinks, size_t sinks_length,
+                        uint64_t *sink_sets, size_t sink_sets_length);
 
 /*
  * Allocate and write for a control record that is lent and changed where it is.
@@ -330,7 +369,9 @@ pakzid_allocated_in_place pakzid_allocate_in_place(pakzid_control *control, uint
 /* Answers the refusal, 0 if accepted. */
 uint32_t pakzid_write_in_place(pakzid_control *control, uint32_t object, uint32_t slot, uint32_t word,
                                uint32_t *records, size_t records_length,
-                               uint32_t *slots, size_t slots_length);
+                               uint32_t *slots, size_t slots_length,
+                               const uint32_t *sinks, size_t sinks_length,
+                               uint64_t *sink_sets, size_t sink_sets_length);
 
 #ifdef __cplusplus
 }

@@ -37,7 +37,8 @@ int main(void)
         {"out loss above n", {10, 1, 0, 0, 0, 11}, 20},
     };
     /* no object is in use: where the control record is taken, 22 follows for a read, and the image is short */
-    static uint32_t records[4095], slots[8 * 4095], roots[64];
+    static uint32_t records[4095], slots[8 * 4095], roots[64], sinks[PAKZID_SINKS_LENGTH];
+    static uint64_t sets[4095];
     static uint8_t image[PAKZID_IMAGE_LENGTH(0, 64)];
     for (size_t i = 0; i < sizeof rows / sizeof rows[0]; i++) {
         pakzid_word read = pakzid_read(rows[i].control, 1, 0, records, 4095, slots, 8 * 4095);
@@ -45,9 +46,9 @@ int main(void)
         expect("word", read.word, 0);
         expect("control record back", memcmp(&read.control, &rows[i].control, sizeof read.control), 0);
 
-        pakzid_saved saved = pakzid_save(rows[i].control, records, 4095, slots, 8 * 4095, roots, 64,
-                                         image, sizeof image);
-        size_t length = rows[i].refusal ? 0 : PAKZID_IMAGE_LENGTH(0, rows[i].control.roots);
+        pakzid_saved saved = pakzid_save(rows[i].control, records, 4095, slots, 8 * 4095, roots, 64, sinks, PAKZID_SINKS_LENGTH, sets,
+                                         4095, image, sizeof image);
+        size_t length = rows[i].refusal ? 0 : 26 + 4 * rows[i].control.roots;
         expect(rows[i].what, saved.refusal, rows[i].refusal);
         expect("length", saved.length, length);
         expect("control record back from save", memcmp(&saved.control, &rows[i].control, sizeof saved.control), 0);

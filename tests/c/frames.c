@@ -8,11 +8,12 @@
 
 enum { N = 16, R = 2, FRAMES = 100, DOOR = 1, SWITCH = 3 };
 
-static uint32_t records[N], slots[PAKZID_SLOTS_LENGTH(N)], roots[R], work[PAKZID_WORK_LENGTH(N)];
-static uint64_t map[PAKZID_MAP_LENGTH(N)];
+static uint32_t records[N], slots[PAKZID_SLOTS_LENGTH(N)], roots[R], sinks[PAKZID_SINKS_LENGTH], work[PAKZID_WORK_LENGTH(N)];
+static uint64_t sets[N], map[PAKZID_MAP_LENGTH(N)];
 #define RECORDS records, N
 #define SLOTS slots, PAKZID_SLOTS_LENGTH(N)
 #define ROOTS roots, R
+#define SINKS sinks, PAKZID_SINKS_LENGTH, sets, N
 #define WORK work, PAKZID_WORK_LENGTH(N)
 #define MAP map, PAKZID_MAP_LENGTH(N)
 
@@ -29,14 +30,14 @@ static void expect(const char *what, uint32_t frame, uint32_t got, uint32_t want
 
 static void store(uint32_t object, uint32_t slot, uint32_t word)
 {
-    expect("refusal", 0, pakzid_write_in_place(&control, object, slot, word, RECORDS, SLOTS), 0);
+    expect("refusal", 0, pakzid_write_in_place(&control, object, slot, word, RECORDS, SLOTS, SINKS), 0);
 }
 
 /* Heap H of the trials, all six objects in cluster 1. The switch is in a root too, so that no frame frees it. */
 static void build(void)
 {
     static const uint32_t stores[][3] = {{DOOR, 0, 2}, {DOOR, 1, SWITCH}, {2, 0, 4}, {SWITCH, 0, 5}, {4, 0, 6}};
-    control = pakzid_create(N, R, RECORDS, SLOTS, ROOTS).control;
+    control = pakzid_create(N, R, RECORDS, SLOTS, ROOTS, SINKS).control;
     for (uint32_t object = 1; object <= 6; object++)
         control = pakzid_allocate(control, object == DOOR ? 3 : 1, RECORDS, SLOTS).control;
     for (size_t i = 0; i < sizeof stores / sizeof stores[0]; i++)
@@ -44,7 +45,7 @@ static void build(void)
     control = pakzid_set_root(control, 0, DOOR, RECORDS, ROOTS).control;
     control = pakzid_set_root(control, 1, SWITCH, RECORDS, ROOTS).control;
     for (int i = 0; i < 2; i++)
-        control = pakzid_analyse(control, RECORDS, SLOTS, ROOTS, WORK).control;
+        control = pakzid_analyse(control, RECORDS, SLOTS, ROOTS, SINKS, WORK).control;
 }
 
 /* Slot 2 of the door holds the word. What a collection of each frame scans, the cluster of the door and write loss are given. */
@@ -54,7 +55,7 @@ static void frames(uint32_t word, uint32_t scanned, uint32_t cluster, uint32_t l
     store(DOOR, 2, word);
     for (uint32_t frame = 1; frame <= FRAMES; frame++) {
         store(DOOR, 1, 0);
-        pakzid_collected swept = pakzid_collect_clusters(control, RECORDS, SLOTS, ROOTS, WORK, MAP);
+        pakzid_collected swept = pakzid_collect_clusters(control, RECORDS, SLOTS, ROOTS, SINKS, WORK, MAP);
         expect("refusal", frame, swept.refusal, 0);
         expect("scanned", frame, swept.scanned, scanned);
         expect("kept", frame, swept.kept, 6);

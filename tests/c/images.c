@@ -8,7 +8,7 @@
 #include <stdio.h>
 #include <string.h>
 
-enum { N = 4, R = 2, SAVED = 54, MOST_OBJECTS = 4095, MOST_ROOTS = 64 };
+enum { N = 4, R = 2, THREE = 54, SAVED = 62, SINKS = PAKZID_SINKS_LENGTH, MOST_OBJECTS = 4095, MOST_ROOTS = 64 };
 
 /* Object 1 points to itself and holds an immediate, and root 1 names it. Object 4 is a sink. 2 and 3 are free. */
 static const uint8_t bytes[SAVED] = {
@@ -20,18 +20,21 @@ static const uint8_t bytes[SAVED] = {
     4, 0, 0, 1,             /* object 4, width 0, a sink */
     8, 0, 0, 0, 3, 0,       /* eight bytes of kind 3 */
     0, 0, 0, 0, 1, 0, 0, 0,
+    2, 0, 0, 0, 1, 0x80,    /* two bytes of kind 0x8001 */
+    4, 0,                   /* the sink */
 };
 
-/* Where the three chunks begin, and where the last one ends. */
-static const size_t place[] = {0, 14, 40, SAVED};
+/* Where the four chunks begin, and where the last one ends. */
+static const size_t place[] = {0, 14, 40, THREE, SAVED};
 enum { VERSION = 6, WIDTH_1 = 22, SINK_1 = 23, WORD_1_0 = 24, OBJECT_4 = 36, ROOT_1 = 50 };
 
-static uint32_t records[MOST_OBJECTS], slots[PAKZID_SLOTS_LENGTH(MOST_OBJECTS)], roots[MOST_ROOTS];
+static uint32_t records[MOST_OBJECTS], slots[PAKZID_SLOTS_LENGTH(MOST_OBJECTS)], roots[MOST_ROOTS], sinks[SINKS + 1];
+static uint64_t sets[MOST_OBJECTS];
 static uint8_t image[PAKZID_IMAGE_LENGTH(MOST_OBJECTS, MOST_ROOTS)];
 static size_t length; /* of the image */
 static int failed;
 
-#define HEAP(n, r) records, n, slots, PAKZID_SLOTS_LENGTH(n), roots, r
+#define HEAP(n, r) records, n, slots, PAKZID_SLOTS_LENGTH(n), roots, r, sinks, SINKS, sets, n
 
 static void expect(const char *what, size_t got, size_t want)
 {
@@ -48,9 +51,11 @@ static void dirty(void)
     memset(records, 0xA5, sizeof records);
     memset(slots, 0xA5, sizeof slots);
     memset(roots, 0xA5, sizeof roots);
+    memset(sinks, 0xA5, sizeof sinks);
+    memset(sets, 0xA5, sizeof sets);
 }
 
-/* Records, slots and roots are those of the heap in the bytes, and past them as `dirty` left them. */
+/* Records, slots, roots, sinks and sets are those of the heap in the bytes, and past them as `dirty` left them. */
 static void expect_heap(void)
 {
     static const uint32_t words[] = {0x301, 0, 0, 0x005, 0xA5A5A5A5};
@@ -61,6 +66,10 @@ static void expect_heap(void)
     expect("root 0", roots[0], 0);
     expect("root 1", roots[1], 1);
     expect("past the roots", roots[2], 0xA5A5A5A5);
+    for (uint32_t i = 0; i <= SINKS; i++)
+        expect("place", sinks[i], i == 0 ? 4 : i < SINKS ? 0 : 0xA5A5A5A5);
+    for (uint32_t i = 0; i <= N; i++)
+        expect("set", sets[i], i < N ? 0 : 0xA5A5A5A5A5A5A5A5);
 }
 
 static void small_heap(void)
@@ -132,7 +141,7 @@ static void cuts(void)
 {
     for (size_t cut = 0; cut < SAVED; cut++) {
         length = cut;
-        expect_load("cut", 26);
+        expect_load("cut", cut == THREE ? 0 : 26);
     }
     for (size_t stray = 1; stray <= 5; stray++) {
         put(bytes, stray);
@@ -154,14 +163,14 @@ static void orders(void)
     }
 }
 
-/* Each of the three chunks, and one after them, as each of the 65,536 kinds. */
+/* Each of the four chunks, and one after them, as each of the 65,536 kinds. Without a list of sinks the load makes one. */
 static void kinds(void)
 {
-    for (uint32_t at = 0; at < 4; at++)
+    for (uint32_t at = 0; at < 5; at++)
         for (uint32_t kind = 0; kind < 0x10000; kind++) {
             int known = 1 <= kind && kind <= 3, further = kind >= 0x8000;
-            int fits = at < 3 ? kind == at + 1 : further;
-            if (at == 3)
+            int fits = at < 3 ? kind == at + 1 : further && (at == 3 || kind != 0x8001);
+            if (at == 4)
                 put_chunk(0, 3);
             image[place[at] + 4] = (uint8_t)kind;
             image[place[at] + 5] = (uint8_t)(kind >> 8);
@@ -173,10 +182,10 @@ static void kinds(void)
 static void hostile_lengths(void)
 {
     static const uint32_t too_long[] = {SAVED, 0x7FFFFFFF, 0x80000000, 0xFFFFFFF4, 0xFFFFFFFA, 0xFFFFFFFF};
-    for (uint32_t at = 0; at < 4; at++)
+    for (uint32_t at = 0; at < 5; at++)
         for (size_t i = 0; i < sizeof too_long / sizeof too_long[0]; i++)
             for (uint32_t kind = 0; kind < 256; kind++) {
-                if (at == 3)
+                if (at == 4)
                     put_chunk(0x8000, 3);
                 set_length(at, too_long[i]);
                 image[place[at] + 4] = (uint8_t)kind;
@@ -201,9 +210,11 @@ static void first_faults(void)
     length = place[1];
     expect_with("version 2, and nothing after it", VERSION, 2, 27);
 
-    expect("too few records", pakzid_load(bytes, SAVED, records, N - 1, slots, 8 * N, roots, R).refusal, 2);
-    expect("too few slots", pakzid_load(bytes, SAVED, records, N, slots, 8 * N - 1, roots, R).refusal, 2);
-    expect("too few roots", pakzid_load(bytes, SAVED, records, N, slots, 8 * N, roots, R - 1).refusal, 2);
+    expect("too few records", pakzid_load(bytes, SAVED, records, N - 1, slots, 8 * N, roots, R, sinks, SINKS, sets, N).refusal, 2);
+    expect("too few slots", pakzid_load(bytes, SAVED, records, N, slots, 8 * N - 1, roots, R, sinks, SINKS, sets, N).refusal, 2);
+    expect("too few roots", pakzid_load(bytes, SAVED, records, N, slots, 8 * N, roots, R - 1, sinks, SINKS, sets, N).refusal, 2);
+    expect("too few places", pakzid_load(bytes, SAVED, records, N, slots, 8 * N, roots, R, sinks, SINKS - 1, sets, N).refusal, 2);
+    expect("too few sets", pakzid_load(bytes, SAVED, records, N, slots, 8 * N, roots, R, sinks, SINKS, sets, N - 1).refusal, 2);
     expect("a root of no object, and no room", (image[ROOT_1] = 2, pakzid_load(image, SAVED, HEAP(0, 0)).refusal), 27);
     whole();
     put_chunk(0, 0);
@@ -227,7 +238,57 @@ static void bodies(void)
     expect_with("immediate as a root", ROOT_1 + 3, 0x80, 27);
 }
 
+/* The three chunks, and a list of sinks with this body. */
+static void expect_list(const char *what, const uint8_t *body, uint32_t count, uint32_t refusal)
+{
+    length = THREE;
+    put_chunk(0x8001, count);
+    memcpy(image + length - count, body, count);
+    expect_load(what, refusal);
+}
+
+static void lists(void)
+{
+    static const uint8_t four[] = {4, 0, 4, 0}, one[] = {4, 0, 1, 0}, nil[] = {0, 0}, high[] = {4, 1};
+    expect_list("the sink", four, 2, 0);
+    expect_list("no number", four, 0, 27);
+    expect_list("half a number", four, 1, 27);
+    expect_list("a number and a half", four, 3, 27);
+    expect_list("the sink twice", four, 4, 27);
+    expect_list("an object that is no sink", one, 4, 27);
+    expect_list("no sink but that object", one + 2, 2, 27);
+    expect_list("nil", nil, 2, 27);
+    expect_list("a number above n", high, 2, 27);
+    expect_with("a sink that is not listed", SINK_1, 1, 27);
+    put(bytes + THREE, SAVED - THREE);
+    expect_load("two lists", 27);
+    length = THREE;
+    put_chunk(0x8002, 5);
+    put(bytes + THREE, SAVED - THREE);
+    expect_load("another kind before the list", 0);
+}
+
 /* --- Other heaps ---------------------------------------------------------- */
+
+/* 65 objects of width 0, of which so many are sinks, and no list: they are listed by number. */
+static void crowd(uint32_t count, uint32_t refusal)
+{
+    static const uint8_t sizes[] = {1, 0, 65, 0, 1, 0, 65, 0};
+    length = 0;
+    put(bytes, VERSION);
+    put(sizes, sizeof sizes);
+    put_chunk(2, 0);
+    image[length - 6] = 4, image[length - 5] = 1; /* 260 bytes */
+    for (uint32_t object = 1; object <= 65; object++) {
+        const uint8_t entry[] = {(uint8_t)object, 0, 0, object <= count};
+        put(entry, sizeof entry);
+    }
+    put_chunk(3, 4);
+    memset(image + length - 4, 0, 4);
+    expect("so many sinks", pakzid_load(image, length, HEAP(65, 1)).refusal, refusal);
+    for (uint32_t k = 0; refusal == 0 && k < SINKS; k++)
+        expect("listed", sinks[k], k < count ? k + 1 : 0);
+}
 
 /* Heaps without an object in use, with sizes at their bounds. */
 static void sizes(void)
@@ -259,13 +320,18 @@ static void sizes(void)
     }
 }
 
-/* Every object in use and of width 8. */
+/* Every object in use and of width 8, and as many sinks as there can be. */
 static void longest(uint32_t n, uint32_t r)
 {
-    size_t most = PAKZID_IMAGE_LENGTH(n, r);
+    uint32_t count = n < SINKS ? n : SINKS;
+    size_t most = PAKZID_IMAGE_LENGTH(n, r) - 2 * (SINKS - count);
     pakzid_control control = pakzid_create(n, r, HEAP(n, r)).control;
     for (uint32_t object = 1; object <= n; object++)
         control = pakzid_allocate(control, 8, records, n, slots, PAKZID_SLOTS_LENGTH(n)).control;
+    for (uint32_t object = 1; object <= count; object++)
+        control = pakzid_declare_sink(control, object, HEAP(n, r)).control;
+    expect("one sink more", pakzid_declare_sink(control, n, HEAP(n, r)).refusal, n > SINKS ? 29 : 0);
+    expect("one of them again", pakzid_declare_sink(control, 1, HEAP(n, r)).refusal, 0);
     expect("a byte too little", pakzid_save(control, HEAP(n, r), image, most - 1).refusal, 2);
     expect("longest image", pakzid_save(control, HEAP(n, r), image, most).length, most);
     dirty();
@@ -282,7 +348,11 @@ int main(void)
     hostile_lengths();
     first_faults();
     bodies();
+    lists();
     sizes();
+    crowd(1, 0);
+    crowd(SINKS, 0);
+    crowd(SINKS + 1, 27);
     longest(1, 1);
     longest(MOST_OBJECTS, MOST_ROOTS);
     if (!failed)

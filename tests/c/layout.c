@@ -10,8 +10,8 @@
 
 enum { N = 20, R = 3, MOST = 10, SAVED = 26 + 4 * R + 12 * (4 + 4 * 4) };
 
-static uint32_t records[N], slots[PAKZID_SLOTS_LENGTH(N)], roots[R], work[PAKZID_WORK_LENGTH(N)];
-static uint64_t map[PAKZID_MAP_LENGTH(N)];
+static uint32_t records[N], slots[PAKZID_SLOTS_LENGTH(N)], roots[R], sinks[PAKZID_SINKS_LENGTH], work[PAKZID_WORK_LENGTH(N)];
+static uint64_t sets[N], map[PAKZID_MAP_LENGTH(N)];
 static uint8_t image[SAVED];
 static int failed;
 
@@ -53,6 +53,7 @@ static void answers(const char *what, size_t size, size_t count, const void *got
 #define RECORDS records, N
 #define SLOTS slots, PAKZID_SLOTS_LENGTH(N)
 #define ROOTS roots, R
+#define SINKS sinks, PAKZID_SINKS_LENGTH, sets, N
 #define WORK work, PAKZID_WORK_LENGTH(N)
 #define MAP map, PAKZID_MAP_LENGTH(N)
 #define IMAGE image, SAVED
@@ -66,12 +67,12 @@ static pakzid_control handed;
 /* Twelve objects of four slots: root 0 leads to 1 and from there to 2 to 5, root 2 to 6 and 7; 8 to 12 are garbage. */
 static void build(void)
 {
-    handed = pakzid_create(N, R, RECORDS, SLOTS, ROOTS).control;
+    handed = pakzid_create(N, R, RECORDS, SLOTS, ROOTS, SINKS).control;
     for (int i = 1; i <= 12; i++)
         handed = pakzid_allocate(handed, 4, RECORDS, SLOTS).control;
     static const uint32_t stores[][3] = {{1, 0, 2}, {1, 1, 3}, {2, 0, 4}, {2, 1, 5}, {6, 0, 7}, {7, 2, 0x80000063}};
     for (size_t i = 0; i < sizeof stores / sizeof stores[0]; i++)
-        handed = pakzid_write(handed, stores[i][0], stores[i][1], stores[i][2], RECORDS, SLOTS).control;
+        handed = pakzid_write(handed, stores[i][0], stores[i][1], stores[i][2], RECORDS, SLOTS, SINKS).control;
     handed = pakzid_set_root(handed, 0, 1, RECORDS, ROOTS).control;
     handed = pakzid_set_root(handed, 2, 6, RECORDS, ROOTS).control;
     memcpy(&handed, handed_words, sizeof handed);
@@ -80,13 +81,13 @@ static void build(void)
 /* Twelve objects are in the image, and limit and losses are not. A refused load gives no heap. */
 static void images(void)
 {
-    pakzid_saved saved = pakzid_save(handed, RECORDS, SLOTS, ROOTS, IMAGE);
-    pakzid_saved cut = pakzid_save(handed, RECORDS, SLOTS, ROOTS, image, SAVED - 1);
+    pakzid_saved saved = pakzid_save(handed, RECORDS, SLOTS, ROOTS, SINKS, IMAGE);
+    pakzid_saved cut = pakzid_save(handed, RECORDS, SLOTS, ROOTS, SINKS, image, SAVED - 1);
     pakzid_saved saved_named = {.refusal = 0, .length = SAVED, .control = HANDED_NAMED};
     pakzid_saved cut_named = {.refusal = 2, .length = 0, .control = HANDED_NAMED};
     ANSWERS("saved", pakzid_saved, 8, saved, saved_named, WORDS(0, SAVED, HANDED), cut, cut_named, WORDS(2, 0, HANDED));
 
-    pakzid_done loaded = pakzid_load(IMAGE, RECORDS, SLOTS, ROOTS), none = pakzid_load(image, 0, RECORDS, SLOTS, ROOTS);
+    pakzid_done loaded = pakzid_load(IMAGE, RECORDS, SLOTS, ROOTS, SINKS), none = pakzid_load(image, 0, RECORDS, SLOTS, ROOTS, SINKS);
     same_words("load", "library", &loaded, WORDS(0, N, R, 9, 0, 0, 0), 7);
     same_words("load", "refused", &none, WORDS(26, 0, 0, 0, 0, 0, 0), 7);
 }
@@ -114,9 +115,9 @@ static void small_calls(void)
 /* Objects 1 to 5 become a cluster at the second analysis. The limit is halved, to the least that there is. */
 static void analyses(void)
 {
-    pakzid_analyse(handed, RECORDS, SLOTS, ROOTS, WORK);
-    pakzid_analysed formed = pakzid_analyse(handed, RECORDS, SLOTS, ROOTS, WORK);
-    pakzid_analysed cut = pakzid_analyse(handed, RECORDS, SLOTS, ROOTS, work, PAKZID_WORK_LENGTH(N) - 1);
+    pakzid_analyse(handed, RECORDS, SLOTS, ROOTS, SINKS, WORK);
+    pakzid_analysed formed = pakzid_analyse(handed, RECORDS, SLOTS, ROOTS, SINKS, WORK);
+    pakzid_analysed cut = pakzid_analyse(handed, RECORDS, SLOTS, ROOTS, SINKS, work, PAKZID_WORK_LENGTH(N) - 1);
     pakzid_analysed formed_named = {.refusal = 0, .clusters = 1, .members = 5, .control = HANDED_NAMED};
     pakzid_analysed cut_named = {.refusal = 2, .clusters = 0, .members = 0, .control = HANDED_NAMED};
     formed_named.control.limit = 8;
@@ -127,13 +128,13 @@ static void analyses(void)
 
 static void collections(void)
 {
-    pakzid_collected swept = pakzid_collect_clusters(handed, RECORDS, SLOTS, ROOTS, WORK, MAP);
-    pakzid_collected cut = pakzid_collect_clusters(handed, RECORDS, SLOTS, ROOTS, WORK, map, 0);
+    pakzid_collected swept = pakzid_collect_clusters(handed, RECORDS, SLOTS, ROOTS, SINKS, WORK, MAP);
+    pakzid_collected cut = pakzid_collect_clusters(handed, RECORDS, SLOTS, ROOTS, SINKS, WORK, map, 0);
     pakzid_collected swept_named = {.refusal = 0, .freed = 6, .kept = 7, .scanned = 2, .control = HANDED_NAMED};
     pakzid_collected cut_named = {.refusal = 2, .freed = 0, .kept = 0, .scanned = 0, .control = HANDED_NAMED};
     ANSWERS("collected", pakzid_collected, 10, swept, swept_named, WORDS(0, 6, 7, 2, HANDED), cut, cut_named,
             WORDS(2, 0, 0, 0, HANDED));
-    pakzid_collected plain = pakzid_collect_plain(handed, RECORDS, SLOTS, ROOTS, WORK, MAP);
+    pakzid_collected plain = pakzid_collect_plain(handed, RECORDS, SLOTS, ROOTS, SINKS, WORK, MAP);
     same_words("collected plainly", "library", &plain, WORDS(0, 0, 7, 7, HANDED), 10);
 }
 
@@ -145,18 +146,18 @@ static void writes(void)
 {
     uint32_t before[N];
     memcpy(before, records, sizeof before);
-    pakzid_done cut = pakzid_write(handed, 1, 0, 3, RECORDS, SLOTS), past = pakzid_write(handed, 1, 4, 3, RECORDS, SLOTS);
+    pakzid_done cut = pakzid_write(handed, 1, 0, 3, RECORDS, SLOTS, SINKS), past = pakzid_write(handed, 1, 4, 3, RECORDS, SLOTS, SINKS);
     pakzid_done cut_named = {.refusal = 0, .control = HANDED_NAMED}, past_named = {.refusal = 5, .control = HANDED_NAMED};
     cut_named.control.write_loss = 12;
     ANSWERS("done", pakzid_done, 7, cut, cut_named, WORDS(0, N, R, 9, 11, 12, 6), past, past_named, WORDS(5, HANDED));
 
     memcpy(records, before, sizeof before);
     pakzid_control lent = handed;
-    same_words("write in place", "refusal", WORDS(pakzid_write_in_place(&lent, 1, 4, 3, RECORDS, SLOTS)), WORDS(5), 1);
+    same_words("write in place", "refusal", WORDS(pakzid_write_in_place(&lent, 1, 4, 3, RECORDS, SLOTS, SINKS)), WORDS(5), 1);
     same_words("write in place", "refused", &lent, WORDS(HANDED), 6);
-    same_words("write in place", "accepted", WORDS(pakzid_write_in_place(&lent, 1, 1, 0, RECORDS, SLOTS)), WORDS(0), 1);
+    same_words("write in place", "accepted", WORDS(pakzid_write_in_place(&lent, 1, 1, 0, RECORDS, SLOTS, SINKS)), WORDS(0), 1);
     same_words("write in place", "held", &lent, WORDS(HANDED), 6);
-    same_words("write in place", "accepted", WORDS(pakzid_write_in_place(&lent, 1, 0, 0, RECORDS, SLOTS)), WORDS(0), 1);
+    same_words("write in place", "accepted", WORDS(pakzid_write_in_place(&lent, 1, 0, 0, RECORDS, SLOTS, SINKS)), WORDS(0), 1);
     same_words("write in place", "record", &lent, WORDS(N, R, 9, 11, 12, 6), 6);
 
     lent = handed;
@@ -174,10 +175,10 @@ static void done(void)
     pakzid_done set = pakzid_set_root(handed, 1, 2, RECORDS, ROOTS), past = pakzid_set_root(handed, R, 2, RECORDS, ROOTS);
     same_words("set root", "library", &set, WORDS(0, HANDED), 7);
     same_words("set root", "refused", &past, WORDS(7, HANDED), 7);
-    pakzid_done sink = pakzid_declare_sink(handed, 2, RECORDS, SLOTS, ROOTS), none = pakzid_declare_sink(handed, 0, RECORDS, SLOTS, ROOTS);
+    pakzid_done sink = pakzid_declare_sink(handed, 2, RECORDS, SLOTS, ROOTS, SINKS), none = pakzid_declare_sink(handed, 0, RECORDS, SLOTS, ROOTS, SINKS);
     same_words("declare sink", "library", &sink, WORDS(0, HANDED), 7);
     same_words("declare sink", "refused", &none, WORDS(4, HANDED), 7);
-    pakzid_done empty = pakzid_create(N, R, RECORDS, SLOTS, ROOTS), wrong = pakzid_create(N, 65, RECORDS, SLOTS, ROOTS);
+    pakzid_done empty = pakzid_create(N, R, RECORDS, SLOTS, ROOTS, SINKS), wrong = pakzid_create(N, 65, RECORDS, SLOTS, ROOTS, SINKS);
     same_words("create", "library", &empty, WORDS(0, N, R, 0, 0, 0, 0), 7);
     same_words("create", "refused", &wrong, WORDS(1, 0, 0, 0, 0, 0, 0), 7);
 }

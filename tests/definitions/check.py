@@ -3,15 +3,17 @@
 
     python3 tests/definitions/check.py [SEED [MADE [HOSTILE [IMAGES]]]]
 
-MADE random lists of calls from create on, HOSTILE single calls on random buffers (illegal records, wrong out bits,
-clusters without a head, short slices, control records out of range), and IMAGES loads (of images as they should be, and
-with bytes, lengths, kinds and chunks changed), are run through the reference. Each answer, with the control record, every
-word of every buffer and every byte of a saved image, is written out as a theorem over the definitions, proved by
-computation, in a crate of its own under target/definitions. `rt dev` accepts it only if all agree. It is no part of
-the gate, which needs no Python."""
-import ctypes as C, os, random, re, shutil, subprocess, sys
+MADE random lists of calls from create on, HOSTILE single calls on random buffers (sinks listed in any place, clusters that
+no call made; illegal records, wrong out bits, lists and sets, clusters without a head, short slices, control records out of
+range), and IMAGES loads (of images as they should be, and with bytes, lengths, kinds and chunks changed, that of the sinks
+above all), with a few of either whose list of sinks is full, are run through the reference. Each answer, with the control
+record, every word of every buffer and every byte of a saved image, is written out as a theorem over the definitions, proved
+by computation, in a crate of its own under target/definitions. `rt dev` accepts it only if all agree. Printed are the last
+calls by their answer, and how often the reference took each of its paths. It is no part of the gate, which needs no
+Python."""
+import ctypes as C, itertools, os, random, re, shutil, subprocess, sys
 
-seed, made, hostile, images = ([int(x) for x in sys.argv[1:]] + [1, 100, 300, 100][len(sys.argv) - 1:])[:4]
+seed, made, hostile, images = ([int(x) for x in sys.argv[1:]] + [1, 100, 500, 200][len(sys.argv) - 1:])[:4]
 top = os.path.abspath(os.path.join(os.path.dirname(__file__), '..', '..'))
 build = f'{top}/target/definitions'
 shutil.rmtree(build, ignore_errors=True)
@@ -36,7 +38,7 @@ uses, names = [], []
 for crate in crates:
     for file in sorted(os.listdir(f'{top}/crates/{crate}/specs')):
         module = file[:-5]
-        if module in ('Lib', 'Trials', 'Demands', 'DepthFirst', 'Calls'):
+        if module in ('Lib', 'Trials', 'Demands', 'DepthFirst', 'Calls', 'FirstLoad'):
             continue
         found = re.findall(r'^\s*unfoldable pub (\S+)', open(f'{top}/crates/{crate}/specs/{file}', encoding='utf8').read(), re.M)
         if found:
@@ -54,42 +56,51 @@ ctl c = c .n ∷ c .r ∷ c .last ∷ c .limit ∷ c .«write_loss» ∷ c .«ou
 unfoldable pub nth : List ℕ → ℕ → ℕ
 nth l i = getD l i 0
 
-unfoldable pub stateOf : List ℕ → List ℕ → List ℕ → List ℕ → State
-stateOf c recs slots roots = record {
+unfoldable pub stateOf : List ℕ → List ℕ → List ℕ → List ℕ → List ℕ → List ℕ → State
+stateOf c recs slots roots list sets = record {
   control = LControlRecord.controlWith (nth c 2) (nth c 3) (nth c 4) (nth c 5) (LControlRecord.newControl (nth c 0) (nth c 1));
-  records = recs; slots = slots; roots = roots;
+  records = recs; slots = slots; roots = roots; sinks = list; sets = sets;
 }
 
 unfoldable pub observed : Call → State → List (List ℕ)
 observed (allocate width) s =
     let o = RAllocate.allocate (s .control) width (s .records) (s .slots) in
-    (o .answer .refusal ∷ o .answer .object ∷ []) ∷ ctl (o .answer .control) ∷ o .records ∷ o .slots ∷ s .roots ∷ []
+    (o .answer .refusal ∷ o .answer .object ∷ []) ∷ ctl (o .answer .control) ∷ o .records ∷ o .slots ∷ s .roots ∷ s .sinks ∷ s .sets ∷ []
 observed (allocateInPlace width) s =
     let o = RAllocate.allocateInPlace (s .control) width (s .records) (s .slots) in
-    (o .answer .refusal ∷ o .answer .object ∷ []) ∷ ctl (o .control) ∷ o .records ∷ o .slots ∷ s .roots ∷ []
+    (o .answer .refusal ∷ o .answer .object ∷ []) ∷ ctl (o .control) ∷ o .records ∷ o .slots ∷ s .roots ∷ s .sinks ∷ s .sets ∷ []
 observed (read i k) s =
-    let o = RRead.read (s .control) i k (s .records) (s .slots) in (o .refusal ∷ o .word ∷ []) ∷ ctl (o .control) ∷ s .records ∷ s .slots ∷ s .roots ∷ []
+    let o = RRead.read (s .control) i k (s .records) (s .slots) in
+    (o .refusal ∷ o .word ∷ []) ∷ ctl (o .control) ∷ s .records ∷ s .slots ∷ s .roots ∷ s .sinks ∷ s .sets ∷ []
 observed (show i) s =
-    let o = RShow.show (s .control) i (s .records) (s .slots) in (o .answer .refusal ∷ []) ∷ o .words ∷ ctl (o .answer .control) ∷ s .records ∷ s .slots ∷ s .roots ∷ []
+    let o = RShow.show (s .control) i (s .records) (s .slots) in
+    (o .answer .refusal ∷ []) ∷ o .words ∷ ctl (o .answer .control) ∷ s .records ∷ s .slots ∷ s .roots ∷ s .sinks ∷ s .sets ∷ []
 observed (write i k w) s =
-    let o = RWrite.write (s .control) i k w (s .records) (s .slots) in (o .answer .refusal ∷ []) ∷ ctl (o .answer .control) ∷ o .records ∷ o .slots ∷ s .roots ∷ []
+    let o = RWrite.write (s .control) i k w (s .records) (s .slots) (s .sinks) (s .sets) in
+    (o .answer .refusal ∷ []) ∷ ctl (o .answer .control) ∷ o .records ∷ o .slots ∷ s .roots ∷ s .sinks ∷ o .sets ∷ []
 observed (writeInPlace i k w) s =
-    let o = RWrite.writeInPlace (s .control) i k w (s .records) (s .slots) in (o .refusal ∷ []) ∷ ctl (o .control) ∷ o .records ∷ o .slots ∷ s .roots ∷ []
+    let o = RWrite.writeInPlace (s .control) i k w (s .records) (s .slots) (s .sinks) (s .sets) in
+    (o .refusal ∷ []) ∷ ctl (o .control) ∷ o .records ∷ o .slots ∷ s .roots ∷ s .sinks ∷ o .sets ∷ []
 observed (setRoot j w) s =
-    let o = RSetRoot.setRoot (s .control) j w (s .records) (s .roots) in (o .answer .refusal ∷ []) ∷ ctl (o .answer .control) ∷ s .records ∷ s .slots ∷ o .roots ∷ []
+    let o = RSetRoot.setRoot (s .control) j w (s .records) (s .roots) in
+    (o .answer .refusal ∷ []) ∷ ctl (o .answer .control) ∷ s .records ∷ s .slots ∷ o .roots ∷ s .sinks ∷ s .sets ∷ []
 observed (declareSink i) s =
-    let o = RDeclareSink.declareSink (s .control) i (s .records) (s .slots) (s .roots) in (o .answer .refusal ∷ []) ∷ ctl (o .answer .control) ∷ o .records ∷ s .slots ∷ s .roots ∷ []
-observed (collect kind work map) s =
-    let o = RCollect.collect kind (s .control) (s .records) (s .slots) (s .roots) work map in
-    (o .answer .refusal ∷ o .answer .freed ∷ o .answer .kept ∷ o .answer .scanned ∷ []) ∷ o .work ∷ o .map ∷ ctl (o .answer .control) ∷ o .records ∷ o .slots ∷ s .roots ∷ []
+    let o = RDeclareSink.declareSink (s .control) i (s .records) (s .slots) (s .roots) (s .sinks) (s .sets) in
+    (o .answer .refusal ∷ []) ∷ ctl (o .answer .control) ∷ o .records ∷ s .slots ∷ s .roots ∷ o .sinks ∷ o .sets ∷ []
+observed (collect kind work freed) s =
+    let o = RCollect.collect kind (s .control) (s .records) (s .slots) (s .roots) (s .sinks) (s .sets) work freed in
+    (o .answer .refusal ∷ o .answer .freed ∷ o .answer .kept ∷ o .answer .scanned ∷ [])
+    ∷ o .work ∷ o .map ∷ ctl (o .answer .control) ∷ o .records ∷ o .slots ∷ s .roots ∷ o .sinks ∷ o .sets ∷ []
 observed (analyse work) s =
-    let o = RAnalyse.analyse (s .control) (s .records) (s .slots) (s .roots) work in
-    (o .answer .refusal ∷ o .answer .clusters ∷ o .answer .members ∷ []) ∷ o .work ∷ ctl (o .answer .control) ∷ o .records ∷ s .slots ∷ s .roots ∷ []
+    let o = RAnalyse.analyse (s .control) (s .records) (s .slots) (s .roots) (s .sinks) (s .sets) work in
+    (o .answer .refusal ∷ o .answer .clusters ∷ o .answer .members ∷ [])
+    ∷ o .work ∷ ctl (o .answer .control) ∷ o .records ∷ s .slots ∷ s .roots ∷ s .sinks ∷ o .sets ∷ []
 observed (save out) s =
-    let o = RSave.save (s .control) (s .records) (s .slots) (s .roots) out in
-    (o .answer .refusal ∷ o .answer .length ∷ []) ∷ o .image ∷ ctl (o .answer .control) ∷ s .records ∷ s .slots ∷ s .roots ∷ []
-observed (load image recs slots roots) s =
-    let o = RLoad.load image recs slots roots in (o .answer .refusal ∷ []) ∷ ctl (o .answer .control) ∷ o .records ∷ o .slots ∷ o .roots ∷ []
+    let o = RSave.save (s .control) (s .records) (s .slots) (s .roots) (s .sinks) (s .sets) out in
+    (o .answer .refusal ∷ o .answer .length ∷ []) ∷ o .image ∷ ctl (o .answer .control) ∷ s .records ∷ s .slots ∷ s .roots ∷ s .sinks ∷ s .sets ∷ []
+observed (load image recs slots roots list sets) s =
+    let o = RLoad.load image recs slots roots list sets in
+    (o .answer .refusal ∷ []) ∷ ctl (o .answer .control) ∷ o .records ∷ o .slots ∷ o .roots ∷ o .sinks ∷ o .sets ∷ []
 '''
 
 
@@ -105,68 +116,55 @@ use Rattle.rules.specs.Calls.{Call, allocate, allocateInPlace, read, show, writ
 
 R = random.Random(seed)
 lib = C.CDLL(f'{build}/libref.so')
-U = C.c_uint32
-def struct(*names):
-    return type('S', (C.Structure,), {'_fields_': list(names)})
+U, U8, U64 = C.c_uint32, C.c_uint8, C.c_uint64
+paths = re.findall(r'PATH\(\w+, "(.*)"\)', open(f'{top}/tests/reference/reference.h').read())
+taken = (U64 * len(paths)).in_dll(lib, 'ref_path_taken')
 class Ctl(C.Structure):
     _fields_ = [(x, U) for x in ('n', 'r', 'last', 'limit', 'wl', 'ol')]
-def ans(*names):
-    return struct(*[(x, U) for x in names], ('c', Ctl))
-Done, Alloc, Word = ans('k'), ans('k', 'v'), ans('k', 'v')
-Part, Ana, Col = ans('k', 'start', 'length'), ans('k', 'clusters', 'members'), ans('k', 'freed', 'kept', 'scanned')
-Saved = ans('k', 'length')
-for f, t in [('create', Done), ('allocate', Alloc), ('read', Word), ('show', Part), ('write', Done), ('set_root', Done),
-             ('declare_sink', Done), ('analyse', Ana), ('collect_plain', Col), ('collect_clusters', Col),
-             ('save', Saved), ('load', Done)]:
-    getattr(lib, 'ref_' + f).restype = t
-def buf(l, ty=U):
-    return (ty * max(1, len(l)))(*l)
-def arg(b, n):
-    return [b, C.c_size_t(n)]
+# Records, slots, roots, sinks and sets are buffers 0 to 4. Of each call: which it is lent, what it answers, and the words of further buffers.
+words_of = (U, U, U, U, U64)
+calls = {
+    'create': (range(5), 'k', ()), 'load': (range(5), 'k', ()), 'save': (range(5), 'k length', (U8,)),
+    'allocate': ((0, 1), 'k object', ()), 'read': ((0, 1), 'k word', ()), 'show': ((0, 1), 'k start length', ()),
+    'write': ((0, 1, 3, 4), 'k', ()), 'set_root': ((0, 2), 'k', ()), 'declare_sink': (range(5), 'k', ()),
+    'analyse': (range(5), 'k clusters members', (U,)),
+    'collect_plain': (range(5), 'k freed kept scanned', (U, U64)), 'collect_clusters': (range(5), 'k freed kept scanned', (U, U64)),
+}
+names_in_c = {'setRoot': 'set_root', 'declareSink': 'declare_sink', 'plainly': 'collect_plain', 'byClusters': 'collect_clusters',
+              'allocateInPlace': 'allocate', 'writeInPlace': 'write'}
+for name, (lent, gives, further) in calls.items():
+    getattr(lib, 'ref_' + name).restype = type('Answer', (C.Structure,), {'_fields_': [(x, U) for x in gives.split()] + [('c', Ctl)]})
 def ctl(c):
-    return [c.n, c.r, c.last, c.limit, c.wl, c.ol]
-def load(a):
-    """a = (image, recs, slots, roots); gives (refusal, state)"""
-    bufs = [buf(a[0], C.c_uint8)] + [buf(l) for l in a[1:]]
-    o = lib.ref_load(*[x for b, l in zip(bufs, a) for x in arg(b, len(l))])
-    return o.k, (ctl(o.c), *[list(b)[:len(l)] for b, l in zip(bufs[1:], a[1:])])
+    return [getattr(c, x) for x, _ in Ctl._fields_]
+def run(name, front, given, own=()):
+    """One call of the reference; gives its answer, the buffers of the heap after it, and its own."""
+    lent, gives, further = calls[name]
+    def bufs(lists, words): return [(ty * max(1, len(l)))(*l) for l, ty in zip(lists, words)]
+    def args(bufs, lists): return [x for b, l in zip(bufs, lists) for x in (b, C.c_size_t(len(l)))]
+    def after(bufs, lists): return [b[:len(l)] for b, l in zip(bufs, lists)]
+    g, o = bufs(given, words_of), bufs(own, further)
+    answer = getattr(lib, 'ref_' + name)(*front, *args([g[j] for j in lent], [given[j] for j in lent]), *args(o, own))
+    return answer, after(g, given), after(o, own)
+def create(n, r, buffers):
+    o, after, _ = run('create', (U(n), U(r)), buffers)
+    return o.k, (ctl(o.c), *after)
 def call(op, s, a):
-    """s = (control list, recs, slots, roots); gives (observed, new s)"""
+    """s = (control record, records, slots, roots, sinks, sets); gives (observed, new s)"""
     if op == 'load':
-        k, s2 = load(a)
-        return [[k], *s2], s if k else s2
-    c = Ctl(*s[0])
-    rb, sb, qb = buf(s[1]), buf(s[2]), buf(s[3])
-    ra, sa, qa = arg(rb, len(s[1])), arg(sb, len(s[2])), arg(qb, len(s[3]))
-    extra = []
-    if op in ('allocate', 'allocateInPlace'): o = lib.ref_allocate(c, U(a[0]), *ra, *sa); head = [o.k, o.v]
-    elif op == 'read': o = lib.ref_read(c, U(a[0]), U(a[1]), *ra, *sa); head = [o.k, o.v]
-    elif op == 'show':
-        o = lib.ref_show(c, U(a[0]), *ra, *sa); head = [o.k]; extra = [s[2][o.start:o.start + o.length]]
-    elif op in ('write', 'writeInPlace'): o = lib.ref_write(c, U(a[0]), U(a[1]), U(a[2]), *ra, *sa); head = [o.k]
-    elif op == 'setRoot': o = lib.ref_set_root(c, U(a[0]), U(a[1]), *ra, *qa); head = [o.k]
-    elif op == 'declareSink': o = lib.ref_declare_sink(c, U(a[0]), *ra, *sa, *qa); head = [o.k]
-    elif op == 'analyse':
-        wb = buf(a[0]); o = lib.ref_analyse(c, *ra, *sa, *qa, *arg(wb, len(a[0])))
-        head = [o.k, o.clusters, o.members]; extra = [list(wb)[:len(a[0])]]
-    elif op == 'save':
-        ib = buf(a[0], C.c_uint8); o = lib.ref_save(c, *ra, *sa, *qa, *arg(ib, len(a[0])))
-        head = [o.k, o.length]; extra = [list(ib)[:len(a[0])]]
-    else:
-        wb, mb = buf(a[1]), buf(a[2], C.c_uint64)
-        f = lib.ref_collect_plain if a[0] == 'plainly' else lib.ref_collect_clusters
-        o = f(c, *ra, *sa, *qa, *arg(wb, len(a[1])), *arg(mb, len(a[2])))
-        head = [o.k, o.freed, o.kept, o.scanned]; extra = [list(wb)[:len(a[1])], list(mb)[:len(a[2])]]
-    s2 = (ctl(o.c), list(rb)[:len(s[1])], list(sb)[:len(s[2])], list(qb)[:len(s[3])])
-    return [head] + extra + [s2[0], s2[1], s2[2], s2[3]], s2
+        image = (U8 * max(1, len(a[0])))(*a[0])
+        o, after, _ = run(op, (image, C.c_size_t(len(a[0]))), a[1:])
+        return [[o.k], ctl(o.c), *after], s if o.k else (ctl(o.c), *after)
+    name = a[0] if op == 'collect' else op
+    name = names_in_c.get(name, name)
+    o, after, own = run(name, (Ctl(*s[0]), *[U(x) for x in a if type(x) is int]), s[1:], [x for x in a if type(x) is list])
+    head = [getattr(o, x) for x in calls[name][1].split()]
+    if op == 'show': head, own = head[:1], [s[2][o.start:o.start + o.length]]
+    return [head, *own, ctl(o.c), *after], (ctl(o.c), *after)
 def lst(l):
-    if len(l) > 20 and len(set(l)) == 1: return f'replicate {len(l)} {l[0]}'
-    if len(l) > 60 and l[:-1] == [l[0]] * (len(l) - 1): return f'(replicate {len(l)-1} {l[0]} ++ ({l[-1]} ∷ []))'
-    return '(' + ''.join(f'{x} ∷ ' for x in l) + '[])'
+    runs = [(x, len(list(run))) for x, run in itertools.groupby(l)]
+    return '(' + ''.join(f'replicate {k} {x} ++ ' if k > 9 else f'{x} ∷ ' * k for x, k in runs) + '[])'
 def term(op, a):
-    return '(' + op + ''.join(f' {par(x) if type(x) is list else x}' for x in a) + ')'
-def par(l):
-    t = lst(l); return t if t[0] == '(' else '(' + t + ')'
+    return '(' + op + ''.join(f' {lst(x) if type(x) is list else x}' for x in a) + ')'
 def work(n, ok=True):
     k = 10 * n + 64
     if not ok: k -= 1
@@ -179,17 +177,34 @@ def le(value, count):
     return list(value.to_bytes(count, 'little'))
 def chunk(kind, body):
     return le(len(body), 4) + le(kind, 2) + body
+def twos(numbers):
+    return sum([le(x, 2) for x in numbers], [])
+def three(n, r, last, objects, roots):
+    return [chunk(1, twos([1, n, r, last])), chunk(2, objects), chunk(3, roots)]
 def drawn(n, r):
-    """The three chunks of an image as it should be."""
-    there = sorted(R.sample(range(1, n + 1), R.randint(0, n)))
+    """The chunks of an image as it should be, but for that of the sinks, which is often wrong."""
+    there = [x for x in range(1, n + 1) if R.random() < .7]
+    types = [x for x in there if R.random() < .5]
     objects = []
     for x in there:
         words = [R.choice([0, 0x80000000, 0xFFFFFFFF] + there * 2) for _ in range(R.choice([0, 1, 1, 2, 8]))]
-        objects += le(x, 2) + [len(words), R.randint(0, 1)] + sum([le(w, 4) for w in words], [])
+        objects += le(x, 2) + [len(words), int(x in types)] + sum([le(w, 4) for w in words], [])
     roots = sum([le(R.choice([0] + there), 4) for _ in range(r)], [])
-    return [chunk(1, le(1, 2) + le(n, 2) + le(r, 2) + le(R.randint(0, n), 2)), chunk(2, objects), chunk(3, roots)]
+    return three(n, r, R.randint(0, n), objects, roots) + listing(n, types)
+def listing(n, types):
+    """The chunk of sinks: as it should be in half of the images, or none, or one with a fault, or two."""
+    numbers = R.sample(types, len(types))
+    what = R.choice(['right'] * 6 + ['missing'] * 2 + ['number'] * 3 + ['odd'] * 2 + ['empty', 'more', 'less', 'two'])
+    if what == 'missing' or what == 'right' and not types: return []
+    if what == 'empty': numbers = []
+    elif what == 'number' and types: numbers[R.randrange(len(types))] = R.choice([0, n + 1, R.randint(1, n), R.randint(1, n), *types])
+    elif what == 'more': numbers.insert(R.randint(0, len(types)), R.choice([0, R.randint(1, n)] + types))
+    elif what == 'less': numbers = numbers[1:]
+    body = twos(numbers)
+    if what == 'odd': body = R.choice([body + [R.randint(0, n)], body[1:], body[:-1]])
+    return [chunk(0x8001, body)] * (2 if what == 'two' else 1)
 def further():
-    return chunk(R.choice([0x8000, 0x8001, 0xFFFF]), [R.randint(0, 255) for _ in range(R.randint(0, 3))])
+    return chunk(R.choice([0x8000, 0x8002, 0xFFFF]), [R.randint(0, 255) for _ in range(R.randint(0, 3))])
 def change(chunks):
     """One change to a list of chunks; not every one is a fault."""
     i, j = R.randrange(len(chunks)), R.randrange(len(chunks))
@@ -207,23 +222,26 @@ def change(chunks):
     elif what == 'swap': chunks[i], chunks[j] = chunks[j], chunks[i]
     elif what == 'twice': chunks.insert(R.randint(0, len(chunks)), list(chunks[i]))
     elif what == 'without': del chunks[i]
-    elif what == 'kind': chunks[i][4:6] = le(R.choice([0, 1, 2, 3, 4, 0x7FFF, 0x8000, 0xFFFF]), 2)
+    elif what == 'kind': chunks[i][4:6] = le(R.choice([0, 1, 2, 3, 4, 0x7FFF, 0x8000, 0x8001, 0xFFFF]), 2)
     else: chunks.insert(R.randint(0, len(chunks)), further())
     return chunks or [[]]
 def random_load():
-    n, r = R.randint(1, 5), R.randint(1, 2)
+    n, r = R.randint(1, 6), R.randint(1, 2)
     chunks = drawn(n, r)
-    for _ in range(R.choice([0, 0, 1, 1, 1, 2])): chunks = change(chunks)
-    if R.random() < .3: chunks.append(further())
-    short = [R.random() < .04 for _ in range(3)]
-    return [sum(chunks, [])] + [[7] * (k - 1 if cut else k + R.randint(0, 1)) for k, cut in zip((n, 8 * n, r), short)]
+    if R.random() < .3: chunks.insert(R.randint(3, len(chunks)), further())
+    for _ in range(R.choice([0, 0, 0, 1, 1, 2])): chunks = change(chunks)
+    return [sum(chunks, [])] + [[7] * (k - 1 if R.random() < .03 else k + R.randint(0, 1)) for k in (n, 8 * n, r, 64, n)]
 def saved(s):
-    (k, length), bytes = call('save', s, [[0] * (26 + 36 * len(s[1]) + 4 * len(s[3]))])[0][:2]
+    before = list(taken)
+    (k, length), bytes = call('save', s, [[0] * (160 + 36 * len(s[1]) + 4 * len(s[3]))])[0][:2]
+    taken[:] = before
     return bytes[:length]
 def random_save(s):
     return 'save', [[6] * max(0, len(saved(s)) + R.choice([-1, 0, 0, 1, 3]))]
+def random_collect(n, ok=True):
+    return 'collect', [R.choice(['plainly', 'byClusters', 'byClusters']), work(n, ok), [9] * (n // 64 + 1)]
 def random_call(n, r, s):
-    op = R.choice(['allocate'] * 3 + ['read', 'show'] + ['write'] * 10 + ['setRoot'] * 2 + ['declareSink'] + ['analyse'] * 4 + ['collect'] * 2
+    op = R.choice(['allocate'] * 3 + ['read', 'show'] + ['write'] * 10 + ['setRoot'] * 2 + ['declareSink'] * 4 + ['analyse'] * 4 + ['collect'] * 2
                   + ['save'] * 2 + ['load'])
     o = R.choice([0, n + 1] + list(range(1, n + 1)) * 3)
     if op == 'allocate': return either(op), [R.choice([0, 1, 2, 2, 3, 3, 8, 9])]
@@ -235,98 +253,156 @@ def random_call(n, r, s):
     if op == 'analyse': return op, [work(n, R.random() < .95)]
     if op == 'save': return random_save(s)
     if op == 'load': return op, [saved(s), *[[7] * len(l) for l in s[1:]]] if R.random() < .5 else random_load()
-    return op, [R.choice(['plainly', 'byClusters', 'byClusters']), work(n, R.random() < .95), [9] * (n // 64 + 1)]
+    return random_collect(n, R.random() < .95)
+
 out = [header()]
 stats = {}
-def lits(ls):
-    return '(' + ''.join(f'{par(l)} ∷ ' for l in ls) + '[])'
-def emit(i, calls, last, st, observed):
-    cs = '(' + ''.join(f'{term(*c)} ∷ ' for c in calls) + '[])'
-    out.append(f't{i} : observed {term(*last)} (afterAll step {cs} {st}) ≡ {lits(observed)}\n{unfolding}\nt{i} = refl\n')
+def emit(calls, last, st, observed):
+    i, cs = len(out), ''.join(f'{term(*c)} ∷ ' for c in calls)
+    seen = ''.join(f'{lst(l)} ∷ ' for l in observed)
+    out.append(f't{i} : observed {term(*last)} (afterAll step ({cs}[]) {st}) ≡ ({seen}[])\n{unfolding}\nt{i} = refl\n')
     k = (last[0], observed[0][0]); stats[k] = stats.get(k, 0) + 1
-for i in range(made):
-    n, r = R.randint(5, 9), R.randint(1, 3)
-    start = f'(created {n} {r} (replicate {n+1} 1) (replicate {8*n+1} 1) (replicate {r+1} 1))'
-    b = ([1] * (n + 1), [1] * (8 * n + 1), [1] * (r + 1))
-    rb, sb, qb = buf(b[0]), buf(b[1]), buf(b[2])
-    o = lib.ref_create(U(n), U(r), *arg(rb, n + 1), *arg(sb, 8 * n + 1), *arg(qb, r + 1))
-    s = (ctl(o.c), list(rb), list(sb), list(qb))
-    calls = []
+def emit_single(op, a, s):
+    emit([], (op, a), '(stateOf ' + ' '.join(lst(l) for l in s) + ')', call(op, s, a)[0])
+def emit_load(a):
+    emit([], ('load', a), '(stateOf [] [] [] [] [] [])', call('load', None, a)[0])
+def made_list():
+    """Calls from create on: sinks, then clusters that lead to them, then calls at random."""
+    n, r = R.randint(5, 8), R.randint(1, 3)
+    b = [[1] * (k - 1 if R.random() < .006 else k + 1) for k in (n, 8 * n, r, 64, n)]
+    start = f'(created {n} {r} ' + ' '.join(lst(l) for l in b) + ')'
+    refused, s = create(n, r, b)
+    if refused: return emit([], ('setRoot', [0, 0]), start, call('setRoot', s, [0, 0])[0])
+    done = []
     def do(op, a):
-        global s
-        t, s = call(op, s, a); calls.append((op, a)); return t
-    for j in range(n - R.randint(0, 2)): do('allocate', [R.choice([1, 2, 2, 3])])
-    for j in range(2 * n): do('write', [R.randint(1, n), R.choice([0, 0, 1, 1, 2]), R.randint(1, n)])
-    do('setRoot', [0, R.randint(1, n)])
+        nonlocal s
+        _, s = call(op, s, a); done.append((op, a))
+    # sinks in another order than by number, and often all but one of them freed again, so that the list has holes
+    first = R.sample(range(1, 4), R.randint(1, 3))
+    for _ in range(3): do('allocate', [R.randint(0, 2)])
+    for x in first: do('declareSink', [x])
+    if R.random() < .6: do('setRoot', [0, R.choice(first)]); do(*random_collect(n))
+    for _ in range(n - R.randint(0, 1)): do('allocate', [R.choice([1, 2, 2, 3])])
+    if R.random() < .3: do('declareSink', [R.randint(1, n)])
+    # the other objects in a row from the root on, with further pointers at random
+    types = [x for x in s[4] if x]
+    others = [x for x in range(1, n + 1) if x not in types]
+    do('setRoot', [0, others[0]])
+    for x, y in zip(others, others[1:]): do('write', [x, 0, y])
+    for _ in range(n): do('write', [R.randint(1, n), R.choice([0, 1, 1, 1, 2]), R.choice([R.randint(1, n)] + types)])
     do('analyse', [work(n)]); do('analyse', [work(n)])
-    for j in range(R.randint(0, 8)): do(*random_call(*s[0][:2], s))
-    s0 = s; n, r = s[0][:2]
+    for _ in range(R.randint(0, 8)): do(*random_call(*s[0][:2], s))
+    n, r = s[0][:2]
     last = random_call(n, r, s)
     other = R.random()
-    if other < .5: last = ('collect', [R.choice(['plainly', 'byClusters', 'byClusters']), work(n), [9]])
+    if other < .5: last = random_collect(n)
     elif other < .7: last = random_save(s)
-    t, _ = call(last[0], s0, last[1])
-    emit(i, calls, last, start, t)
-for i in range(made, made + hostile):
-    n, r = R.randint(2, 6), R.randint(1, 2)
-    good = R.random() < .5
+    emit(done, last, start, call(last[0], s, last[1])[0])
+def field(q):
+    return q >> 16 & 4095
+def any_objects(n):
+    """Records and slots at random, and the heads of their clusters, which may have any size."""
+    written, free = R.choice([.1, .5]), R.choice([0, .15])
+    heads, types = R.sample(range(1, n + 1), R.randint(1, 2)), R.sample(range(1, n + 1), R.randint(0, 3))
+    clusters = [0] * R.randint(1, 6) + heads * 2
     recs, slots = [], []
-    cl = R.randint(1, n)
     for x in range(1, n + 1):
-        if R.random() < .15: recs.append(0); slots += [0] * 8; continue
-        w = R.randint(0, 3); c = R.choice([0, cl, cl])
-        rec = 1 + 2 * R.randint(0, 1) + 256 * w
-        if c: rec += 65536 * c + 8 * R.randint(0, 1)
-        elif R.random() < .2: rec += 4
-        if not good and R.random() < .2: rec ^= 1 << R.randint(0, 31)
-        recs.append(rec)
-        slots += [R.choice([0, 0x80000001, cl] + [R.randint(1, n)] * 4) for _ in range(w)] + [0] * (8 - w)
-    if not good and R.random() < .3: slots[R.randrange(len(slots))] = R.choice([1, n + 1, 5000, 0xFFFFFFFF])
-    def exact():
-        for x in range(1, n + 1):
-            q = recs[x - 1]; c = (q >> 16) & 4095; w = (q >> 8) & 15
-            if not q & 1 or w > 8: continue
-            out = any(1 <= y <= n and not recs[y - 1] & 4 and (recs[y - 1] >> 16) & 4095 != c for y in slots[8 * x - 8: 8 * x - 8 + w])
-            recs[x - 1] = (q & ~8) | (8 if c and out else 0)
-    def heal():
-        if recs[cl - 1] & 1 == 0 or (recs[cl - 1] >> 16) & 4095 != cl:
-            recs[cl - 1] = 1 + 65536 * cl + (recs[cl - 1] & 0xF02 if recs[cl - 1] & 0xF00 <= 0x800 else 0)
-        for x in range(len(slots)):
-            if 1 <= slots[x] <= n and recs[slots[x] - 1] == 0: slots[x] = 0
-    if R.random() < .8: heal(); exact()
-    roots = [R.choice([0, 1, R.randint(1, n)]) for _ in range(r)]
-    roots = [0 if 1 <= q <= n and recs[q - 1] == 0 and good else q for q in roots]
-    c = [n, r, R.randint(0, n), R.choice([0, 8, 9, 17, 4095]), R.randint(0, 1), R.randint(0, n)]
-    if R.random() < .08: c[R.randrange(6)] = R.choice([0, 7, 65, 4096])
-    if c[0] > 100: c[0] = 4096
-    cut = R.random()
-    if cut < .04: recs = recs[:-1]
-    elif cut < .08: slots = slots[:-1]
-    recs.append(77); slots.append(78); roots.append(79)
-    if cut < .04: recs = recs[:-1]
-    elif cut < .08: slots = slots[:-1]
-    s = (c, recs, slots, roots)
-    last = random_call(n, r, s)
-    other = R.random()
-    if other < .2: last = random_save(s)
-    elif other < .5:
-        # often over a word that another slot holds too, used or not, and often of the word that the slot has
-        x = R.choice([y + 1 for y, q in enumerate(recs[:n]) if q >> 8 & 15] or [1])
-        k = R.randint(0, max(0, min(3, recs[x - 1] >> 8 & 15) - R.randint(0, 1)))
-        old = 8 * x - 8 + k
-        if R.random() < .5: slots[8 * x - 8 + R.randint(0, 3)] = slots[old]
-        last = ('write', [x, k, R.choice([0, R.randint(1, n), word(n), slots[old]])])
-    t, _ = call(last[0], s, last[1])
-    st = '(stateOf ' + ' '.join(par(x) for x in s) + ')'
-    emit(i, [], last, st, t)
-for i in range(made + hostile, made + hostile + images):
-    a = random_load()
-    emit(i, [], ('load', a), '(stateOf [] [] [] [])', call('load', None, a)[0])
+        w = R.randint(0, 3)
+        recs.append(0 if R.random() < free else 1 + 2 * (R.random() < written) + 256 * w + (4 if x in types else 65536 * R.choice(clusters)))
+        words = [R.choice([0, 0x80000001, heads[0], x % n + 1] + [R.randint(1, n)] * 4 + types) for _ in range(w)]
+        slots += (words if recs[-1] else []) + [0] * (8 - (w if recs[-1] else 0))
+    for h in heads: recs[h - 1] = 65536 * h + (recs[h - 1] & 0xF03 or 1)
+    return recs, [0 if 1 <= w <= n and recs[w - 1] == 0 else w for w in slots], heads
+def world(n):
+    """The same, of a cluster that leads to sinks, and they to four objects in a row, where an analysis often gets by the set alone."""
+    order = R.sample(range(1, n + 1), n)
+    members, types, row = order[:n - 6], order[n - 6:n - R.choice([4, 4, 5])], order[n - 4:]
+    recs, slots = [1] * n, [0] * (8 * n)
+    for x in order:
+        if x in members: words = [types[members.index(x) % len(types)], R.choice([0, *members, *types, *row[:2]])]
+        elif x in row[:-1]: words = [row[row.index(x) + 1], R.choice([0, x, *types])]
+        else: words = [R.choice(row[:1] * 3 + row)]
+        recs[x - 1] += 256 * len(words) + (65536 * members[0] if x in members else 4 if x in types else 0)
+        slots[8 * x - 8: 8 * x - 8 + len(words)] = words
+    return recs, slots, members[:1]
+def random_heap(n, r, objects, damage):
+    """Buffers that no call made, most of them a well-formed heap, as (control record, records, slots, roots, sinks, sets)."""
+    recs, slots, heads = objects
+    faults = ['head', 'word', 'out', 'root', 'place after sets'] + ['record', 'widths', 'set'] * 2 + ['place'] * 4
+    faults = R.sample(faults, R.choice([1, 1, 2])) if R.random() < damage else []
+    def used(x): return slots[8 * x - 8: 8 * x - 8 + min(8, recs[x - 1] >> 8 & 15)]
+    def leaves(q, y): return 1 <= y <= n and not recs[y - 1] & 4 and field(recs[y - 1]) != field(q)
+    for x in range(n):
+        if field(recs[x]) and any(leaves(recs[x], y) for y in used(x + 1)): recs[x] |= 8
+    if 'record' in faults: recs[R.randrange(n)] ^= 1 << R.randint(0, 31)
+    if 'widths' in faults: recs = [q | 0x800 if field(q) and R.random() < .5 else q for q in recs]
+    if 'head' in faults: recs[heads[0] - 1] = R.choice([0, recs[heads[0] - 1] & 0xFFFF])
+    if 'word' in faults: slots[R.randrange(8 * n)] = R.choice([1, n + 1, 5000, 0xFFFFFFFF])
+    if 'out' in faults: recs[R.randrange(n)] ^= 8
+    # the sinks in any places, and the sets by the list as it is
+    types = [x for x in range(1, n + 1) if recs[x - 1] & 4]
+    sinks = [0] * 64
+    places = R.sample(range(R.choice([len(types), 9, 64])), len(types))
+    for k, x in zip(places, types): sinks[k] = x
+    def wrong_place(): sinks[R.choice([R.randint(0, 8), *places[:1]])] = R.choice([0, R.choice([n + 1, 0xFFFFFFFF]), R.randint(1, n), *types[:1]])
+    if 'place' in faults: wrong_place()
+    sets = [sum(1 << k for k, y in enumerate(sinks) if 1 <= y <= n and any(field(recs[x - 1]) == h and y in used(x) for x in range(1, n + 1)))
+            for h in range(1, n + 1)]
+    if 'place after sets' in faults: wrong_place()
+    if 'set' in faults: sets[R.choice(heads + [R.randint(1, n)]) - 1] ^= 1 << R.choice(places + [R.randint(0, 4), R.randint(0, 63)])
+    roots = [R.choice([0, *heads, *types, R.randint(1, n)]) for _ in range(r)]
+    if R.random() < .5: roots[0] = heads[0]
+    roots = [y if y and recs[y - 1] else 0 for y in roots]
+    if 'root' in faults: roots[R.randrange(r)] = R.choice([n + 1, 0x80000000, R.randint(1, n)])
+    c = [n, r, R.randint(0, n), R.choice([0, 8, 9, 17, 4095]), R.choice([0, 1, n]), R.randint(0, n)]
+    if R.random() < .04: c[R.randrange(6)] = R.choice([0, 7, 65, 4096])
+    # each slice with a word more than it needs, or one fewer
+    return c, *[l[:-1] if R.random() < .015 else l + [77 + j] for j, l in enumerate((recs, slots, roots, sinks, sets))]
+def random_write(n, s):
+    """Often into a cluster, of a listed number, of the word that the slot has, or over one that another slot holds too, used or not."""
+    c, recs, slots, roots, sinks, sets = s
+    x = R.choice([y + 1 for y, q in enumerate(recs[:n]) if 1 <= q >> 8 & 15 <= 8 for _ in range(5 if field(q) else 1)] or [1])
+    w = min(8, recs[x - 1] >> 8 & 15)
+    k = R.randrange(w) if w and R.random() < .9 else w
+    old = (slots[8 * x - 8: 8 * x] + [0, 0])[k]
+    if R.random() < .3: slots[8 * x - 8 + R.randint(0, 3)] = old
+    return either('write'), [x, k, R.choice([0, R.randint(1, n), word(n), old] + 2 * [y for y in sinks[:64] if y])]
+def full_list(count):
+    """65 objects without words, 63 or 64 of them sinks: declarations of a new sink and of one that is listed, and a save."""
+    order = R.sample(range(1, 66), 65)
+    types = order[:count]
+    sinks = types + [0] * (64 - count)
+    R.shuffle(sinks)
+    s = [65, 1, 0, 0, 0, 0], [5 if x in types else 1 for x in range(1, 66)], [0] * 520, order[:1], sinks, [0] * 65
+    for op, a in ('declareSink', order[-1:]), ('declareSink', order[:1]), random_save(s): emit_single(op, a, s)
+def full_image(count):
+    """An image of 65 objects without words, 64 or all of them sinks, with their chunk and without."""
+    types = R.sample(range(1, 66), count)
+    chunks = three(65, 1, 0, sum([le(x, 2) + [0, int(x in types)] for x in range(1, 66)], []), le(1, 4))
+    for image in chunks, chunks + [chunk(0x8001, twos(types))]: emit_load([sum(image, []), *[[7] * k for k in (65, 520, 1, 64, 65)]])
+for _ in range(made): made_list()
+for _ in range(hostile):
+    op = R.choice(['any'] * 4 + ['write'] * 5 + ['collect'] * 3 + ['analyse'] * 3 + ['declareSink', 'save'])
+    n, r = R.choice([3, 4, 5, 6, 7, 7, 8, 8, 8]), R.randint(1, 3)
+    objects = world(n) if n > 6 and op != 'write' and R.random() < .7 else any_objects(n)
+    s = random_heap(n, r, objects, .8 if op == 'write' else .35)
+    if op == 'any': op, a = random_call(n, r, s)
+    elif op == 'write': op, a = random_write(n, s)
+    elif op == 'collect': op, a = random_collect(n)
+    elif op == 'analyse': a = [work(n)]
+    elif op == 'declareSink': a = [R.randint(1, n)]
+    else: op, a = random_save(s)
+    emit_single(op, a, s)
+for _ in range(images): emit_load(random_load())
+if hostile: full_list(63); full_list(64)
+if images: full_image(64); full_image(65)
 
 open(f'{build}/crates/sample/specs/Sample.antt', 'w', encoding='utf8').write('\n'.join(out))
 for k in sorted(stats):
     print(k[0], k[1], stats[k])
+for path, k in zip(paths, taken):
+    print(f'{path}: {k}')
 run = subprocess.run(['rt', 'dev', 'sample'], cwd=build, capture_output=True, text=True)
 good = run.returncode == 0
-print(f'{made + hostile + images} passed, 0 failed' if good else run.stdout[-3000:] + run.stderr[-3000:])
+print(f'{len(out) - 1} passed, 0 failed' if good else run.stdout[-3000:] + run.stderr[-3000:])
 sys.exit(0 if good else 1)

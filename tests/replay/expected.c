@@ -16,7 +16,7 @@
 #include <string.h>
 
 enum { MOST_OBJECTS = 4095, MOST_ROOTS = 64, MOST_WORDS = 8, MAP = MOST_OBJECTS / 64 + 1, LONGEST_LINE = 4096 };
-enum { LONGEST_IMAGE = 26 + MOST_OBJECTS * (4 + 4 * MOST_WORDS) + 4 * MOST_ROOTS };
+enum { MOST_SINKS = 64, LONGEST_IMAGE = 32 + MOST_OBJECTS * (4 + 4 * MOST_WORDS) + 4 * MOST_ROOTS + 2 * MOST_SINKS };
 
 static _Noreturn void fail(const char *path, unsigned long line, const char *why)
 {
@@ -147,7 +147,8 @@ typedef struct {
     bool plain;  /* run by the plain heap; if not, `heap` is made from the buffers when it is looked at */
     plain_heap heap;
     pakzid_control control;
-    uint32_t records[MOST_OBJECTS], slots[MOST_WORDS * MOST_OBJECTS], roots[MOST_ROOTS], work[10 * MOST_OBJECTS + 64];
+    uint32_t records[MOST_OBJECTS], slots[MOST_WORDS * MOST_OBJECTS], roots[MOST_ROOTS], sinks[MOST_SINKS], work[10 * MOST_OBJECTS + 64];
+    uint64_t sets[MOST_OBJECTS];
     uint8_t image[LONGEST_IMAGE];
     size_t saved;                 /* the length of the last image; 0 before any save */
     plain_heap copy;              /* what a plain column saved last */
@@ -222,7 +223,8 @@ static void run_plain(column *c, const call *made, answer *a)
 /* A load of the last image. Refused, it gives a control record of zeros, and the column goes on with its own. */
 static void run_load(column *c, answer *a)
 {
-    pakzid_done done = ref_load(c->image, c->saved, c->records, MOST_OBJECTS, c->slots, MOST_WORDS * MOST_OBJECTS, c->roots, MOST_ROOTS);
+    pakzid_done done = ref_load(c->image, c->saved, c->records, MOST_OBJECTS, c->slots, MOST_WORDS * MOST_OBJECTS, c->roots, MOST_ROOTS,
+                                c->sinks, MOST_SINKS, c->sets, MOST_OBJECTS);
 
     a->refusal = done.refusal;
     if (done.refusal != 0)
@@ -240,12 +242,13 @@ static void run_reference(column *c, const call *made, answer *a)
 #define RECORDS c->records, MOST_OBJECTS
 #define SLOTS c->slots, MOST_WORDS *MOST_OBJECTS
 #define ROOTS c->roots, MOST_ROOTS
-#define WALK RECORDS, SLOTS, ROOTS, c->work, 10 * MOST_OBJECTS + 64
+#define SINKS c->sinks, MOST_SINKS, c->sets, MOST_OBJECTS
+#define WALK RECORDS, SLOTS, ROOTS, SINKS, c->work, 10 * MOST_OBJECTS + 64
 #define RUN(type, function, ...) type done = function(__VA_ARGS__); c->control = done.control; a->refusal = done.refusal
 #define COLLECT(function) RUN(pakzid_collected, function, c->control, WALK, a->map, MAP); \
     a->freed = done.freed; a->kept = done.kept; a->scanned = done.scanned
     switch (made->kind) {
-    case CREATE: { RUN(pakzid_done, ref_create, x[0], x[1], RECORDS, SLOTS, ROOTS); break; }
+    case CREATE: { RUN(pakzid_done, ref_create, x[0], x[1], RECORDS, SLOTS, ROOTS, SINKS); break; }
     case ALLOCATE: { RUN(pakzid_allocated, ref_allocate, c->control, x[0], RECORDS, SLOTS); a->object = done.object; break; }
     case READ: { RUN(pakzid_word, ref_read, c->control, x[0], x[1], RECORDS, SLOTS); a->word = done.word; break; }
     case SHOW: {
@@ -254,12 +257,12 @@ static void run_reference(column *c, const call *made, answer *a)
         memcpy(a->words, c->slots + done.start, done.length * sizeof *a->words);
         break;
     }
-    case WRITE: { RUN(pakzid_done, ref_write, c->control, x[0], x[1], x[2], RECORDS, SLOTS); break; }
+    case WRITE: { RUN(pakzid_done, ref_write, c->control, x[0], x[1], x[2], RECORDS, SLOTS, SINKS); break; }
     case ROOT: { RUN(pakzid_done, ref_set_root, c->control, x[0], x[1], RECORDS, ROOTS); break; }
-    case SINK: { RUN(pakzid_done, ref_declare_sink, c->control, x[0], RECORDS, SLOTS, ROOTS); break; }
+    case SINK: { RUN(pakzid_done, ref_declare_sink, c->control, x[0], RECORDS, SLOTS, ROOTS, SINKS); break; }
     case ANALYSE: { RUN(pakzid_analysed, ref_analyse, c->control, WALK); a->clusters = done.clusters; a->members = done.members; break; }
     case SAVE: {
-        RUN(pakzid_saved, ref_save, c->control, RECORDS, SLOTS, ROOTS, c->image, LONGEST_IMAGE);
+        RUN(pakzid_saved, ref_save, c->control, RECORDS, SLOTS, ROOTS, SINKS, c->image, LONGEST_IMAGE);
         a->bytes = done.length;
         c->saved = done.refusal == 0 ? done.length : c->saved;
         break;
@@ -354,6 +357,7 @@ static const char *const meanings[] = {
     [1] = "sizes out of range", [3] = "width above 8", [4] = "no such object", [5] = "no such slot", [6] = "illegal word",
     [7] = "no such root", [20] = "control record out of order", [22] = "the object is free",
     [23] = "the word names a free object", [24] = "no object is free", [26] = "the image is cut",
+    [29] = "64 sinks are listed",
 };
 
 static void put_collected(text *t, const answer *a)

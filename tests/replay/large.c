@@ -31,8 +31,10 @@ int main(void)
             printf("root %u %u\n", below(roots), below(objects + 1));
         else if (kind < 900)
             printf("read %u %u\n", 1 + below(objects), below(8));
-        else if (kind < 990)
+        else if (kind < 985)
             printf("show %u\n", 1 + below(objects));
+        else if (kind < 990)
+            printf("sink %u\n", 1 + below(objects));
         else if (kind < 995)
             printf("analyse\n");
         else

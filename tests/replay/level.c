@@ -81,7 +81,7 @@ static void make_room(int room)
     }
 }
 
-/* The textures are a sink, which no door has to keep alive. Slots 0 to 2 of the player are the bags, slot 3 is a spark. */
+/* The textures are a sink: every door points to them, and they are in no cluster. Slots 0 to 2 of the player are the bags, slot 3 is a spark. */
 static void make_level(void)
 {
     printf("# the textures and the player\n");

@@ -126,6 +126,21 @@ static void add_linked(void)
         add_root(heap.last);
 }
 
+static void add_sink(uint32_t object)
+{
+    add("sink", 1, object, 0, 0);
+    plain_declare_sink(&heap, object);
+}
+
+/* More new sinks than a heap may have. */
+static void add_many_sinks(void)
+{
+    for (int i = 0; i < 66; i++) {
+        add_linked();
+        add_sink(heap.last);
+    }
+}
+
 /* The next call or two. `busy` and `analyses` are how often, out of 100, it writes, and else analyses. */
 static void add_step(uint32_t busy, uint32_t analyses)
 {
@@ -143,9 +158,10 @@ static void add_step(uint32_t busy, uint32_t analyses)
         add("read", 2, object, below(4), 0);
     } else if (chance(8)) {
         add_root(some_word());
-    } else if (chance(4)) {
-        add("sink", 1, object, 0, 0);
-        plain_declare_sink(&heap, object);
+    } else if (chance(10)) {
+        add_sink(object);
+    } else if (chance(1)) {
+        add_many_sinks();
     } else if (chance(10)) {
         add_save();
     } else {

@@ -56,10 +56,12 @@ same "save.calls" examples/save.calls
 same "100,000 calls" "$out/large.calls"
 [ "$(tail -n 1 "$out/expected.txt")" = "The columns agree." ] || die "100,000 calls"
 
-# The largest heap, filled, with the longest image: the left list frees all objects and is given them again; on the right each one is named until the end.
+# The largest heap, filled, with 64 sinks and one refused, and the longest image: the left list frees all objects and is given them again; on the right each one is
+# named until the end.
 {
     printf 'create 4095 64\n'
     printf 'allocate 8%.0s\n' {1..4096}
+    printf 'sink %d\n' {1..65}
     printf 'save\nload\n'
     printf 'read %d 0\n' {1..4094}
     printf 'root 63 nil\ncollect clusters\n'
@@ -68,6 +70,7 @@ same "100,000 calls" "$out/large.calls"
 {
     printf 'create 4095 64\n'
     printf 'allocate 8%.0s\n' {1..4096}
+    printf 'sink %d\n' {1..65}
     printf 'save\nload\n'
     for ((i = 1; i < 4095; i++)); do printf 'write %d 7 %d\n' "$i" $((i + 1)); done
     printf 'root 63 1\ncollect plain\n'
@@ -75,7 +78,8 @@ same "100,000 calls" "$out/large.calls"
 } >"$out/full-right.calls"
 same "4,095 objects" "$out/full-left.calls"
 same "4,095 objects, right" "$out/full-right.calls"
-grep -q 'save *| bytes 147702 *| bytes 147702$' "$out/expected.txt" || die "the longest image"
+grep -q 'save *| bytes 147836 *| bytes 147836$' "$out/expected.txt" || die "the longest image"
+[ "$(grep -c 'sink 65 *| refused 29: 64 sinks are *| refused 29: 64 sinks are$' "$out/expected.txt")" = 1 ] || die "64 sinks"
 same "4,095 objects, both" "$out/full-left.calls" "$out/full-right.calls"
 [ "$(grep -c 'given again' "$out/expected.txt")" = 4095 ] || die "4,095 objects do not all change hands"
 
@@ -91,7 +95,8 @@ printf 'create 2 1\nallocate 1\nwrite 1 0 1\nsave\nload\nread 1 0\n' >"$out/righ
 same "save" "$out/left.calls" "$out/right.calls"
 [ "$(tail -n 1 "$out/expected.txt")" = "The columns differ first at line 6 (build that wrote) and line 6 (build that loaded)." ] || die "save"
 
-# Random lists. Each ending that a report may have, objects that changed hands, saves, and loads before and after them must occur.
+# Random lists. Each ending that a report may have, objects that changed hands, saves, loads before and after them, and a
+# sink too many must occur.
 fresh=$(od -An -N4 -tu4 /dev/urandom | tr -d ' ')
 printf 'replay: random lists, seeds 1 to %d and from %d on\n' $((count / 2)) "$fresh"
 : >"$out/ends.txt"
@@ -104,11 +109,11 @@ for ((i = 1; i <= count; i++)); do
     alone=$((alone + 1))
     same "seed $seed, $change" "$out/left.calls" "$out/right.calls"
     pairs=$((pairs + 1))
-    grep -E '^The columns|given again|, (save|load) ' "$out/expected.txt" >>"$out/ends.txt"
+    grep -E '^The columns|given again|, (save|load) |refused 29' "$out/expected.txt" >>"$out/ends.txt"
 done
 [ "$alone" -gt 0 ] && [ "$pairs" -gt 0 ] || die "no random list was compared"
 for end in 'agree\.' 'differ first at' 'differ in what survives' 'wrote has more calls' 'loaded has more calls' 'while slot' 'while root' \
-    ', save  *| bytes' ', load  *| objects' ', load  *| refused 26'; do
+    ', save  *| bytes' ', load  *| objects' ', load  *| refused 26' 'refused 29: 64 sinks are'; do
     grep -q -- "$end" "$out/ends.txt" || die "no report on random lists has: $end"
 done
 printf 'replay: %d random lists and %d random pairs compared, %d objects changed hands\n' \

@@ -109,7 +109,7 @@ module _ (n : ℕ) (recs slots work₀ : List ℕ) (J : Judgeable n recs slots w
     word-high v false h = lt-leb 4096 (v + 0) (omega arith)
 
     module _ (work₃ : List ℕ) (D : Filling n n (leftWord n recs slots work₂) work₂ work₃ n) where
-      pub settle-may : (n ≤ length recs) × (10 * n ≤ length work₃) × (n ≤ 4095) × ((x : ℕ) → sizeIn (area n (8 * n) work₃) x ≤ 4095)
+      pub settle-may : (n ≤ length recs) × (10 * n < length work₃) × (n ≤ 4095) × ((x : ℕ) → sizeIn (area n (8 * n) work₃) x ≤ 4095)
       settle-may =
           let K = judging-now n recs slots work₂ work₃ (leftWord n recs slots work₂) n D decide-may in
           (J .sized .room .recs-long, omega (arith, K .sized .work-long), J .sized .room .most, K .small)

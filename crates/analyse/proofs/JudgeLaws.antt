@@ -146,14 +146,14 @@ tally-end n recs slots work₀ work₁ work f t = record {
   long = t .long ∙ f .long;
 }
 
-count-read : (n : ℕ) (work : List ℕ) (c : ℕ) → c ≢ 0 → c ≤ n → getD work (c - 1) 0 ≡ area n 0 work c
+count-read : (n : ℕ) (work : List ℕ) (c : ℕ) → c ≢ 0 → c ≤ n → getD work c 0 ≡ area n 0 work c
 count-read n work c p q =
-    let e : c - 1 ≡ 0 + c - 1 = omega arith in
+    let e : c ≡ 0 + c = omega arith in
     ap (λ (i : ℕ). getD work i 0) e ∙ area-read n 0 work c (omega (arith, p)) q
 
-count-put : (work : List ℕ) (c v : ℕ) → set work (c - 1) v ≡ set work (0 + c - 1) v
+count-put : (work : List ℕ) (c v : ℕ) → set work c v ≡ set work (0 + c) v
 count-put work c v =
-    let e : c - 1 ≡ 0 + c - 1 = omega arith in
+    let e : c ≡ 0 + c = omega arith in
     ap (λ (i : ℕ). set work i v) e
 
 module _ (n : ℕ) (recs slots work₀ work : List ℕ) (x : ℕ) (low : 1 ≤ x) (T : Tallying n recs slots work₀ work (x - 1)) (w : ℕ)
@@ -187,11 +187,11 @@ module _ (n : ℕ) (recs slots work₀ work : List ℕ) (x : ℕ) (low : 1 ≤ x
   }
 
   module _ (nz : c ≢ 0) (fits : c ≤ n) (m p : ℕ) (ms : m ≡ outsAt n recs slots work x c) (few : m ≤ 8) (ps : p ≡ area n 0 work c)
-      (room : n ≤ length work) where
+      (room : n < length work) where
     abbrev work′ : List ℕ
-    work′ = set work (c - 1) (p + m)
+    work′ = set work c (p + m)
 
-    put : work′ ≡ set work (0 + c - 1) (p + m)
+    put : work′ ≡ set work (0 + c) (p + m)
     put = count-put work c (p + m)
 
     counted : (d : ℕ) → area n 0 work′ d ≡ upd (area n 0 work) c (p + m) d
@@ -205,8 +205,8 @@ module _ (n : ℕ) (recs slots work₀ work : List ℕ) (x : ℕ) (low : 1 ≤ x
     tally-add = record {
       entry = λ d a b. counted d ∙ go d a b (ℕ-discrete d c);
       most = λ d. rw (counted d) (top d (ℕ-discrete d c));
-      others = λ b l. ap (area n b) put ∙ area-below n b work (0 + c - 1) (p + m) (omega (arith, nz)) ∙ T .others b l;
-      long = ap length put ∙ length-set work (0 + c - 1) (p + m) ∙ T .long;
+      others = λ b l. ap (area n b) put ∙ area-below n b work (0 + c) (p + m) (omega (arith, nz)) ∙ T .others b l;
+      long = ap length put ∙ length-set work (0 + c) (p + m) ∙ T .long;
     }
       where
         go : (d : ℕ) → 1 ≤ d → d ≤ n → Dec (d ≡ c) → upd (area n 0 work) c (p + m) d ≡ tot x d
@@ -237,7 +237,7 @@ module _ (n : ℕ) (recs slots work₀ work : List ℕ) (k : ℕ) (S : Counting 
   judge-now = judgeable-now n recs slots work₀ work (S .counted .long) (S .counted .others (8 * n) (omega arith)) (S .counted .others (9 * n) (omega arith)) (S .start)
 
   abbrev own : ℕ
-  own = getD work (9 * n + (k + 1) - 1) 0
+  own = getD work (9 * n + (k + 1)) 0
 
   own-read : own ≡ area n (9 * n) work (k + 1)
   own-read = area-read n (9 * n) work (k + 1) (omega arith) (omega arith)
@@ -248,7 +248,7 @@ module _ (n : ℕ) (recs slots work₀ work : List ℕ) (k : ℕ) (S : Counting 
   before : Tallying n recs slots work₀ work (k + 1 - 1)
   before = let e : k + 1 - 1 ≡ k = omega arith in rw e (S .counted)
 
-  pub own-there : 9 * n + (k + 1) - 1 < length work
+  pub own-there : 9 * n + (k + 1) < length work
   own-there = omega (arith, judge-now .sized .work-long)
 
   pub count-asks : Sized n recs slots work × (1 ≤ k + 1) × (k + 1 ≤ n)
@@ -258,17 +258,17 @@ module _ (n : ℕ) (recs slots work₀ work : List ℕ) (k : ℕ) (S : Counting 
   count-skip z = record { start = S .start; counted = tally-skip n recs slots work₀ work (k + 1) (omega arith) before own own-read z; most = omega arith }
 
   module _ (nz : own % 4096 ≢ 0) where
-    pub count-there : own % 4096 - 1 < length work
+    pub count-there : own % 4096 < length work
     count-there = omega (arith, own-fits, judge-now .sized .work-long, nz)
 
-    pub count-fits : (m : ℕ) → m ≤ 8 → getD work (own % 4096 - 1) 0 + m < 2 ^ 32
+    pub count-fits : (m : ℕ) → m ≤ 8 → getD work (own % 4096) 0 + m < 2 ^ 32
     count-fits m few = let a = before .most (own % 4096) in omega (arith, few, count-read n work (own % 4096) nz own-fits, judge-now .sized .room .most)
 
     pub count-turn : (m : ℕ) → m ≡ outsAt n recs slots work (k + 1) (own % 4096) → m ≤ 8
-        → Counting n recs slots work₀ (set work (own % 4096 - 1) (getD work (own % 4096 - 1) 0 + m)) (k + 1)
+        → Counting n recs slots work₀ (set work (own % 4096) (getD work (own % 4096) 0 + m)) (k + 1)
     count-turn m ms few = record {
       start = S .start;
-      counted = tally-add n recs slots work₀ work (k + 1) (omega arith) before own own-read nz own-fits m (getD work (own % 4096 - 1) 0) ms few
+      counted = tally-add n recs slots work₀ work (k + 1) (omega arith) before own own-read nz own-fits m (getD work (own % 4096) 0) ms few
           (count-read n work (own % 4096) nz own-fits) (omega (arith, judge-now .sized .work-long));
       most = omega arith;
     }

@@ -3,6 +3,7 @@
 pub mod MemoryLaws
 pub mod FillLaws
 pub mod PartLaws
+pub mod MarkLaws
 -- ---- one visit
 pub mod PushLaws
 pub mod SlotLaws
@@ -17,6 +18,7 @@ pub mod JudgeLaws
 pub mod AnswerLaws
 pub mod BridgeLaws
 pub mod SettleLaws
+pub mod EndLaws
 -- ---- the call
 pub mod LimitLaws
 pub mod CallLaws

@@ -50,7 +50,7 @@ module _ (n : ℕ) (recs slots work : List ℕ) (z : Sized n recs slots work) (x
   pub member-room : b ≡ true → length (outKids H x) ≤ top → length (H .kids x) ≤ top
   member-room t h = let a = ap length (member-kids t) in omega arith
 
-  module _ (work₁ : List ℕ) (put : work₁ ≡ set work (9 * n + x - 1) (d + 4096)) where
+  module _ (work₁ : List ℕ) (put : work₁ ≡ set work (9 * n + x) (d + 4096)) where
     stated : (t : ℕ) → memOf n work₁ t ≡ withState (upd (area n (9 * n) work) x (d + 4096)) (memOf n work t)
     stated t = ap (λ (l : List ℕ). memOf n l t) put ∙ put-state n work (z .work-long) x (d + 4096) t p q
 
@@ -234,11 +234,11 @@ module _ (n : ℕ) (recs slots : List ℕ) (d : ℕ) (work₀ : List ℕ) (top :
           pub older-less : x′ < x
           older-less = omega (arith, next-is, top-le (clusterOf n recs) d (x - 1), nz)
 
-    pub older-end : (work : List ℕ) (at x : ℕ) → At work at x → x ≡ 0 → top ≤ 8 * n
-        → (memOf n work at ≡ handled K d (memOf n work₀ top)) × (at ≤ 8 * n)
+    pub older-end : (work : List ℕ) (at x : ℕ) → At work at x → x ≡ 0
+        → (memOf n work at ≡ handled K d (memOf n work₀ top)) × (at + length (below n) ≡ top)
     unfolding handled inFront withState memOf outsBelow gather visitWords view
-    older-end work at x g e h =
-        (mem-path (rw e at (g .0 .todo)) (g .0 .link) (fun-ext (λ y. g .0 .state y ∙ ap (λ (b : Bool). cond b (d + 4096) (area n (9 * n) work₀ y)) (st y))), omega (arith, g .0 .inside))
+    older-end work at x g e =
+        (mem-path (rw e at (g .0 .todo)) (g .0 .link) (fun-ext (λ y. g .0 .state y ∙ ap (λ (b : Bool). cond b (d + 4096) (area n (9 * n) work₀ y)) (st y))), (rw e at (g .0 .spot)) ∙ omega arith)
       where
         st : (y : ℕ) → (eqb (clusterOf n recs y) d && ltb x y) ≡ eqb (clusterOf n recs y) d
         st y = go (eqb (clusterOf n recs y) d) refl

@@ -1,6 +1,6 @@
 -- An object of no cluster is placed: seen, counted, and what it points at comes next.
 -- Assumes nothing.
-use Prim.Native.Nat.{ℕ, _+_, _-_, _*_, _≤_}
+use Prim.Native.Nat.{ℕ, _+_, _*_, _≤_}
 use mathlib.Core.Path.{_≡_, ap, ap₂, _∙_}
 use mathlib.Core.List.{List}
 use native.Mathlib.Omega.{arith}
@@ -26,13 +26,13 @@ module _ (n limit : ℕ) (recs work : List ℕ) (o c : ℕ) (q : o ≤ n) (r : �
 
   pub place-done : (slots : List ℕ) → Sized n recs slots work → 1 ≤ o → (top : ℕ) (work₁ work₂ work₃ : List ℕ) (t : ℕ) → length work₁ ≡ length work
       → ((t : ℕ) → memOf n work₁ t ≡ withLink (counting e (area n (8 * n) work)) (memOf n work t))
-      → work₂ ≡ set work₁ (9 * n + o - 1) (e + 4096)
+      → work₂ ≡ set work₁ (9 * n + o) (e + 4096)
       → memOf n work₃ t ≡ inFront (visitWords e (view n recs slots .kids o)) (memOf n work₂ top)
-      → t + length (view n recs slots .kids o) ≡ top → top ≤ 8 * n
-      → (memOf n work₃ t ≡ placed (view n recs slots) (goesTo limit (recOf n recs o) (area n (8 * n) work) o c) o (memOf n work top)) × (t ≤ 8 * n)
+      → t + length (view n recs slots .kids o) ≡ top
+      → (memOf n work₃ t ≡ placed (view n recs slots) (goesTo limit (recOf n recs o) (area n (8 * n) work) o c) o (memOf n work top)) × (t + length (view n recs slots .kids o) ≡ top)
   unfolding placed memOf withLink
-  place-done slots z p top work₁ work₂ work₃ t l a b m s h =
-      (m ∙ ap (inFront (visitWords e (view n recs slots .kids o))) (two ∙ one) ∙ ap last (is ∙ ap (λ (v : ℕ). goesTo limit v (area n (8 * n) work) o c) own), omega arith)
+  place-done slots z p top work₁ work₂ work₃ t l a b m s =
+      (m ∙ ap (inFront (visitWords e (view n recs slots .kids o))) (two ∙ one) ∙ ap last (is ∙ ap (λ (v : ℕ). goesTo limit v (area n (8 * n) work) o c) own), s)
     where
       two : memOf n work₂ top ≡ withState (upd (area n (9 * n) work₁) o (e + 4096)) (memOf n work₁ top)
       two = ap (λ (i : List ℕ). memOf n i top) b ∙ put-state n work₁ (omega (arith, l, z .work-long)) o (e + 4096) top p q

@@ -14,7 +14,7 @@ use Rattle.choices.specs.Choices.{joined, goesBy}
 use Rattle.records.specs.Record.{width}
 use Rattle.rules.specs.Buffers.{recOf}
 use Rattle.table.specs.Room.{Sized}
-use Rattle.analyse.specs.Memory.{Memory, area, memOf, visitWords, inFront}
+use Rattle.analyse.specs.Memory.{stackEnd, Memory, area, memOf, visitWords, inFront}
 use Rattle.analyse.specs.Contracts.{goesTo}
 use Rattle.analyse.proofs.FillLaws.{area-zero}
 use Rattle.analyse.proofs.MemoryLaws.{front-front, front-none, push-mem}
@@ -70,13 +70,13 @@ module _ (n c : ℕ) (recs slots work₀ : List ℕ) (z : Sized n recs slots wor
     pub spot-left : 1 ≤ at
     spot-left = omega (arith, g .spot, words-room)
 
-    pub spot-there : top ≤ 8 * n → at - 1 < length work
+    pub spot-there : top ≤ stackEnd n → at - 1 < length work
     spot-there h = omega (arith, g .spot, g .long, z .work-long, spot-left)
 
     pub slot-there : 8 * (x - 1) + k - (j + 1) < length slots
     slot-there = omega (arith, slots-there)
 
-  pub pushing-turn : (work : List ℕ) (j at t : ℕ) → top ≤ 8 * n → Pushing n c s k work₀ top work j at → j < k
+  pub pushing-turn : (work : List ℕ) (j at t : ℕ) → top ≤ stackEnd n → Pushing n c s k work₀ top work j at → j < k
       → t ≡ target n (getD slots (8 * (x - 1) + k - (j + 1)) 0) → Pushing n c s k work₀ top (set work (at - 1) (t + 4096 * c)) (j + 1) (at - 1)
   unfolding visitWords
   pushing-turn work j at t h g p e = record {

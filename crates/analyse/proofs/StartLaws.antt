@@ -12,27 +12,26 @@ use lib.ListN.{length, getD, take}
 use lib.Seq.{take-suc}
 use borrow.Author.Tests.{lt-leb}
 use Rattle.layout.specs.Limits.{within}
-use Rattle.records.specs.Record.{cluster, isSink}
+use Rattle.records.specs.Record.{cluster}
 use Rattle.layout.proofs.FieldLaws.{field-lt}
-use Rattle.graph.specs.Numbers.{gather}
-use Rattle.graph.specs.Heap.{Heap, starts}
+use Rattle.graph.specs.Heap.{Heap}
 use Rattle.graph.specs.Clusters.{size}
 use Rattle.graph.specs.Analysis.{Item, Work, items, begin, finish}
-use Rattle.graph.proofs.NumberLaws.{in-left}
-use Rattle.graph.specs.Invariant.{Ready, Inv, Sizes}
-use Rattle.graph.proofs.AnalysisEnds.{begin-inv, begin-append, after, finish-done, needed-le}
+use Rattle.graph.specs.Invariant.{Ready, Inv, Sizes, unseenSlots}
+use Rattle.graph.proofs.AnalysisEnds.{begin-inv, begin-append, after, finish-done, unseen-le}
 use Rattle.graph.proofs.SizeTable.{sizes-begin}
 use Rattle.rules.specs.Buffers.{recOf}
-use Rattle.rules.specs.View.{view, startsIn}
+use Rattle.rules.specs.View.{view, heapIn}
 use Rattle.rules.proofs.ViewLaws.{view-ready, view-kids}
 use Rattle.links.specs.Links.{topMember, nextMember, linkWord}
 use Rattle.table.specs.Clusters.{clusterOf}
 use Rattle.links.proofs.MemberOrder.{top-le, top-in, next-is}
-use Rattle.analyse.specs.Memory.{area, memOf, seenIn, clusterIn, sizeIn, walkOf}
+use Rattle.analyse.specs.Memory.{stackEnd, area, memOf, seenIn, clusterIn, sizeIn, walkOf}
 use Rattle.analyse.specs.Contracts.{Chained, Ground, visiting, Walking, Walked}
 use Rattle.table.specs.Room.{Sized}
 use Rattle.analyse.specs.Filling.{Filling}
-use Rattle.analyse.specs.Starts.{Formable, From, GoesOn, Fit, sinksBelow, sinkAt}
+use Rattle.analyse.specs.Starts.{Formable, From, GoesOn, Fit}
+use Rattle.analyse.proofs.MemoryLaws.{todo-end}
 use Rattle.analyse.proofs.SlotLaws.{resized}
 use Rattle.analyse.proofs.FillLaws.{area-zero, area-over}
 use Rattle.analyse.proofs.OlderLaws.{none-first, none-over, in-range}
@@ -44,14 +43,14 @@ cluster-lt r = field-lt 16 12 r
 
 -- ---- before the first visit
 
-module _ (n limit : ℕ) (recs slots work₀ work₁ work from : List ℕ) (F : Formable n limit recs slots work₀ from)
+module _ (n limit : ℕ) (recs slots list sets work₀ work₁ work from : List ℕ) (F : Formable n limit recs slots list sets work₀ from)
     (L : Filling n (8 * n) (linkWord n (clusterOf n recs)) work₀ work₁ n) (S : Filling n (9 * n) (clusterOf n recs) work₁ work n) where
   abbrev H : Heap
-  H = view n recs slots
+  H = heapIn n recs slots list
 
   ready : Ready H
   unfolding view
-  ready = view-ready n recs slots (F .heads)
+  ready = view-ready n recs slots list (F .listed) (F .heads)
 
   sized : Sized n recs slots work
   sized = resized (F .sized) (S .long ∙ L .long)
@@ -128,10 +127,11 @@ module _ (n limit : ℕ) (recs slots work₀ work₁ work from : List ℕ) (F : 
         next = λ x f. let r = in-range n recs x d p f in link-next x (r .0) (r .1) ∙ next-is n (clusterOf n recs) x d f (b .0) (b .1);
       }
 
-  ground : Ground n recs slots limit work
+  ground : Ground n recs slots list sets limit work
   unfolding view Sizes
   ground = record {
     sized = sized;
+    known = F .known;
     ready = ready;
     limits = F .limits;
     sizes = λ c p e. table c p e ∙ sizes-begin H ready c p e ∙ ap (λ (f : ℕ → ℕ). size n f c) (sym cl-is);
@@ -139,22 +139,20 @@ module _ (n limit : ℕ) (recs slots work₀ work₁ work from : List ℕ) (F : 
     chains = chains;
   }
 
-  begun : walkOf (memOf n work (8 * n)) ≡ begin H []
+  begun : walkOf H (memOf n work (stackEnd n)) ≡ begin H []
   unfolding walkOf memOf begin items view
-  begun = work-path (no-todo n work (sized .work-long)) seen-is cl-is
+  begun = work-path (no-todo H n work (sized .work-long)) seen-is cl-is
 
-  pub prepared : From n recs slots limit [] work
-  unfolding view begin items
+  pub prepared : From n recs slots list sets limit [] work
+  unfolding view begin items unseenSlots
   prepared = record {
     fit = none;
     walked = record {
       walking = record {
         ground = ground;
         inv = subst (λ (w : Work). Inv H limit w) (sym begun) (begin-inv H limit [] ready none);
-        room =
-            let a = needed-le H (walkOf (memOf n work (8 * n))) (λ x b. view-kids n recs slots x) in
-            let b = ap (λ (l : List Item). length l) (no-todo n work (sized .work-long)) in
-            omega arith;
+        marks = λ w m. absurd (List·Memᴰ·not-nil (subst (λ (l : List ℕ). List·Memᴰ w l) (todo-end n work (sized .work-long)) m));
+        room = let a = unseen-le H (seenIn (area n (9 * n) work)) (λ x b. view-kids n recs slots x) in omega arith;
         inside = omega arith;
       };
       ended = begun ∙ sym (finish-done H limit ready (F .limits .0) (begin H []) refl);
@@ -174,23 +172,23 @@ fit-more n a o p q k m = go (List·Memᴰ·append-cases a m)
     go (inr (List·Memᴰ·head e)) = rw e q
     go (inr (List·Memᴰ·tail x)) = absurd (List·Memᴰ·not-nil x)
 
-module _ (n : ℕ) (recs slots : List ℕ) (limit : ℕ) where
+module _ (n : ℕ) (recs slots list sets : List ℕ) (limit : ℕ) where
   abbrev K : Heap
-  K = view n recs slots
+  K = heapIn n recs slots list
 
   abbrev On : List ℕ → List ℕ → List ℕ → Type 0
-  On b work work′ = GoesOn n recs slots limit b work work′
+  On b work work′ = GoesOn n recs slots list sets limit b work work′
 
-  pub on-none : (work : List ℕ) → Walking n recs slots limit work (8 * n) → On [] work work
+  pub on-none : (work : List ℕ) → Walking n recs slots list sets limit work (stackEnd n) → On [] work work
   on-none work w = record { walking = w; after = λ a f. rw (append-nil a) f }
 
   pub on-both : (b c work work₁ work₂ : List ℕ) → On b work work₁ → On c work₁ work₂ → On (b ++ c) work work₂
   on-both b c work work₁ work₂ f g = record {
     walking = g .walking;
-    after = λ a h. subst (λ (l : List ℕ). From n recs slots limit l work₂) (append-assoc a b c) (g .after (a ++ b) (f .after a h));
+    after = λ a h. subst (λ (l : List ℕ). From n recs slots list sets limit l work₂) (append-assoc a b c) (g .after (a ++ b) (f .after a h));
   }
 
-  pub on-one : (o : ℕ) (work work′ : List ℕ) → o ≤ n → Walked n recs slots limit (visiting o 0 (memOf n work (8 * n))) work′ → On (o ∷ []) work work′
+  pub on-one : (o : ℕ) (work work′ : List ℕ) → o ≤ n → Walked n recs slots list sets limit (visiting K o 0 (memOf n work (stackEnd n))) work′ → On (o ∷ []) work work′
   unfolding view after items
   on-one o work work′ h w = record {
     walking = w .walking;
@@ -203,9 +201,9 @@ module _ (n : ℕ) (recs slots : List ℕ) (limit : ℕ) where
     };
   }
     where
-      same : (a : List ℕ) → From n recs slots limit a work → visiting o 0 (memOf n work (8 * n)) ≡ after K limit (begin K a) (items 0 (o ∷ []))
+      same : (a : List ℕ) → From n recs slots list sets limit a work → visiting K o 0 (memOf n work (stackEnd n)) ≡ after K limit (begin K a) (items 0 (o ∷ []))
       same a f =
-          work-path (ap (λ (l : List Item). record { obj = o; passed = 0 } ∷ l) (no-todo n work (f .walked .walking .ground .sized .work-long)))
+          work-path (ap (λ (l : List Item). record { obj = o; passed = 0 } ∷ l) (no-todo K n work (f .walked .walking .ground .sized .work-long)))
           (ap (λ (v : Work). v .seen) (f .walked .ended)) (ap (λ (v : Work). v .cl) (f .walked .ended))
 
   -- ---- the roots, by index
@@ -215,45 +213,3 @@ module _ (n : ℕ) (recs slots : List ℕ) (limit : ℕ) where
   roots-more roots j work work₁ work₂ f g h =
       let e : j + 1 ≡ suc j = omega arith in
       rw (e, take-suc roots j 0 h) (on-both (take j roots) (getD roots j 0 ∷ []) work work₁ work₂ f g)
-
-  -- ---- the sinks, by number
-
-  pub sinks-none : (work : List ℕ) → Walking n recs slots limit work (8 * n) → On (sinksBelow n recs slots 0) work work
-  unfolding gather
-  sinks-none work w = on-none work w
-
-  pub sinks-more : (k : ℕ) (work work₁ work₂ : List ℕ) → On (sinksBelow n recs slots k) work work₁ → On (sinkAt n recs slots (k + 1)) work₁ work₂
-      → On (sinksBelow n recs slots (k + 1)) work work₂
-  unfolding gather
-  sinks-more k work work₁ work₂ f g =
-      let e : k + 1 ≡ suc k = omega arith in
-      rw e (on-both (sinksBelow n recs slots k) (sinkAt n recs slots (suc k)) work work₁ work₂ f (rw e at g))
-
-  module _ (x : ℕ) (b : Bool) (is : b ≡ isSink (recOf n recs x)) (work work′ : List ℕ) where
-    sink-is : b ≡ K .sink x
-    unfolding view
-    sink-is = is
-
-    pub sink-more : b ≡ true → On (x ∷ []) work work′ → On (sinkAt n recs slots x) work work′
-    sink-more t f = rw (← sink-is, t) f
-
-    pub sink-none : b ≡ false → On [] work work′ → On (sinkAt n recs slots x) work work′
-    sink-none t f = rw (← sink-is, t) f
-
-  -- ---- the roots, then the sinks
-
-  pub all-starts : (r : ℕ) (roots work work₁ work₂ : List ℕ) → On (take r roots) work work₁ → On (sinksBelow n recs slots n) work₁ work₂
-      → From n recs slots limit [] work → From n recs slots limit (startsIn n r recs slots roots) work₂
-  unfolding starts view
-  all-starts r roots work work₁ work₂ f g h = on-both (take r roots) (sinksBelow n recs slots n) work work₁ work₂ f g .after [] h
-
-pub roots-fit : (n r : ℕ) (recs slots roots : List ℕ) → Fit n (startsIn n r recs slots roots) → Fit n (take r roots)
-unfolding starts view
-roots-fit n r recs slots roots h k m = h k (in-left k (take r roots) (sinksBelow n recs slots n) m)
-
--- one of the first r roots
-pub root-in : (roots : List ℕ) (j r : ℕ) → j < length roots → j < r → List·Memᴰ (getD roots j 0) (take r roots)
-root-in [] j r h p = absurd (omega arith)
-root-in (x ∷ roots) j zero h p = absurd (omega arith)
-root-in (x ∷ roots) zero (suc r) h p = List·Memᴰ·head refl
-root-in (x ∷ roots) (suc j) (suc r) h p = List·Memᴰ·tail (root-in roots j r (omega arith) (omega arith))

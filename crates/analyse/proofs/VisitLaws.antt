@@ -1,36 +1,41 @@
 -- A visit of the code is a step of the walk.
 -- Assumes nothing.
-use Prim.Native.Nat.{ℕ, _+_, _*_, _/_, _%_, _≤_, _<_}
+use Prim.Native.Nat.{ℕ, _+_, _-_, _*_, _/_, _%_, _^_, _≤_, _<_}
 use mathlib.Core.Path.{_≡_, refl, sym, ap, ap₂, _∙_, fun-ext, subst}
 use mathlib.Core.Bool.{Bool, true, false, cond, not, _&&_, _||_}
-use mathlib.Core.List.{List, _∷_, _++_, map, map-append}
+use mathlib.Core.List.{List, _∷_, _++_, append-assoc, List·Memᴰ}
 use mathlib.Core.Logic.{_≢_}
 use native.Mathlib.Decide.{ℕ-discrete}
 use native.Mathlib.Omega.{arith}
 use lib.Dec.{eqb, leb}
-use lib.ListN.{length, length-append, length-map}
+use lib.ListN.{length, getD, drop}
+use lib.Seq.{length-take-le}
 use borrow.Author.Tests.{eqb-true, eq-eqb, ne-eqb, le-leb, lt-leb}
+use Rattle.layout.specs.Limits.{sinkMax}
 use Rattle.records.specs.Record.{isWritten, isSink}
 use Rattle.graph.specs.Numbers.{upd, gather}
 use Rattle.graph.specs.Heap.{Heap}
+use Rattle.graph.specs.Clusters.{inSet, sinksAt}
 use Rattle.graph.specs.Analysis.{Item, Work, items, bars, Visit, skip, older, pick, kind, visitsOfCluster, pushed, seenBy, clBy, act, step, needed, finish}
 use Rattle.graph.specs.Analysis as A
-use Rattle.graph.specs.Invariant.{Ready, Inv, Sizes}
+use Rattle.graph.specs.Invariant.{Ready, Inv, Sizes, unseenSlots}
 use Rattle.graph.proofs.NumberLaws.{upd-same, upd-other, gather-all}
 use Rattle.graph.proofs.OutLaws.{eqb-iff}
 use Rattle.graph.proofs.AnalysisInv.{Facts, facts, all-first, in-range, head-range, passed-range, size-none}
-use Rattle.graph.proofs.AnalysisEnds.{step-inv, finish-step, needed-act, length-items, older-same}
+use Rattle.graph.proofs.AnalysisEnds.{step-inv, finish-step, needed-act, slotsOf, slots-act, items-append, older-same}
 use Rattle.graph.proofs.SizeTable.{tableBy, sizes-act, kind-table}
 use Rattle.rules.specs.Buffers.{recOf}
-use Rattle.rules.specs.View.{view}
+use Rattle.rules.specs.View.{view, heapIn, setWord}
 use Rattle.rules.proofs.PlaceLaws.{upd-map}
+use Rattle.rules.proofs.BufferLaws.{recOf-get}
 use Rattle.rules.proofs.ViewLaws.{view-closed}
 use Rattle.table.specs.Clusters.{clusterOf}
 use Rattle.choices.specs.Choices.{joined, goesBy}
-use Rattle.analyse.specs.Memory.{area, Memory, memOf, itemOf, visitWords, seenIn, clusterIn, sizeIn, walkOf, inFront, withState, withLink, counting}
+use Rattle.analyse.specs.Memory.{stackEnd, area, Memory, memOf, visitWords, visitsOf, sinksFrom, Marks, markers, seenIn, clusterIn, sizeIn, walkOf, inFront, withState, withLink, counting}
 use Rattle.table.specs.Room.{Sized}
 use Rattle.analyse.specs.Contracts.{outsBelow, Chained, handledState, handled, goesTo, placed, Ground, visiting, Visiting, Visited}
-use Rattle.analyse.proofs.MemoryLaws.{todo-length, words-items, counting-some, counting-next, counting-other}
+use Rattle.analyse.proofs.MemoryLaws.{counting-some, counting-next, counting-other}
+use Rattle.analyse.proofs.MarkLaws.{wordFrom, set-word, words-visits, words-marks, marker-visits, marker-marks, markers-one}
 use Rattle.analyse.proofs.SlotLaws.{resized}
 use Rattle.analyse.proofs.PlaceLaws.{goes-fits}
 
@@ -72,17 +77,27 @@ module _ (H : Heap) (seen : ℕ → Bool) (cl : ℕ → ℕ) (o c : ℕ) (rest :
   act-joined false true z = refl
   act-joined false false z = refl
 
-pushed-joined : (H : Heap) (cl : ℕ → ℕ) (o c : ℕ) (b s : Bool) → length (pushed H cl o c (pick false false b s)) ≡ length (H .kids o)
-unfolding pushed pick
-pushed-joined H cl o c true s = length-items 0 (H .kids o)
-pushed-joined H cl o c false true = length-items c (H .kids o)
-pushed-joined H cl o c false false = length-items o (H .kids o)
+slots-joined : (H : Heap) (cl : ℕ → ℕ) (o : ℕ) (b s : Bool) → slotsOf H cl o (pick false false b s) ≡ length (H .kids o)
+unfolding slotsOf pick
+slots-joined H cl o true s = refl
+slots-joined H cl o false true = refl
+slots-joined H cl o false false = refl
+
+seen-joined : (seen : ℕ → Bool) (cl : ℕ → ℕ) (o : ℕ) (b s : Bool) → seenBy seen cl o (pick false false b s) ≡ upd seen o true
+unfolding seenBy pick
+seen-joined seen cl o true s = refl
+seen-joined seen cl o false true = refl
+seen-joined seen cl o false false = refl
 
 -- ---- a visit that may be made
 
-module _ (n : ℕ) (recs slots : List ℕ) (limit : ℕ) (work : List ℕ) (o c top : ℕ) (X : Visiting n recs slots limit work o c top) where
+module _ (n : ℕ) (recs slots list sets : List ℕ) (limit : ℕ) (work : List ℕ) (o c top : ℕ) (X : Visiting n recs slots list sets limit work o c top) where
   abbrev H : Heap
-  H = view n recs slots
+  H = heapIn n recs slots list
+
+  -- the same heap as records and slots have it
+  abbrev K : Heap
+  K = view n recs slots
 
   abbrev st : ℕ → ℕ
   st = area n (9 * n) work
@@ -100,7 +115,7 @@ module _ (n : ℕ) (recs slots : List ℕ) (limit : ℕ) (work : List ℕ) (o c 
   i = record { obj = o; passed = c }
 
   abbrev rest : List Item
-  rest = map itemOf (memOf n work top .todo)
+  rest = visitsOf H (memOf n work top .todo)
 
   R : Ready H
   R = X .ground .ready
@@ -112,28 +127,28 @@ module _ (n : ℕ) (recs slots : List ℕ) (limit : ℕ) (work : List ℕ) (o c 
   abbrev what : Visit
   what = kind H limit seen cl o c
 
-  steps : step H limit (visiting o c (memOf n work top)) ≡ act H seen cl o c rest what
+  steps : step H limit (visiting H o c (memOf n work top)) ≡ act H seen cl o c rest what
   unfolding step A.visit walkOf memOf
   steps = refl
 
   -- what the code must show
-  visited : (work′ : List ℕ) (top′ : ℕ) → walkOf (memOf n work′ top′) ≡ act H seen cl o c rest what → Ground n recs slots limit work′ → top′ ≤ 8 * n
-      → Visited n recs slots limit work o c top work′ top′
+  visited : (work′ : List ℕ) (top′ : ℕ) → walkOf H (memOf n work′ top′) ≡ act H seen cl o c rest what → Ground n recs slots list sets limit work′
+      → Marks H (memOf n work′ top′ .todo) → unseenSlots K (seenIn (area n (9 * n) work′)) ≤ top′ → top′ ≤ stackEnd n
+      → Visited n recs slots list sets limit (visiting H o c (memOf n work top)) work′ top′
   unfolding walkOf memOf
-  visited work′ top′ e G h =
+  visited work′ top′ e G g r h =
       let p = X .ground .limits .0 in
-      let w = visiting o c (memOf n work top) in
-      let less : needed H (walkOf (memOf n work′ top′)) < needed H w =
-      subst (λ (v : Work). needed H v < needed H w) (sym e) (needed-act H limit R seen cl i rest I what (facts H limit seen cl o c)) in
+      let w = visiting H o c (memOf n work top) in
       record {
         walking = record {
           ground = G;
           inv = subst (λ (v : Work). Inv H limit v) (sym (e ∙ sym steps)) (step-inv H limit R p w (X .inv));
-          room = omega (arith, less, X .room);
+          marks = g;
+          room = r;
           inside = h;
         };
         same = ap (finish H limit) (e ∙ sym steps) ∙ finish-step H limit R p w (X .inv);
-        less = less;
+        less = subst (λ (v : Work). needed H v < needed H w) (sym e) (needed-act H limit R seen cl i rest I what (facts H limit seen cl o c));
       }
 
   pub object-fits : o ≤ n
@@ -147,27 +162,21 @@ module _ (n : ℕ) (recs slots : List ℕ) (limit : ℕ) (work : List ℕ) (o c 
   pub sized : Sized n recs slots work
   sized = X .ground .sized
 
-  -- room for what is put in front
-  room-for : (k : Visit) → what ≡ k → length (pushed H cl o c k) ≤ top
-  unfolding needed act walkOf memOf
-  room-for k e =
-      let a = needed-act H limit R seen cl i rest I what (facts H limit seen cl o c) in
-      let b = length-append (pushed H cl o c what) rest in
-      let d = ap (λ (j : Visit). length (pushed H cl o c j)) e in
-      let t = length-map (memOf n work top .todo) itemOf in
-      let u = todo-length n work (sized .work-long) top in
-      omega (arith, X .room, X .inside)
+  -- what is put in front was among the slots of objects not seen
+  slots-after : (k : Visit) → what ≡ k → unseenSlots K (seenBy seen cl o k) + slotsOf H cl o k ≤ unseenSlots K seen
+  unfolding unseenSlots
+  slots-after k e = slots-act H limit R seen cl i rest I k (subst (λ (v : Visit). Facts H limit seen cl o c v) e (facts H limit seen cl o c))
 
   -- the next three: what the code tests
-  skips : (eqb o 0 || seen o) ≡ true → Visited n recs slots limit work o c top work top
+  skips : (eqb o 0 || seen o) ≡ true → Visited n recs slots list sets limit (visiting H o c (memOf n work top)) work top
   unfolding walkOf memOf
   skips e =
-      visited work top (sym (ap (act H seen cl o c rest) (kind-skip H limit seen cl o c e) ∙ act-skip H seen cl o c rest)) (X .ground) (X .inside)
+      visited work top (sym (ap (act H seen cl o c rest) (kind-skip H limit seen cl o c e) ∙ act-skip H seen cl o c rest)) (X .ground) (X .marks) (X .room) (X .inside)
 
-  pub skip-none : o ≡ 0 → Visited n recs slots limit work o c top work top
+  pub skip-none : o ≡ 0 → Visited n recs slots list sets limit (visiting H o c (memOf n work top)) work top
   skip-none e = skips (rw e refl)
 
-  pub skip-seen : (s : ℕ) → s ≡ st o → 4096 ≤ s → Visited n recs slots limit work o c top work top
+  pub skip-seen : (s : ℕ) → s ≡ st o → 4096 ≤ s → Visited n recs slots list sets limit (visiting H o c (memOf n work top)) work top
   skip-seen s e h = skips (go (eqb o 0))
     where
       go : (b : Bool) → (b || seen o) ≡ true
@@ -213,64 +222,130 @@ module _ (n : ℕ) (recs slots : List ℕ) (limit : ℕ) (work : List ℕ) (o c 
       pub older-chained : Chained n recs lk s
       older-chained = X .ground .chains s p head-own
 
-      outs-same : outsBelow H s n ≡ visitsOfCluster H cl (cl o)
-      unfolding outsBelow visitsOfCluster view
-      outs-same = ap (λ (f : ℕ → Bool). gather n (λ x. f x && H .out x) (H .kids)) (fun-ext (λ x. sym (same-members x)))
+      abbrev outs : List ℕ
+      outs = outsBelow K s n
 
-      pub older-room : length (outsBelow H s n) ≤ top
-      unfolding pushed
-      older-room =
-          let a = room-for older is-older in
-          let b = length-items 0 (visitsOfCluster H cl (cl o)) in
-          let d = ap length outs-same in
+      outs-same : outs ≡ gather (H .n) (λ x. eqb (cl x) (cl o) && H .out x) (H .kids)
+      unfolding outsBelow view
+      outs-same = ap (λ (f : ℕ → Bool). gather n (λ x. f x && K .out x) (K .kids)) (fun-ext (λ x. sym (same-members x)))
+
+      -- the pointers of its out members, then its sinks by place
+      visits-same : visitsOfCluster H cl (cl o) ≡ outs ++ sinksFrom H s 0
+      unfolding visitsOfCluster sinksAt sinksFrom
+      visits-same = ap₂ (λ (a : List ℕ) (h : ℕ). a ++ sinksAt H h) (sym outs-same) own
+
+      outs-fit : (k : ℕ) → List·Memᴰ k outs → k ≤ n
+      unfolding outsBelow view
+      outs-fit = gather-all (λ k. k ≤ n) n _ (K .kids) (λ x q k b. view-closed n recs slots x k b)
+
+      slots-older : unseenSlots K (λ x. eqb (cl x) (cl o) || seen x) + length outs ≤ unseenSlots K seen
+      unfolding seenBy slotsOf
+      slots-older =
+          let a = slots-after older is-older in
+          let b = ap length outs-same in
           omega arith
 
-      module _ (work′ : List ℕ) (top′ : ℕ) (l : length work′ ≡ length work) (m : memOf n work′ top′ ≡ handled H s (memOf n work top)) (h : top′ ≤ 8 * n) where
-        link-now : area n (8 * n) work′ ≡ lk
-        unfolding handled inFront withState memOf
-        link-now = ap (λ (v : Memory). v .link) m
+      pub spare-there : unseenSlots K seen + 1 ≤ top
+      unfolding view
+      spare-there = X .spare (λ e. p (sym was ∙ e))
 
-        state-now : area n (9 * n) work′ ≡ handledState H s st
-        unfolding handled inFront withState memOf
-        state-now = ap (λ (v : Memory). v .state) m
+      pub older-set : s - 1 < length sets
+      older-set = omega (arith, older-low, older-fits, X .ground .known .sets-long)
 
-        cl-now : clusterIn (area n (9 * n) work′) ≡ cl
-        cl-now = fun-ext (λ x. ap (λ (f : ℕ → ℕ). f x % 4096) state-now ∙ go x (eqb (H .cluster x) s) (same-members x))
-          where
-            go : (x : ℕ) (b : Bool) → eqb (cl x) (cl o) ≡ b → cond b (s + 4096) (st x) % 4096 ≡ st x % 4096
-            go x true e = let a : (s + 4096) % 4096 ≡ s = omega arith in a ∙ sym own ∙ sym (eqb-true (cl x) (cl o) e)
-            go x false e = refl
+      pub mark-may : (n ≤ 4095) × (10 * n + 64 ≤ length work) × (s ≤ n) × (0 ≤ 64) × (1 ≤ top) × (top ≤ stackEnd n)
+      mark-may = (sized .room .most, sized .work-long, older-fits, omega arith, omega (arith, spare-there), X .inside)
 
-        seen-now : seenIn (area n (9 * n) work′) ≡ (λ x. eqb (cl x) (cl o) || seen x)
-        seen-now = fun-ext (λ x. ap (λ (f : ℕ → ℕ). leb 4096 (f x)) state-now ∙ go x (eqb (H .cluster x) s) (same-members x))
-          where
-            go : (x : ℕ) (b : Bool) → eqb (cl x) (cl o) ≡ b → leb 4096 (cond b (s + 4096) (st x)) ≡ (eqb (cl x) (cl o) || seen x)
-            go x true e = rw e (le-leb 4096 (s + 4096) (omega arith))
-            go x false e = rw e refl
+      -- ---- the marker is put in front
 
-        todo-now : map itemOf (memOf n work′ top′ .todo) ≡ items 0 (visitsOfCluster H cl (cl o)) ++ rest
-        unfolding handled inFront withState outsBelow view
-        todo-now =
-            ap (λ (v : Memory). map itemOf (v .todo)) m
-            ∙ map-append itemOf (visitWords 0 (outsBelow H s n)) (memOf n work top .todo)
-            ∙ ap (λ (t : List Item). t ++ rest)
-            (words-items n 0 (outsBelow H s n) (sized .room .most) (gather-all (λ k. k ≤ n) n _ (H .kids) (λ x q k b. view-closed n recs slots x k b))
-            ∙ ap (items 0) outs-same)
+      module _ (v : ℕ) (vs : v ≡ getD sets (s - 1) 0) (work₁ : List ℕ) (at : ℕ) (l₁ : length work₁ ≡ length work)
+          (m₁ : memOf n work₁ at ≡ inFront (markers v s 0) (memOf n work top)) (t₁ : at + length (markers v s 0) ≡ top) where
+        set-is : v ≡ wordFrom (inSet H s) (drop 0 (H .listed))
+        set-is =
+            vs ∙ sym (recOf-get n sets s older-low older-fits) ∙ X .ground .known .exact s older-low older-fits
+            ∙ (let e : setWord H s / 2 ^ 0 ≡ setWord H s = omega arith in sym e) ∙ set-word H s 0 (length-take-le sinkMax list (X .ground .known .sinks-long))
 
-        pub visit-older : Visited n recs slots limit work o c top work′ top′
-        unfolding walkOf memOf
-        visit-older =
-            visited work′ top′ (work-path todo-now seen-now cl-now ∙ sym (ap (act H seen cl o c rest) is-older ∙ act-older H seen cl o c rest))
-            (record {
-              sized = resized sized l;
-              ready = R;
-              limits = X .ground .limits;
-              sizes = subst (λ (f : ℕ → ℕ). Sizes H f (sizeIn (area n (8 * n) work′))) (sym cl-now)
-                  (subst (λ (f : ℕ → ℕ). Sizes H cl (sizeIn f)) (sym link-now) (X .ground .sizes));
-              small = λ x. rw (ap (λ (f : ℕ → ℕ). sizeIn f x) link-now) (X .ground .small x);
-              chains = λ d q e. subst (λ (f : ℕ → ℕ). Chained n recs f d) (sym link-now) (X .ground .chains d q e);
-            })
-            h
+        link-marked : area n (8 * n) work₁ ≡ lk
+        unfolding inFront memOf
+        link-marked = ap (λ (w : Memory). w .link) m₁
+
+        state-marked : area n (9 * n) work₁ ≡ st
+        unfolding inFront memOf
+        state-marked = ap (λ (w : Memory). w .state) m₁
+
+        pub older-may : Sized n recs slots work₁
+            × (((1 ≤ s) × (s ≤ n) × (at ≤ stackEnd n) × (length outs ≤ at)) × Chained n recs (area n (8 * n) work₁) s)
+        older-may = (
+          resized sized l₁,
+          (
+            (older-low, older-fits, omega (arith, X .inside), omega (arith, slots-older, spare-there, markers-one v s 0)),
+            subst (λ (f : ℕ → ℕ). Chained n recs f s) (sym link-marked) older-chained,
+          ),
+        )
+
+        -- ---- and its members are handled
+
+        module _ (work′ : List ℕ) (top′ : ℕ) (l : length work′ ≡ length work₁) (m : memOf n work′ top′ ≡ handled K s (memOf n work₁ at))
+            (t : top′ + length outs ≡ at) where
+          link-now : area n (8 * n) work′ ≡ lk
+          unfolding handled inFront withState memOf
+          link-now = ap (λ (w : Memory). w .link) m ∙ link-marked
+
+          state-now : area n (9 * n) work′ ≡ handledState K s st
+          unfolding handled inFront withState memOf
+          state-now = ap (λ (w : Memory). w .state) m ∙ ap (handledState K s) state-marked
+
+          words-now : memOf n work′ top′ .todo ≡ visitWords 0 outs ++ (markers v s 0 ++ memOf n work top .todo)
+          unfolding handled inFront withState view
+          words-now = ap (λ (w : Memory). w .todo) m ∙ ap (λ (w : Memory). visitWords 0 outs ++ w .todo) m₁
+
+          cl-now : clusterIn (area n (9 * n) work′) ≡ cl
+          cl-now = fun-ext (λ x. ap (λ (f : ℕ → ℕ). f x % 4096) state-now ∙ go x (eqb (H .cluster x) s) (same-members x))
+            where
+              go : (x : ℕ) (b : Bool) → eqb (cl x) (cl o) ≡ b → cond b (s + 4096) (st x) % 4096 ≡ st x % 4096
+              go x true e = let a : (s + 4096) % 4096 ≡ s = omega arith in a ∙ sym own ∙ sym (eqb-true (cl x) (cl o) e)
+              go x false e = refl
+
+          seen-now : seenIn (area n (9 * n) work′) ≡ (λ x. eqb (cl x) (cl o) || seen x)
+          seen-now = fun-ext (λ x. ap (λ (f : ℕ → ℕ). leb 4096 (f x)) state-now ∙ go x (eqb (H .cluster x) s) (same-members x))
+            where
+              go : (x : ℕ) (b : Bool) → eqb (cl x) (cl o) ≡ b → leb 4096 (cond b (s + 4096) (st x)) ≡ (eqb (cl x) (cl o) || seen x)
+              go x true e = rw e (le-leb 4096 (s + 4096) (omega arith))
+              go x false e = rw e refl
+
+          todo-now : visitsOf H (memOf n work′ top′ .todo) ≡ items 0 (visitsOfCluster H cl (cl o)) ++ rest
+          unfolding view
+          todo-now =
+              ap (visitsOf H) words-now ∙ words-visits H n 0 (sized .room .most) (omega arith) outs _ outs-fit
+              ∙ ap (λ (j : List Item). items 0 outs ++ j)
+              (marker-visits H v s 0 older-low older-fits (sized .room .most) (omega arith) set-is (memOf n work top .todo))
+              ∙ sym (append-assoc (items 0 outs) (items 0 (sinksFrom H s 0)) rest)
+              ∙ ap (λ (j : List Item). j ++ rest) (sym (items-append 0 outs (sinksFrom H s 0)) ∙ ap (items 0) (sym visits-same))
+
+          marks-now : Marks H (memOf n work′ top′ .todo)
+          unfolding view
+          marks-now =
+              subst (Marks H) (sym words-now)
+              (words-marks H n 0 (sized .room .most) (omega arith) outs _ outs-fit
+              (marker-marks H v s 0 older-low older-fits (sized .room .most) (omega arith) set-is (memOf n work top .todo) (X .marks)))
+
+          room-now : unseenSlots K (seenIn (area n (9 * n) work′)) ≤ top′
+          room-now = let e = ap (unseenSlots K) seen-now in omega (arith, slots-older, spare-there, markers-one v s 0)
+
+          pub visit-older : Visited n recs slots list sets limit (visiting H o c (memOf n work top)) work′ top′
+          unfolding walkOf memOf
+          visit-older =
+              visited work′ top′ (work-path todo-now seen-now cl-now ∙ sym (ap (act H seen cl o c rest) is-older ∙ act-older H seen cl o c rest))
+              (record {
+                sized = resized sized (l ∙ l₁);
+                known = X .ground .known;
+                ready = R;
+                limits = X .ground .limits;
+                sizes = subst (λ (f : ℕ → ℕ). Sizes H f (sizeIn (area n (8 * n) work′))) (sym cl-now)
+                    (subst (λ (f : ℕ → ℕ). Sizes H cl (sizeIn f)) (sym link-now) (X .ground .sizes));
+                small = λ x. rw (ap (λ (f : ℕ → ℕ). sizeIn f x) link-now) (X .ground .small x);
+                chains = λ d q e. subst (λ (f : ℕ → ℕ). Chained n recs f d) (sym link-now) (X .ground .chains d q e);
+              })
+              marks-now room-now (omega (arith, X .inside))
 
     -- ---- an object in no cluster
 
@@ -305,11 +380,15 @@ module _ (n : ℕ) (recs slots : List ℕ) (limit : ℕ) (work : List ℕ) (o c 
       passed-new : c ≢ 0 → H .cluster c ≡ 0
       passed-new p = all-first (I .visits) .from p .3
 
-      pub placed-room : length (H .kids o) ≤ top
-      placed-room =
-          let a = room-for kd kind-is in
-          let b = pushed-joined H cl o c barred roomy in
+      slots-placed : unseenSlots K (upd seen o true) + length (K .kids o) ≤ unseenSlots K seen
+      slots-placed =
+          let a = slots-after kd kind-is in
+          let b = slots-joined H cl o barred roomy in
+          let e = ap (unseenSlots K) (seen-joined seen cl o barred roomy) in
           omega arith
+
+      pub placed-room : length (K .kids o) ≤ top
+      placed-room = omega (arith, slots-placed, X .room)
 
       to-fits : to ≤ n
       to-fits = goes-fits limit (recOf n recs o) lk o c n object-fits passed-fits
@@ -362,7 +441,8 @@ module _ (n : ℕ) (recs slots : List ℕ) (limit : ℕ) (work : List ℕ) (o c 
               at c (sizeIn lk c + 1) (omega (arith, f .2, X .ground .sizes c (f .1) (passed-new (f .1)), X .ground .limits .1)) (ℕ-discrete x c)
           go false false f = at o 1 (omega arith) (ℕ-discrete x o)
 
-      module _ (work′ : List ℕ) (top′ : ℕ) (l : length work′ ≡ length work) (m : memOf n work′ top′ ≡ placed H to o (memOf n work top)) (h : top′ ≤ 8 * n) where
+      module _ (work′ : List ℕ) (top′ : ℕ) (l : length work′ ≡ length work) (m : memOf n work′ top′ ≡ placed K to o (memOf n work top))
+          (t : top′ + length (K .kids o) ≡ top) where
         link-then : area n (8 * n) work′ ≡ counting to lk
         unfolding placed inFront withState withLink memOf
         link-then = ap (λ (v : Memory). v .link) m
@@ -381,12 +461,20 @@ module _ (n : ℕ) (recs slots : List ℕ) (limit : ℕ) (work : List ℕ) (o c 
             fun-ext (λ x. ap (λ (f : ℕ → ℕ). leb 4096 (f x)) state-then ∙ upd-map (leb 4096) st o (to + 4096) x
             ∙ ap (λ (b : Bool). upd seen o b x) (le-leb 4096 (to + 4096) (omega arith)))
 
-        todo-then : map itemOf (memOf n work′ top′ .todo) ≡ items to (H .kids o) ++ rest
+        words-then : memOf n work′ top′ .todo ≡ visitWords to (K .kids o) ++ memOf n work top .todo
         unfolding placed inFront withState withLink
+        words-then = ap (λ (v : Memory). v .todo) m
+
+        todo-then : visitsOf H (memOf n work′ top′ .todo) ≡ items to (H .kids o) ++ rest
         todo-then =
-            ap (λ (v : Memory). map itemOf (v .todo)) m
-            ∙ map-append itemOf (visitWords to (H .kids o)) (memOf n work top .todo)
-            ∙ ap (λ (t : List Item). t ++ rest) (words-items n to (H .kids o) (sized .room .most) (λ k b. view-closed n recs slots o k b))
+            ap (visitsOf H) words-then ∙ words-visits H n to (sized .room .most) to-fits (K .kids o) _ (λ k b. view-closed n recs slots o k b)
+
+        marks-then : Marks H (memOf n work′ top′ .todo)
+        marks-then =
+            subst (Marks H) (sym words-then) (words-marks H n to (sized .room .most) to-fits (K .kids o) _ (λ k b. view-closed n recs slots o k b) (X .marks))
+
+        room-then : unseenSlots K (seenIn (area n (9 * n) work′)) ≤ top′
+        room-then = let e = ap (unseenSlots K) seen-then in omega (arith, slots-placed, X .room)
 
         joined-to : act H seen cl o c rest what ≡ record { todo = items to (H .kids o) ++ rest; seen = upd seen o true; cl = upd cl o to }
         unfolding goesTo goesBy
@@ -401,19 +489,20 @@ module _ (n : ℕ) (recs slots : List ℕ) (limit : ℕ) (work : List ℕ) (o c 
             (fun-ext (λ x. sym (ap (λ (f : ℕ → ℕ). sizeIn f x) link-then ∙ table-is x)))
             (sizes-act H limit R seen cl i rest I (sizeIn lk) (X .ground .sizes) kd known))
 
-        pub visit-placed : Visited n recs slots limit work o c top work′ top′
+        pub visit-placed : Visited n recs slots list sets limit (visiting H o c (memOf n work top)) work′ top′
         unfolding walkOf memOf
         visit-placed =
             visited work′ top′ (work-path todo-then seen-then cl-then ∙ sym joined-to)
             (record {
               sized = resized sized l;
+              known = X .ground .known;
               ready = R;
               limits = X .ground .limits;
               sizes = sizes-then;
               small = λ x. rw (ap (λ (f : ℕ → ℕ). sizeIn f x) link-then ∙ table-is x) (table-small x);
               chains = chain;
             })
-            h
+            marks-then room-then (omega (arith, X .inside))
           where
             chain : (d : ℕ) → d ≢ 0 → clusterOf n recs d ≡ d → Chained n recs (area n (8 * n) work′) d
             chain d q e =

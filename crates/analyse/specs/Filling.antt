@@ -1,4 +1,4 @@
--- One word for each object, from word `base` on, is written by a pass.
+-- One word for each object x, word base + x, is written by a pass.
 use Prim.Native.Nat.{ℕ, _+_, _≤_}
 use mathlib.Core.Path.{_≡_}
 use mathlib.Core.List.{List}

@@ -1,5 +1,5 @@
--- What is left of the clusters that the walk formed, told by tables: word c of 0 to n counts the out pointers of cluster c, the link word of a
--- new head the members, and word x of n to 2n tells what object x is left with.
+-- What is left of the clusters that the walk formed, told by tables: word c counts the out pointers of cluster c, the link word of a new head
+-- the members, and word n + x tells what object x is left with.
 use Prim.Native.Nat.{ℕ, _+_, _*_, _%_, _≤_}
 use mathlib.Core.Path.{_≡_}
 use mathlib.Core.Bool.{Bool, false, not, cond, _&&_, _||_}

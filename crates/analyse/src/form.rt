@@ -1,16 +1,16 @@
-// The clusters are formed: the walk from the roots, by index, then from the sinks, by number, each start when the one before is done.
+// The clusters are formed: the walk from the roots, by index, each start when the one before is done.
 ghost use Prim.Native.Nat.{_+_, _*_, _≤_};
 ghost use lib.ListN.{length, take};
 ghost use Rattle.rules.specs.View.{startsIn};
 ghost use Rattle.table.specs.Clusters.{clusterOf};
+ghost use Rattle.analyse.specs.Memory.{stackEnd};
 ghost use Rattle.analyse.specs.Filling.{Filling};
 ghost use Rattle.analyse.specs.Contracts.{Walking};
-ghost use Rattle.analyse.specs.Starts.{Formable, From, GoesOn, Fit, sinksBelow};
+ghost use Rattle.analyse.specs.Starts.{Formable, From, GoesOn, Fit};
 use crate::memory::record_at;
 use crate::walk::start;
 use links::link;
 use records::cluster_of;
-use records::is_sink;
 
 // Each object is not seen, and in its older cluster.
 fn put_states(n: u32, records: &[u32], work: &mut [u32])
@@ -21,7 +21,7 @@ fn put_states(n: u32, records: &[u32], work: &mut [u32])
     while k < n {
         k += 1;
         let c = cluster_of(record_at(n, records, k));
-        let i = 9 * n as usize + k as usize - 1;
+        let i = 9 * n as usize + k as usize;
         work[i] = c;
     }
 }
@@ -34,29 +34,26 @@ fn from_roots(
     records: &[u32],
     slots: &[u32],
     roots: &[u32],
+    sinks: &[u32],
+    sets: &[u64],
     work: &mut [u32],
 )
-    requires { ⌜ Walking n (now records) (now slots) limit (now work) (8 * n) × (r ≤ length (now roots)) × Fit n (take r (now roots)) ⌝ }
-    ensures { λ _. ⌜ GoesOn n (now (records .entry)) (now (slots .entry)) limit (take r (now (roots .entry))) (now (work .entry)) (now (work .exit)) ⌝ }
+    requires { ⌜ Walking n (now records) (now slots) (now sinks) (now sets) limit (now work) (stackEnd n) × (r ≤ length (now roots)) × Fit n (take r (now roots)) ⌝ }
+    ensures { λ _. ⌜ GoesOn n (now (records .entry)) (now (slots .entry)) (now (sinks .entry)) (now (sets .entry)) limit (take r (now (roots .entry))) (now (work .entry)) (now (work .exit)) ⌝ }
 {
     let mut j: u32 = 0;
     while j < r {
-        start(n, limit, records, slots, work, roots[j as usize]);
+        start(
+            n,
+            limit,
+            records,
+            slots,
+            sinks,
+            sets,
+            work,
+            roots[j as usize],
+        );
         j += 1;
-    }
-}
-
-// The walk goes on from the sinks.
-fn from_sinks(n: u32, limit: u32, records: &[u32], slots: &[u32], work: &mut [u32])
-    requires { ⌜ Walking n (now records) (now slots) limit (now work) (8 * n) ⌝ }
-    ensures { λ _. ⌜ GoesOn n (now (records .entry)) (now (slots .entry)) limit (sinksBelow n (now (records .entry)) (now (slots .entry)) n) (now (work .entry)) (now (work .exit)) ⌝ }
-{
-    let mut k: u32 = 0;
-    while k < n {
-        k += 1;
-        if is_sink(record_at(n, records, k)) {
-            start(n, limit, records, slots, work, k);
-        }
     }
 }
 
@@ -68,15 +65,16 @@ pub(crate) fn form(
     records: &[u32],
     slots: &[u32],
     roots: &[u32],
+    sinks: &[u32],
+    sets: &[u64],
     work: &mut [u32],
 )
-    requires { ⌜ Formable n limit (now records) (now slots) (now work) (startsIn n r (now records) (now slots) (now roots)) × (r ≤ length (now roots)) ⌝ }
-    ensures { λ _. ⌜ From n (now (records .entry)) (now (slots .entry)) limit (startsIn n r (now (records .entry)) (now (slots .entry)) (now (roots .entry))) (now (work .exit)) ⌝ }
+    requires { ⌜ Formable n limit (now records) (now slots) (now sinks) (now sets) (now work) (startsIn r (now roots)) × (r ≤ length (now roots)) ⌝ }
+    ensures { λ _. ⌜ From n (now (records .entry)) (now (slots .entry)) (now (sinks .entry)) (now (sets .entry)) limit (startsIn r (now (roots .entry))) (now (work .exit)) ⌝ }
 {
-    let a = 8 * n as usize;
-    let b = 9 * n as usize;
+    let a = 8 * n as usize + 1;
+    let b = 9 * n as usize + 1;
     link(false, n, records, &mut work[a..b]);
     put_states(n, records, work);
-    from_roots(n, r, limit, records, slots, roots, work);
-    from_sinks(n, limit, records, slots, work);
+    from_roots(n, r, limit, records, slots, roots, sinks, sets, work);
 }

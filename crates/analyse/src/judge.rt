@@ -1,7 +1,7 @@
 // The second half of the analysis: out pointers are counted by cluster, and new clusters that do not stay are dissolved.
 ghost use mathlib.Core.Path.{_≡_};
 ghost use mathlib.Core.List.{List};
-ghost use Prim.Native.Nat.{ℕ, _*_, _≤_};
+ghost use Prim.Native.Nat.{ℕ, _*_, _≤_, _<_};
 ghost use lib.ListN.{length};
 ghost use Rattle.graph.specs.Clusters.{leaves};
 ghost use Rattle.rules.specs.Buffers.{recOf};
@@ -32,7 +32,7 @@ pub(crate) struct Found {
 
 // Whether the word w is a pointer out of cluster c.
 fn leaves_cluster(n: u32, records: &[u32], work: &[u32], w: u32, c: u32) -> bool
-    requires { ⌜ (n ≤ 4095) × (n ≤ length (now records)) × (10 * n ≤ length (now work)) ⌝ }
+    requires { ⌜ (n ≤ 4095) × (n ≤ length (now records)) × (10 * n < length (now work)) ⌝ }
     ensures { λ b. ⌜ b ≡ leaves (λ x. isSink (recOf n (now (records .entry)) x)) (walkClusters n (now (work .entry))) c (target n w) ⌝ }
 {
     let y = target_of(n, w);
@@ -65,14 +65,14 @@ pub(crate) fn tally(n: u32, records: &[u32], slots: &[u32], work: &mut [u32])
     requires { ⌜ Judgeable n (now records) (now slots) (now work) ⌝ }
     ensures { λ _. ⌜ Tallying n (now (records .entry)) (now (slots .entry)) (now (work .entry)) (now (work .exit)) n ⌝ }
 {
-    zero(work, n as usize);
+    zero(work, n as usize + 1);
     let mut k: u32 = 0;
     while k < n {
         k += 1;
-        let c = work[9 * n as usize + k as usize - 1] % 4096;
+        let c = work[9 * n as usize + k as usize] % 4096;
         if c != 0 {
             let m = outs(n, records, slots, work, k, c);
-            let i = c as usize - 1;
+            let i = c as usize;
             work[i] = work[i] + m;
         }
     }
@@ -105,14 +105,14 @@ pub(crate) fn decide(n: u32, records: &[u32], slots: &[u32], work: &mut [u32])
     while k < n {
         k += 1;
         let w = left(n, records, slots, work, k);
-        let i = n as usize + k as usize - 1;
+        let i = n as usize + k as usize;
         work[i] = w;
     }
 }
 
 // The members of the cluster that h, of the older cluster `old`, heads, if it is new and has too many out pointers.
 fn loss_of(n: u32, work: &[u32], old: u32, h: u32) -> u32
-    requires { ⌜ (n ≤ 4095) × (10 * n ≤ length (now work)) × (1 ≤ h) × (h ≤ n) × (sizeIn (area n (8 * n) (now work)) h ≤ 4095) ⌝ }
+    requires { ⌜ (n ≤ 4095) × (10 * n < length (now work)) × (1 ≤ h) × (h ≤ n) × (sizeIn (area n (8 * n) (now work)) h ≤ 4095) ⌝ }
     ensures { λ r. ⌜ ((recs : List ℕ) → old ≡ clusterOf n recs h → r ≡ lossAt n recs (now (work .entry)) h) × (r ≤ 4095) ⌝ }
 {
     if old != 0 {
@@ -127,7 +127,7 @@ fn loss_of(n: u32, work: &[u32], old: u32, h: u32) -> u32
 
 // Writes what each object is left with into its record, and counts the answers.
 pub(crate) fn settle(n: u32, records: &mut [u32], work: &[u32]) -> Found
-    requires { ⌜ (n ≤ length (now records)) × (10 * n ≤ length (now work)) × (n ≤ 4095) × ((x : ℕ) → sizeIn (area n (8 * n) (now work)) x ≤ 4095) ⌝ }
+    requires { ⌜ (n ≤ length (now records)) × (10 * n < length (now work)) × (n ≤ 4095) × ((x : ℕ) → sizeIn (area n (8 * n) (now work)) x ≤ 4095) ⌝ }
     ensures { λ f. ⌜ Settled n (now (records .entry)) (now (work .entry)) (now (records .exit)) (f .loss) (f .clusters) (f .members) ⌝ }
 {
     let mut loss: u32 = 0;

@@ -24,6 +24,7 @@ use layout::answers::Analysed;
 use layout::answers::Control;
 use layout::control::with_analysis;
 use layout::limits::work_len;
+use places::fill_sets;
 use table::buffers::zero;
 use wellformed::heap_refusal;
 
@@ -35,12 +36,14 @@ fn form_and_judge(
     records: &mut [u32],
     slots: &[u32],
     roots: &[u32],
+    sinks: &[u32],
+    sets: &[u64],
     work: &mut [u32],
 ) -> Found
-    requires { ⌜ Formable n limit (now records) (now slots) (now work) (startsIn n r (now records) (now slots) (now roots)) × (r ≤ length (now roots)) ⌝ }
-    ensures { λ f. ⌜ Judged n (now (records .entry)) (now (slots .entry)) (formedFrom n (now (records .entry)) (now (slots .entry)) limit (startsIn n r (now (records .entry)) (now (slots .entry)) (now (roots .entry)))) (now (records .exit)) (f .loss) (f .clusters) (f .members) ⌝ }
+    requires { ⌜ Formable n limit (now records) (now slots) (now sinks) (now sets) (now work) (startsIn r (now roots)) × (r ≤ length (now roots)) ⌝ }
+    ensures { λ f. ⌜ Judged n (now (records .entry)) (now (slots .entry)) (formedFrom n (now (records .entry)) (now (slots .entry)) (now (sinks .entry)) limit (startsIn r (now (roots .entry)))) (now (records .exit)) (f .loss) (f .clusters) (f .members) ⌝ }
 {
-    form(n, r, limit, records, slots, roots, work);
+    form(n, r, limit, records, slots, roots, sinks, sets, work);
     tally(n, records, slots, work);
     decide(n, records, slots, work);
     settle(n, records, work)
@@ -52,12 +55,14 @@ pub fn analyse(
     records: &mut [u32],
     slots: &[u32],
     roots: &[u32],
+    sinks: &[u32],
+    sets: &mut [u64],
     work: &mut [u32],
 ) -> Analysed
-    ensures { λ a. ⌜ gives a (now (records .exit)) (now (work .exit)) ≡ Rules.analyse c (now (records .entry)) (now (slots .entry)) (now (roots .entry)) (now (work .entry)) ⌝ }
+    ensures { λ a. ⌜ gives a (now (records .exit)) (now (sets .exit)) (now (work .exit)) ≡ Rules.analyse c (now (records .entry)) (now (slots .entry)) (now (roots .entry)) (now (sinks .entry)) (now (sets .entry)) (now (work .entry)) ⌝ }
 {
     let cap = work_len(c.n);
-    let refusal = heap_refusal(c, records, slots, roots, work.len() < cap);
+    let refusal = heap_refusal(c, records, slots, roots, sinks, sets, work.len() < cap);
     if refusal != 0 {
         return Analysed {
             refusal: refusal,
@@ -67,7 +72,18 @@ pub fn analyse(
         };
     }
     let limit = next_limit(c, used_count(c.n, records));
-    let found = form_and_judge(c.n, c.r, limit, records, slots, roots, &mut work[0..cap]);
+    let found = form_and_judge(
+        c.n,
+        c.r,
+        limit,
+        records,
+        slots,
+        roots,
+        sinks,
+        sets,
+        &mut work[0..cap],
+    );
+    fill_sets(c.n, records, slots, sinks, sets);
     zero(work, cap);
     Analysed {
         refusal: 0,

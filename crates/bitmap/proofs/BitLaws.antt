@@ -3,21 +3,23 @@
 use Prim.Native.Nat.{ℕ, zero, suc, _+_, _-_, _*_, _/_, _%_, _^_, _≤_, _<_, zero-le, suc-le-suc}
 use mathlib.Core.Path.{_≡_, refl, sym, ap, ap₂, _∙_, subst}
 use mathlib.Core.List.{List, [], _∷_, _++_}
-use mathlib.Core.Bool.{Bool, true, false, cond}
+use mathlib.Core.Bool.{Bool, true, false, cond, _||_}
 use mathlib.Core.Logic.{_≢_}
 use native.Mathlib.Nat.{mod-lt, add-zero, add-suc, suc-add, pow-succ'}
 use native.Mathlib.Numerals.{add-one}
+use native.Mathlib.Decide.{decLt, ℕ-discrete}
 use native.Mathlib.Omega.{arith}
+use borrow.Author.Tests.{eq-eqb, ne-eqb}
 use lib.Arith.{lt-one}
 use lib.Dec.{lit<, eqb}
-use lib.Pow.{pow-pos, shr-lt, shr-shr}
-use lib.ListN.{length, take, getD, length-append, List·getD-eq-default}
-use lib.Seq.{take-suc}
+use lib.Pow.{pow-pos, pow-mono, shr-lt, shr-shr}
+use lib.ListN.{length, take, getD, length-append, length-set, List·getD-eq-default, replicate, length-replicate, getD-replicate}
+use lib.Seq.{take-suc, set-out, getD-set-same, getD-set-other}
 use lib.Bits.{bitAnd, and-shr, and-mod, and-self, and-le-r}
 use lib.Count.{ones, onesIn, ones-step, trailingZeros, under}
-use Rattle.layout.specs.Field.{field, flag}
-use Rattle.bitmap.specs.Bits.{holds, consIf, setBits, numbersIn, bitsOf, wordOf}
-use Rattle.layout.proofs.FieldLaws.{zero-flag}
+use Rattle.layout.specs.Field.{field, flag, putFlag}
+use Rattle.bitmap.specs.Bits.{holds, putBit, consIf, setBits, numbersIn, bitsOf, wordOf}
+use Rattle.layout.proofs.FieldLaws.{zero-flag, flag-put-same, flag-put-other}
 
 pub half-lt : {w : ℕ} (k : ℕ) → w < 2 ^ suc k → w / 2 < 2 ^ k
 half-lt {w} k h = shr-lt k 1 (subst (λ (x : ℕ). w < 2 ^ x) (sym (add-one k)) h)
@@ -117,6 +119,52 @@ count-none ws = refl
 pub holds-past : (i : ℕ) (ws : List ℕ) → length ws ≤ i / 64 → holds i ws ≡ false
 holds-past i ws l = ap (flag (i % 64)) (List·getD-eq-default ws 0 l) ∙ zero-flag (i % 64)
 
+-- words that are 0 have no number
+pub holds-blank : (k z : ℕ) → holds z (replicate k 0) ≡ false
+holds-blank k z = go (decLt (z / 64) k)
+  where
+    go : Dec (z / 64 < k) → holds z (replicate k 0) ≡ false
+    go (yes l) = ap (flag (z % 64)) (getD-replicate k (z / 64) 0 0 l) ∙ zero-flag (z % 64)
+    go (no l) = let e : length {A = ℕ} (replicate k 0) ≡ k = length-replicate {A = ℕ} k 0 in holds-past z (replicate k 0) (omega (arith, l))
+
+-- ---- one number put into a set
+
+module _ (words : List ℕ) (x : ℕ) where
+  abbrev old : ℕ
+  old = getD words (x / 64) 0
+
+  abbrev new : ℕ
+  new = putFlag (x % 64) true old
+
+  pub put-length : length (putBit x words) ≡ length words
+  put-length = length-set words (x / 64) new
+
+  -- past the end nothing is put
+  pub put-past : length words ≤ x / 64 → putBit x words ≡ words
+  put-past l = set-out words (x / 64) new l
+
+  pub put-same : x / 64 < length words → holds x (putBit x words) ≡ true
+  put-same inside = ap (flag (x % 64)) (getD-set-same words (x / 64) new 0 inside) ∙ flag-put-same (x % 64) true old
+
+  pub put-other : (z : ℕ) → z ≢ x → holds z (putBit x words) ≡ holds z words
+  put-other z ne = by-word (ℕ-discrete (z / 64) (x / 64)) (decLt (x / 64) (length words))
+    where
+      by-word : Dec (z / 64 ≡ x / 64) → Dec (x / 64 < length words) → holds z (putBit x words) ≡ holds z words
+      by-word (yes e) (yes inside) =
+          rw e
+          (ap (flag (z % 64)) (getD-set-same words (x / 64) new 0 inside)
+          ∙ flag-put-other (x % 64) true old (z % 64) (λ q. ne (omega arith)))
+      by-word (yes e) (no l) = ap (holds z) (put-past (omega (arith, l)))
+      by-word (no h) d = ap (flag (z % 64)) (getD-set-other words (x / 64) (z / 64) new 0 h)
+
+  -- what the set has afterwards
+  pub put-holds : x / 64 < length words → (z : ℕ) → holds z (putBit x words) ≡ (eqb z x || holds z words)
+  put-holds inside z = go (ℕ-discrete z x)
+    where
+      go : Dec (z ≡ x) → holds z (putBit x words) ≡ (eqb z x || holds z words)
+      go (yes e) = rw e (put-same inside ∙ sym (ap (λ (b : Bool). b || holds x words) (eq-eqb x x refl)))
+      go (no h) = put-other z h ∙ sym (ap (λ (b : Bool). b || holds z words) (ne-eqb z x h))
+
 -- ---- words made from a test
 
 digit-test : (t : Bool) → eqb (cond t 1 0) 1 ≡ t
@@ -160,6 +208,24 @@ module _ (t : ℕ → Bool) where
   bitsOf-flag (suc j) (suc k) b h =
       let at : b + suc j ≡ suc b + j = omega arith in
       rw (half-power (bitsOf t b (suc k)) j, bits-rest b k, at) (bitsOf-flag j k (suc b) (omega arith))
+
+  -- a word of k bits whose bit j says whether b + j passes
+  pub bitsOf-is : (k w b : ℕ) → w < 2 ^ k → ((j : ℕ) → j < k → flag j w ≡ t (b + j)) → w ≡ bitsOf t b k
+  unfolding flag field bitsOf
+  bitsOf-is zero w b l h = lt-one l
+  bitsOf-is (suc k) w b l h =
+      let rest : w / 2 ≡ bitsOf t (suc b) k = bitsOf-is k (w / 2) (suc b) (half-lt k l) upper in
+      let one : w / 1 ≡ w = omega arith in
+      let low : eqb (w % 2) 1 ≡ t b = rw (one, add-zero b) at (h 0 (omega arith)) in
+      digits (w % 2) (t b) refl low rest
+    where
+      upper : (j : ℕ) → j < k → flag j (w / 2) ≡ t (suc b + j)
+      upper j p = let at : b + suc j ≡ suc b + j = omega arith in rw (half-power w j, at) at (h (suc j) (omega arith))
+
+      digits : (d : ℕ) (u : Bool) → w % 2 ≡ d → eqb d 1 ≡ u → w / 2 ≡ bitsOf t (suc b) k → w ≡ cond u 1 0 + 2 * bitsOf t (suc b) k
+      digits zero u e q r = rw (sym q) (omega arith)
+      digits (suc zero) u e q r = rw (sym q) (omega arith)
+      digits (suc (suc d)) u e q r = absurd (omega (arith, mod-lt w (pow-pos 1)))
 
   -- a set whose word i / 64 was made from the test
   pub wordOf-holds : (i : ℕ) (ws : List ℕ) → getD ws (i / 64) 0 ≡ wordOf t (i / 64) → holds i ws ≡ t i
@@ -211,3 +277,22 @@ module _ (t : ℕ → Bool) where
       (ap (λ (b : ℕ). numbersIn b ws) next ∙ numbersIn-words ws (suc j) (λ i l. h (suc i) (omega arith) ∙ ap (λ (k : ℕ). bitsOf t (64 * k) 64) (omega arith))
       ∙ ap (λ (b : ℕ). passers b (64 * length ws)) (sym next))
       ∙ sym (passers-add 64 (64 * length ws) (64 * j)) ∙ ap (passers (64 * j)) (sym size)
+
+-- two tests that agree on the numbers of a word
+pub bitsOf-same : (t u : ℕ → Bool) (k b : ℕ) → ((j : ℕ) → j < k → t (b + j) ≡ u (b + j)) → bitsOf t b k ≡ bitsOf u b k
+bitsOf-same t u k b h = bitsOf-is u k (bitsOf t b k) b (bitsOf-lt t k b) (λ j l. bitsOf-flag t j k b l ∙ h j l)
+
+-- a word made from its highest bit down
+module _ (t : ℕ → Bool) (base b word : ℕ) (p : 0 < b) (q : b ≤ 64) (e : word ≡ bitsOf t (base + b) (64 - b)) where
+  pub down-room : word < 2 ^ 63
+  down-room =
+      let l = bitsOf-lt t (64 - b) (base + b) in
+      let m : 2 ^ (64 - b) ≤ 2 ^ 63 = pow-mono {i = 64 - b} {j = 63} (omega arith) in
+      omega (arith, e, l, m)
+
+  pub down-turn : word * 2 + cond (t (base + (b - 1))) 1 0 ≡ bitsOf t (base + (b - 1)) (64 - (b - 1))
+  unfolding bitsOf
+  down-turn =
+      let s : 64 - (b - 1) ≡ suc (64 - b) = omega arith in
+      let n : suc (base + (b - 1)) ≡ base + b = omega arith in
+      rw (s, n, ← e) (omega arith)

@@ -1,9 +1,9 @@
 -- Sets of numbers as bits of words of 64 bits ("The heap", freed map): each word has 64 numbers, the lowest in bit 0.
 use mathlib.Core.List.{List, [], _∷_, _++_}
-use mathlib.Core.Bool.{Bool, cond}
+use mathlib.Core.Bool.{Bool, true, cond}
 use Prim.Native.Nat.{ℕ, zero, suc, _+_, _*_, _/_, _%_}
-use lib.ListN.{getD}
-use Rattle.layout.specs.Field.{flag}
+use lib.ListN.{getD, set}
+use Rattle.layout.specs.Field.{flag, putFlag}
 use Rattle.layout.specs.Limits.{objectMax, mapLen}
 
 -- the words of the longest map that a heap has
@@ -13,6 +13,10 @@ mapMax = mapLen objectMax
 -- whether number i is in the set; a number past the end is not
 abbrev pub holds : ℕ → List ℕ → Bool
 holds i words = flag (i % 64) (getD words (i / 64) 0)
+
+-- the set with number i besides; a number past the end is not put
+abbrev pub putBit : ℕ → List ℕ → List ℕ
+putBit i words = set words (i / 64) (putFlag (i % 64) true (getD words (i / 64) 0))
 
 -- b in front of l where the digit d is 1
 abbrev pub consIf : ℕ → ℕ → List ℕ → List ℕ

@@ -4,7 +4,7 @@ ghost use Prim.Native.Nat.{_-_};
 ghost use lib.ListN.{length, take};
 ghost use lib.Bits.{bitAnd};
 ghost use lib.Count.{trailingZeros};
-ghost use Rattle.bitmap.specs.Bits.{holds, numbersIn, mapMax};
+ghost use Rattle.bitmap.specs.Bits.{holds, putBit, numbersIn, mapMax};
 
 // The words of the longest map.
 const MAP_MAX: usize = 64;
@@ -18,6 +18,17 @@ pub fn has_bit(map: &[u64], i: usize) -> bool
         (map[at] >> (i % 64)) & 1 == 1
     } else {
         false
+    }
+}
+
+// Number i goes into the set; a number past the end does not.
+pub fn put_bit(map: &mut [u64], i: usize)
+    ensures { λ _. ⌜ now (map .exit) ≡ putBit i (now (map .entry)) ⌝ }
+{
+    let at = i / 64;
+    if at < map.len() {
+        let w = map[at];
+        map[at] = w | (1 << (i % 64));
     }
 }
 

@@ -9,7 +9,6 @@ use Rattle.layout.specs.Refusal.{first, by}
 use Rattle.rules.specs.Allocate as Allocate
 use Rattle.rules.specs.Write as Write
 use Rattle.rules.specs.SetRoot as SetRoot
-use Rattle.rules.specs.DeclareSink as DeclareSink
 use Rattle.rules.specs.Analyse as Analyse
 use Rattle.rules.specs.Collect as Collect
 use Rattle.rules.specs.Load.{imageTests, imageN, imageR}
@@ -18,6 +17,7 @@ use Rattle.rules.specs.Calls.{Call, allocate, allocateInPlace, read, show, writ
 use Rattle.rules.specs.Plain.{answer}
 use Rattle.rules.specs.Steps.{State, loaded, step}
 use Rattle.rules.proofs.Simulation.{all-by}
+use Rattle.rules.proofs.Answers.{declare-control}
 use Rattle.rules.proofs.ReadLaws.{read-stays, show-stays}
 use Rattle.rules.proofs.SaveLaws.{save-stays}
 use Rattle.rules.proofs.LoadTests.{load-passed}
@@ -39,7 +39,7 @@ Fitting n r (declareSink i) = Unit {0}
 Fitting n r (collect kind work map) = Unit {0}
 Fitting n r (analyse work) = Unit {0}
 Fitting n r (save out) = Unit {0}
-Fitting n r (load image recs slots roots) = Sized n r image
+Fitting n r (load image recs slots roots list sets) = Sized n r image
 
 abbrev Sizes : ℕ → ℕ → Control → Type 0
 Sizes n r c = (c .n ≡ n) × (c .r ≡ r)
@@ -49,20 +49,20 @@ module _ (n r : ℕ) (s : State) (z : Sizes n r (s .control)) where
   unfolding Allocate.allocate withLast
   allocate-sizes width = all-by (λ (o : Allocate.Outcome). Sizes n r (o .answer .control)) _ _ _ (λ _. z) (λ _. z)
 
-  write-sizes : (i k w : ℕ) → Sizes n r (Write.write (s .control) i k w (s .records) (s .slots) .answer .control)
+  write-sizes : (i k w : ℕ) → Sizes n r (Write.write (s .control) i k w (s .records) (s .slots) (s .sinks) (s .sets) .answer .control)
   unfolding Write.write withWriteLoss
   write-sizes i k w = all-by (λ (o : Write.Outcome). Sizes n r (o .answer .control)) _ _ _ (λ _. z) (λ _. z)
 
-  load-sizes : (b recs slots roots : List ℕ) → Sized n r b → Sizes n r (step (load b recs slots roots) s .after .control)
+  load-sizes : (b recs slots roots list sets : List ℕ) → Sized n r b → Sizes n r (step (load b recs slots roots list sets) s .after .control)
   unfolding step answer loaded Load.load withLast newControl by
-  load-sizes b recs slots roots h =
+  load-sizes b recs slots roots list sets h =
       all-by
       (λ (o : Load.Outcome).
-      Sizes n r (by (o .answer .refusal) (record { control = o .answer .control; records = o .records; slots = o .slots; roots = o .roots }) (λ k. s) .control)) _ _ _
-      (λ e. h (load-passed b recs slots roots e .0)) (λ _. z)
+      Sizes n r (by (o .answer .refusal) (record { control = o .answer .control; records = o .records; slots = o .slots; roots = o .roots; sinks = o .sinks; sets = o .sets }) (λ k. s) .control)) _ _ _
+      (λ e. h (load-passed b recs slots roots list sets e .0)) (λ _. z)
 
   pub sizes-kept : (call : Call) → Fitting n r call → Sizes n r (step call s .after .control)
-  unfolding step answer Allocate.allocateInPlace Write.writeInPlace SetRoot.setRoot DeclareSink.declareSink Collect.collect Analyse.analyse withAnalysis
+  unfolding step answer Allocate.allocateInPlace Write.writeInPlace SetRoot.setRoot Collect.collect Analyse.analyse withAnalysis
   sizes-kept (allocate width) h = allocate-sizes width
   sizes-kept (allocateInPlace width) h = allocate-sizes width
   sizes-kept (read i k) h = subst (λ (t : State). Sizes n r (t .control)) (sym (read-stays s i k)) z
@@ -70,8 +70,9 @@ module _ (n r : ℕ) (s : State) (z : Sizes n r (s .control)) where
   sizes-kept (write i k w) h = write-sizes i k w
   sizes-kept (writeInPlace i k w) h = write-sizes i k w
   sizes-kept (setRoot j w) h = all-by (λ (o : SetRoot.Outcome). Sizes n r (o .answer .control)) _ _ _ (λ _. z) (λ _. z)
-  sizes-kept (declareSink i) h = all-by (λ (o : DeclareSink.Outcome). Sizes n r (o .answer .control)) _ _ _ (λ _. z) (λ _. z)
+  sizes-kept (declareSink i) h =
+      subst (λ (c : Control). Sizes n r c) (sym (declare-control (s .control) i (s .records) (s .slots) (s .roots) (s .sinks) (s .sets))) z
   sizes-kept (collect kind work map) h = all-by (λ (o : Collect.Outcome). Sizes n r (o .answer .control)) _ _ _ (λ _. z) (λ _. z)
   sizes-kept (analyse work) h = all-by (λ (o : Analyse.Outcome). Sizes n r (o .answer .control)) _ _ _ (λ _. z) (λ _. z)
   sizes-kept (save out) h = subst (λ (t : State). Sizes n r (t .control)) (sym (save-stays s out)) z
-  sizes-kept (load image recs slots roots) h = load-sizes image recs slots roots h
+  sizes-kept (load image recs slots roots list sets) h = load-sizes image recs slots roots list sets h

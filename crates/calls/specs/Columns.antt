@@ -4,7 +4,7 @@ use mathlib.Core.Path.{_≡_}
 use mathlib.Core.Bool.{true}
 use mathlib.Core.List.{List, [], _∷_}
 use lib.ListN.{length, take, drop}
-use Rattle.layout.specs.Limits.{slotsLen, workLen, mapLen}
+use Rattle.layout.specs.Limits.{sinkMax, slotsLen, workLen, mapLen}
 use Rattle.records.specs.Record.{width, free, isSink}
 use Rattle.rules.specs.Buffers.{recOf}
 use Rattle.lines.specs.declared.kinds.Call.{Call}
@@ -14,7 +14,7 @@ use Rattle.calls.specs.Compare.{plainCall, agrees}
 
 -- a call run on what the one before it left
 unfoldable pub next : Call → Outcome → Outcome
-next l o = run (o .answer .control) (o .answer .saved) (o .records) (o .slots) (o .roots) (o .work) (o .map) (o .image) l
+next l o = run (o .answer .control) (o .answer .saved) (o .records) (o .slots) (o .roots) (o .sinks) (o .sets) (o .work) (o .map) (o .image) l
 
 -- none of the calls is a create
 abbrev pub NoCreate : List Call → Type 0
@@ -23,7 +23,7 @@ NoCreate (l ∷ ls) = (l .kind ≡ create → ⊥) × NoCreate ls
 
 -- work and map are long enough for n objects, and the bytes of the image for any image of n objects and r roots
 abbrev pub Lent : ℕ → ℕ → Outcome → Type 0
-Lent n r o = (workLen n ≤ length (o .work)) × (mapLen n ≤ length (o .map)) × (26 + 36 * n + 4 * r ≤ length (o .image))
+Lent n r o = (workLen n ≤ length (o .work)) × (mapLen n ≤ length (o .map)) × (160 + 36 * n + 4 * r ≤ length (o .image))
 
 -- nothing is saved yet
 abbrev pub Unsaved : Outcome → Type 0
@@ -33,10 +33,11 @@ Unsaved o = o .answer .saved ≡ 0
 abbrev pub lastImage : Outcome → List ℕ
 lastImage o = take (o .answer .saved) (o .image)
 
--- the two heaps hold the same objects, words and roots, and the same was saved last
+-- the two heaps hold the same objects, words and roots, list their sinks in the same places, and the same was saved last
 pub record SameHeap (n r : ℕ) (x y : Outcome) : Type 0 where
   pub slots : take (slotsLen n) (x .slots) ≡ take (slotsLen n) (y .slots)
   pub roots : take r (x .roots) ≡ take r (y .roots)
+  pub sinks : take sinkMax (x .sinks) ≡ take sinkMax (y .sinks)
   pub objects : (i : ℕ) → (free (recOf n (x .records) i) ≡ free (recOf n (y .records) i))
       × (width (recOf n (x .records) i) ≡ width (recOf n (y .records) i)) × (isSink (recOf n (x .records) i) ≡ isSink (recOf n (y .records) i))
   pub image : lastImage x ≡ lastImage y

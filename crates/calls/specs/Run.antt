@@ -29,13 +29,15 @@ pub record Outcome : Type 0 where
   pub records : List ℕ
   pub slots : List ℕ
   pub roots : List ℕ
+  pub sinks : List ℕ
+  pub sets : List ℕ
   pub work : List ℕ
   pub map : List ℕ
   pub image : List ℕ
 
-abbrev pub gives : Ran → List ℕ → List ℕ → List ℕ → List ℕ → List ℕ → List ℕ → Outcome
-gives a recs slots roots work map image =
-    record { answer = a; records = recs; slots = slots; roots = roots; work = work; map = map; image = image }
+abbrev pub gives : Ran → List ℕ → List ℕ → List ℕ → List ℕ → List ℕ → List ℕ → List ℕ → List ℕ → Outcome
+gives a recs slots roots list sets work map image =
+    record { answer = a; records = recs; slots = slots; roots = roots; sinks = list; sets = sets; work = work; map = map; image = image }
 
 -- a refusal, 0 if accepted, the values that the call answers, and what the next call is handed: a control record and the length of the last image
 abbrev pub ran : ℕ → ℕ → ℕ → ℕ → Control → ℕ → Ran
@@ -50,63 +52,65 @@ unfoldable pub ranLoad : Done → Control → ℕ → Ran
 ranLoad a c saved = ran (a .refusal) (a .control .n) (a .control .r) 0 (cond (eqb (a .refusal) 0) (a .control) c) saved
 
 -- c is the control record that the call is handed; the first `saved` bytes of the image are what was saved last
-module _ (c : Control) (saved : ℕ) (recs slots roots work map image : List ℕ) where
+module _ (c : Control) (saved : ℕ) (recs slots roots list sets work map image : List ℕ) where
   -- nothing is done
   unfoldable pub idle : Outcome
-  idle = gives (ran 0 0 0 0 c saved) recs slots roots work map image
+  idle = gives (ran 0 0 0 0 c saved) recs slots roots list sets work map image
 
   unfoldable pub create : ℕ → ℕ → Outcome
   create n r =
-      let o = Create.create n r recs slots roots in
-      gives (ran (o .answer .refusal) 0 0 0 (o .answer .control) saved) (o .records) (o .slots) (o .roots) work map image
+      let o = Create.create n r recs slots roots list sets in
+      gives (ran (o .answer .refusal) 0 0 0 (o .answer .control) saved) (o .records) (o .slots) (o .roots) (o .sinks) (o .sets) work map image
 
   unfoldable pub allocate : ℕ → Outcome
   allocate width =
       let o = Allocate.allocate c width recs slots in
-      gives (ran (o .answer .refusal) (o .answer .object) 0 0 (o .answer .control) saved) (o .records) (o .slots) roots work map image
+      gives (ran (o .answer .refusal) (o .answer .object) 0 0 (o .answer .control) saved) (o .records) (o .slots) roots list sets work map image
 
   unfoldable pub read : ℕ → ℕ → Outcome
-  read i k = let a = Read.read c i k recs slots in gives (ran (a .refusal) (a .word) 0 0 (a .control) saved) recs slots roots work map image
+  read i k = let a = Read.read c i k recs slots in gives (ran (a .refusal) (a .word) 0 0 (a .control) saved) recs slots roots list sets work map image
 
   -- where the part is that is shown
   unfoldable pub show : ℕ → Outcome
   show i =
       let a = Show.show c i recs slots .answer in
-      gives (ran (a .refusal) (a .start) (a .length) 0 (a .control) saved) recs slots roots work map image
+      gives (ran (a .refusal) (a .start) (a .length) 0 (a .control) saved) recs slots roots list sets work map image
 
   unfoldable pub write : ℕ → ℕ → ℕ → Outcome
   write i k w =
-      let o = Write.write c i k w recs slots in
-      gives (ran (o .answer .refusal) 0 0 0 (o .answer .control) saved) (o .records) (o .slots) roots work map image
+      let o = Write.write c i k w recs slots list sets in
+      gives (ran (o .answer .refusal) 0 0 0 (o .answer .control) saved) (o .records) (o .slots) roots list (o .sets) work map image
 
   unfoldable pub setRoot : ℕ → ℕ → Outcome
   setRoot j w =
       let o = SetRoot.setRoot c j w recs roots in
-      gives (ran (o .answer .refusal) 0 0 0 (o .answer .control) saved) recs slots (o .roots) work map image
+      gives (ran (o .answer .refusal) 0 0 0 (o .answer .control) saved) recs slots (o .roots) list sets work map image
 
   unfoldable pub declareSink : ℕ → Outcome
   declareSink i =
-      let o = DeclareSink.declareSink c i recs slots roots in
-      gives (ran (o .answer .refusal) 0 0 0 (o .answer .control) saved) (o .records) slots roots work map image
+      let o = DeclareSink.declareSink c i recs slots roots list sets in
+      gives (ran (o .answer .refusal) 0 0 0 (o .answer .control) saved) (o .records) slots roots (o .sinks) (o .sets) work map image
 
   unfoldable pub analyse : Outcome
   analyse =
-      let o = Analyse.analyse c recs slots roots work in
-      gives (ran (o .answer .refusal) (o .answer .clusters) (o .answer .members) 0 (o .answer .control) saved) (o .records) slots roots (o .work) map image
+      let o = Analyse.analyse c recs slots roots list sets work in
+      gives (ran (o .answer .refusal) (o .answer .clusters) (o .answer .members) 0 (o .answer .control) saved) (o .records) slots roots list (o .sets) (o .work) map image
 
   unfoldable pub collect : Collect.Kind → Outcome
   collect kind =
-      let o = Collect.collect kind c recs slots roots work map in
-      gives (ran (o .answer .refusal) (o .answer .freed) (o .answer .kept) (o .answer .scanned) (o .answer .control) saved) (o .records) (o .slots) roots (o .work) (o .map) image
+      let o = Collect.collect kind c recs slots roots list sets work map in
+      gives (ran (o .answer .refusal) (o .answer .freed) (o .answer .kept) (o .answer .scanned) (o .answer .control) saved) (o .records) (o .slots) roots (o .sinks) (o .sets) (o .work) (o .map) image
 
   unfoldable pub save : Outcome
-  save = let o = Save.save c recs slots roots image in gives (ranSave (o .answer) saved) recs slots roots work map (o .image)
+  save =
+      let o = Save.save c recs slots roots list sets image in
+      gives (ranSave (o .answer) saved) recs slots roots list sets work map (o .image)
 
   -- of the last image
   unfoldable pub load : Outcome
   load =
-      let o = Load.load (take saved image) recs slots roots in
-      gives (ranLoad (o .answer) c saved) (o .records) (o .slots) (o .roots) work map image
+      let o = Load.load (take saved image) recs slots roots list sets in
+      gives (ranLoad (o .answer) c saved) (o .records) (o .slots) (o .roots) (o .sinks) (o .sets) work map image
 
   -- by clusters unless the number is 0
   abbrev way : ℕ → Collect.Kind

@@ -108,15 +108,17 @@ fn load_last(
     records: &mut [u32],
     slots: &mut [u32],
     roots: &mut [u32],
+    sinks: &mut [u32],
+    sets: &mut [u64],
 ) -> Done
-    ensures { λ a. ⌜ Load.gives a (now (records .exit)) (now (slots .exit)) (now (roots .exit))
-        ≡ Load.load (take saved (now (image .entry))) (now (records .entry)) (now (slots .entry)) (now (roots .entry)) ⌝ }
+    ensures { λ a. ⌜ Load.gives a (now (records .exit)) (now (slots .exit)) (now (roots .exit)) (now (sinks .exit)) (now (sets .exit))
+        ≡ Load.load (take saved (now (image .entry))) (now (records .entry)) (now (slots .entry)) (now (roots .entry)) (now (sinks .entry)) (now (sets .entry)) ⌝ }
 {
     let end = saved as usize;
     if image.len() < end {
-        return load(image, records, slots, roots);
+        return load(image, records, slots, roots, sinks, sets);
     }
-    load(&image[..end], records, slots, roots)
+    load(&image[..end], records, slots, roots, sinks, sets)
 }
 
 // The call as a heap without clusters runs it: no analysis, and every collection plainly.
@@ -147,30 +149,45 @@ pub fn run(
     records: &mut [u32],
     slots: &mut [u32],
     roots: &mut [u32],
+    sinks: &mut [u32],
+    sets: &mut [u64],
     work: &mut [u32],
     map: &mut [u64],
     image: &mut [u8],
 ) -> Ran
-    ensures { λ a. ⌜ Run.gives a (now (records .exit)) (now (slots .exit)) (now (roots .exit)) (now (work .exit)) (now (map .exit)) (now (image .exit))
-        ≡ Run.run c saved (now (records .entry)) (now (slots .entry)) (now (roots .entry)) (now (work .entry)) (now (map .entry)) (now (image .entry)) call ⌝ }
+    ensures { λ a. ⌜ Run.gives a (now (records .exit)) (now (slots .exit)) (now (roots .exit)) (now (sinks .exit)) (now (sets .exit)) (now (work .exit)) (now (map .exit)) (now (image .exit))
+        ≡ Run.run c saved (now (records .entry)) (now (slots .entry)) (now (roots .entry)) (now (sinks .entry)) (now (sets .entry)) (now (work .entry)) (now (map .entry)) (now (image .entry)) call ⌝ }
 {
     let kind = call.kind;
     let v = call.numbers;
     match kind {
-        CREATE => of_done(create(v[0], v[1], records, slots, roots), saved),
+        CREATE => of_done(
+            create(v[0], v[1], records, slots, roots, sinks, sets),
+            saved,
+        ),
         ALLOCATE => of_allocated(allocate(c, v[0], records, slots), saved),
         READ => of_read(read(c, v[0], v[1], records, slots), saved),
         SHOW => of_part(show_part(c, v[0], records, slots), saved),
-        WRITE => of_done(write(c, v[0], v[1], v[2], records, slots), saved),
-        ROOT => of_done(set_root(c, v[0], v[1], records, roots), saved),
-        SINK => of_done(declare_sink(c, v[0], records, slots, roots), saved),
-        ANALYSE => of_analysed(analyse(c, records, slots, roots, work), saved),
-        COLLECT => of_collected(
-            collect(v[0] != 0, c, records, slots, roots, work, map),
+        WRITE => of_done(
+            write(c, v[0], v[1], v[2], records, slots, sinks, sets),
             saved,
         ),
-        SAVE => of_saved(save(c, records, slots, roots, image), saved),
-        LOAD => of_loaded(load_last(saved, image, records, slots, roots), c, saved),
+        ROOT => of_done(set_root(c, v[0], v[1], records, roots), saved),
+        SINK => of_done(
+            declare_sink(c, v[0], records, slots, roots, sinks, sets),
+            saved,
+        ),
+        ANALYSE => of_analysed(analyse(c, records, slots, roots, sinks, sets, work), saved),
+        COLLECT => of_collected(
+            collect(v[0] != 0, c, records, slots, roots, sinks, sets, work, map),
+            saved,
+        ),
+        SAVE => of_saved(save(c, records, slots, roots, sinks, sets, image), saved),
+        LOAD => of_loaded(
+            load_last(saved, image, records, slots, roots, sinks, sets),
+            c,
+            saved,
+        ),
         _ => answer(0, 0, 0, 0, c, saved),
     }
 }

@@ -32,7 +32,7 @@ fn count_kept(by: bool, n: u32, scanned: u32, records: &[u32]) -> u32
     scanned
 }
 
-// Frees every object in use that cannot be reached along pointers from a root or a sink; the map tells which. By clusters only objects
+// Frees every object in use that cannot be reached along pointers from a root; the map tells which. By clusters only objects
 // without a cluster, out members of reached clusters, and postponed members are scanned.
 pub fn collect(
     by: bool,
@@ -40,14 +40,17 @@ pub fn collect(
     records: &mut [u32],
     slots: &mut [u32],
     roots: &[u32],
+    sinks: &mut [u32],
+    sets: &mut [u64],
     work: &mut [u32],
     map: &mut [u64],
 ) -> Collected
-    ensures { λ a. ⌜ Collect.gives a (now (records .exit)) (now (slots .exit)) (now (work .exit)) (now (map .exit))
-        ≡ Collect.collect (kindOf by) c (now (records .entry)) (now (slots .entry)) (now (roots .entry)) (now (work .entry)) (now (map .entry)) ⌝ }
+    ensures { λ a. ⌜ Collect.gives a (now (records .exit)) (now (slots .exit)) (now (sinks .exit)) (now (sets .exit)) (now (work .exit)) (now (map .exit))
+        ≡ Collect.collect (kindOf by) c (now (records .entry)) (now (slots .entry)) (now (roots .entry)) (now (sinks .entry)) (now (sets .entry))
+        (now (work .entry)) (now (map .entry)) ⌝ }
 {
     let short = map.len() < map_len(c.n);
-    let k = walk(by, c, records, slots, roots, work, short);
+    let k = walk(by, c, records, slots, roots, sinks, sets, work, short);
     if k != 0 {
         return Collected {
             refusal: k,
@@ -60,7 +63,7 @@ pub fn collect(
     let scanned = count_marked(c.n, records);
     mark_reached(by, c.n, records);
     let kept = count_kept(by, c.n, scanned, records);
-    let freed = sweep(c.n, records, slots, map);
+    let freed = sweep(c.n, records, slots, sinks, sets, map);
     Collected {
         refusal: 0,
         freed: freed,

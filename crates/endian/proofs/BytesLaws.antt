@@ -11,7 +11,7 @@ use lib.Dec.{leb}
 use borrow.Author.Tests.{leb-true, leb-false, le-leb, lt-leb}
 use lib.ListN.{length, getD, set, take, drop, length-append, length-drop, take-append-drop, drop-of-length-le}
 use lib.Seq.{take-at, drop-append-add, drop-nil, take-nil, length-take-le, sets, set-out}
-use Rattle.endian.specs.Bytes.{Octets, bytes, number, numberAt, wordBytes}
+use Rattle.endian.specs.Bytes.{Octets, bytes, number, numberAt, bytesOf}
 
 pub length-bytes : (k v : ℕ) → length (bytes k v) ≡ k
 unfolding bytes
@@ -36,23 +36,25 @@ pub number-behind : (k i : ℕ) (a l : List ℕ) → numberAt k (length a + i) (
 unfolding numberAt
 number-behind k i a l = ap (λ (m : List ℕ). number (take k m)) (drop-append-add a l i)
 
-pub length-words : (l : List ℕ) → length (wordBytes l) ≡ 4 * length l
-unfolding wordBytes
-length-words [] = refl
-length-words (w ∷ l) = length-append (bytes 4 w) (wordBytes l) ∙ omega (arith, length-bytes 4 w, length-words l)
+pub length-numbers : (k : ℕ) (l : List ℕ) → length (bytesOf k l) ≡ k * length l
+unfolding bytesOf
+length-numbers k [] = omega arith
+length-numbers k (v ∷ l) = length-append (bytes k v) (bytesOf k l) ∙ omega (arith, length-bytes k v, length-numbers k l)
 
--- word k of words in front of other bytes
-pub word-at : (l z : List ℕ) (k : ℕ) → ((w : ℕ) → List·Memᴰ w l → w < 256 ^ 4) → k < length l → numberAt 4 (4 * k) (wordBytes l ++ z) ≡ getD l k 0
-unfolding wordBytes
-word-at [] z k h p = absurd (omega arith)
-word-at (w ∷ l) z zero h p =
-    ap (numberAt 4 0) (append-assoc (bytes 4 w) (wordBytes l) z) ∙ number-front 4 w (wordBytes l ++ z) (h w (List·Memᴰ·head refl))
-word-at (w ∷ l) z (suc k) h p =
-    let e : 4 * suc k ≡ length (bytes 4 w) + 4 * k = omega (arith, length-bytes 4 w) in
-    ap (numberAt 4 (4 * suc k)) (append-assoc (bytes 4 w) (wordBytes l) z)
-    ∙ ap (λ (i : ℕ). numberAt 4 i (bytes 4 w ++ (wordBytes l ++ z))) e
-    ∙ number-behind 4 (4 * k) (bytes 4 w) (wordBytes l ++ z)
-    ∙ word-at l z k (λ v m. h v (List·Memᴰ·tail m)) (omega arith)
+-- number j of numbers in front of other bytes
+pub number-at : (k : ℕ) (l z : List ℕ) (j : ℕ) → ((v : ℕ) → List·Memᴰ v l → v < 256 ^ k) → j < length l
+    → numberAt k (k * j) (bytesOf k l ++ z) ≡ getD l j 0
+unfolding bytesOf
+number-at k [] z j h p = absurd (omega arith)
+number-at k (v ∷ l) z zero h p =
+    let e : k * 0 ≡ 0 = omega arith in
+    ap₂ (numberAt k) e (append-assoc (bytes k v) (bytesOf k l) z) ∙ number-front k v (bytesOf k l ++ z) (h v (List·Memᴰ·head refl))
+number-at k (v ∷ l) z (suc j) h p =
+    let e : k * suc j ≡ length (bytes k v) + k * j = omega (arith, length-bytes k v) in
+    ap (numberAt k (k * suc j)) (append-assoc (bytes k v) (bytesOf k l) z)
+    ∙ ap (λ (i : ℕ). numberAt k i (bytes k v ++ (bytesOf k l ++ z))) e
+    ∙ number-behind k (k * j) (bytes k v) (bytesOf k l ++ z)
+    ∙ number-at k l z j (λ u m. h u (List·Memᴰ·tail m)) (omega arith)
 
 -- ---- bytes read and written again
 

@@ -21,7 +21,11 @@ number (b ∷ l) = b + 256 * number l
 unfoldable pub numberAt : ℕ → ℕ → List ℕ → ℕ
 numberAt k i l = number (take k (drop i l))
 
+-- numbers, k bytes each
+unfoldable pub bytesOf : ℕ → List ℕ → List ℕ
+bytesOf k [] = []
+bytesOf k (v ∷ l) = bytes k v ++ bytesOf k l
+
 -- words, four bytes each
-unfoldable pub wordBytes : List ℕ → List ℕ
-wordBytes [] = []
-wordBytes (w ∷ l) = bytes 4 w ++ wordBytes l
+abbrev pub wordBytes : List ℕ → List ℕ
+wordBytes l = bytesOf 4 l

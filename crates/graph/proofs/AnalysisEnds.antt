@@ -1,5 +1,5 @@
--- The walk keeps its invariant and ends: each step takes at least one from the visits to make and the pointers of objects not seen.
--- So there are never more visits to make than starts and pointers.
+-- The walk keeps its invariant and ends: each step takes at least one from the visits to make, and the slots and sets of objects not seen.
+-- The slots that a visit puts in front, its sinks left out, were among those of objects not seen.
 -- Assumes nothing.
 use Prim.Native.Nat.{ℕ, zero, suc, _+_, _*_, _≤_, _<_}
 use mathlib.Core.Path.{_≡_, refl, sym, ap, _∙_, subst}
@@ -10,16 +10,16 @@ use native.Mathlib.Nat.{zero-add, le-refl, le-of-lt}
 use native.Mathlib.Omega.{arith}
 use lib.Dec.{eqb}
 use lib.ListN.{length, length-append}
-use borrow.Author.Tests.{eqb-true}
-use Rattle.graph.specs.Numbers.{Obj, upd, sum}
-use Rattle.graph.specs.Heap.{Heap, starts}
+use borrow.Author.Tests.{eqb-true, eq-eqb, ne-eqb}
+use Rattle.graph.specs.Numbers.{Obj, upd, sum, gather}
+use Rattle.graph.specs.Heap.{Heap}
+use Rattle.graph.specs.Clusters.{sinksAt}
 use Rattle.graph.specs.Run as Run
 use Rattle.graph.specs.Run.{run}
 use Rattle.graph.specs.Analysis.{Item, Work, items, Visit, skip, older, alone, join, head, kind, visitsOfCluster, pushed, seenBy, clBy, act, visit, step, begin, needed, finish}
-use Rattle.graph.specs.Invariant.{Ready, Inv}
-use Rattle.graph.proofs.NumberLaws.{upd-same, upd-other, sum-most, sum-mono, sum-bump, sum-add, length-gather}
+use Rattle.graph.specs.Invariant.{Ready, Inv, unseenSlots}
+use Rattle.graph.proofs.NumberLaws.{upd-same, upd-other, sum-most, sum-mono, sum-bump, sum-add, sum-at, length-gather}
 use Rattle.graph.proofs.RunLaws as Runs
-pub use Rattle.graph.proofs.ReachLaws.{starts-range}
 use Rattle.graph.proofs.AnalysisInv.{Facts, facts, all-items, all-front, acts, size-none, in-range}
 
 -- ---- the invariant holds throughout
@@ -53,9 +53,9 @@ begin-inv H limit from R h = record {
 
 -- ---- the measure
 
--- the pointers of an object that is not seen
-unfoldable weight : Heap → (ℕ → Bool) → ℕ → ℕ
-weight H seen x = cond (seen x) 0 (length (H .kids x))
+-- what the objects that are not seen weigh, x with g x
+unfoldable weighed : Heap → (ℕ → ℕ) → (ℕ → Bool) → ℕ
+weighed H g seen = sum (H .n) (λ x. cond (seen x) 0 (g x))
 
 pub length-items : (c : ℕ) (l : List ℕ) → length (items c l) ≡ length l
 unfolding items
@@ -63,16 +63,16 @@ length-items c [] = refl
 length-items c (k ∷ l) = ap suc (length-items c l)
 
 -- an object in range is seen
-weight-upd : (H : Heap) (seen : ℕ → Bool) (o : ℕ) → o ≢ 0 → o ≤ H .n → seen o ≡ false
-    → sum (H .n) (weight H seen) ≡ sum (H .n) (weight H (upd seen o true)) + length (H .kids o)
-unfolding weight
-weight-upd H seen o p q e =
-    sum-bump (H .n) o (length (H .kids o)) (weight H (upd seen o true)) (weight H seen) (omega (arith, p)) q there elsewhere
+weighed-upd : (H : Heap) (g : ℕ → ℕ) (seen : ℕ → Bool) (o : ℕ) → o ≢ 0 → o ≤ H .n → seen o ≡ false
+    → weighed H g seen ≡ weighed H g (upd seen o true) + g o
+unfolding weighed
+weighed-upd H g seen o p q e =
+    sum-bump (H .n) o (g o) (λ x. cond (upd seen o true x) 0 (g x)) (λ x. cond (seen x) 0 (g x)) (omega (arith, p)) q there elsewhere
   where
-    there : weight H seen o ≡ weight H (upd seen o true) o + length (H .kids o)
-    there = rw (e, upd-same seen o true) (sym (zero-add (length (H .kids o))))
+    there : cond (seen o) 0 (g o) ≡ cond (upd seen o true o) 0 (g o) + g o
+    there = rw (e, upd-same seen o true) (sym (zero-add (g o)))
 
-    elsewhere : (x : ℕ) → x ≢ o → weight H seen x ≡ weight H (upd seen o true) x
+    elsewhere : (x : ℕ) → x ≢ o → cond (seen x) 0 (g x) ≡ cond (upd seen o true x) 0 (g x)
     elsewhere x n = rw (upd-other seen o x true n) refl
 
 -- an older cluster that is not handled: its members had its number before, and none of them is seen
@@ -93,49 +93,109 @@ older-unseen : (H : Heap) (limit : ℕ) → Ready H → (w : Work) → Inv H lim
     → w .seen o ≡ false → w .cl o ≢ 0 → w .cl x ≡ w .cl o → w .seen x ≡ false
 older-unseen H limit R w I o x e p q = let t = older-same H limit R w I o x e p q in I .whole x o (t .0) (t .1) ∙ e
 
+-- the slots that a visit puts in front, sinks not counted
+unfoldable pub slotsOf : Heap → (ℕ → ℕ) → ℕ → Visit → ℕ
+slotsOf H cl o skip = 0
+slotsOf H cl o older = length (gather (H .n) (λ x. eqb (cl x) (cl o) && H .out x) (H .kids))
+slotsOf H cl o alone = length (H .kids o)
+slotsOf H cl o join = length (H .kids o)
+slotsOf H cl o head = length (H .kids o)
+
 module _ (H : Heap) (limit : ℕ) (R : Ready H) (seen : ℕ → Bool) (cl : ℕ → ℕ) (i : Item) (rest : List Item)
     (I : Inv H limit (record { todo = i ∷ rest; seen = seen; cl = cl })) where
+  -- an older cluster is seen: f is of its members alone, and at most what they weighed
+  weighed-older : (g f : ℕ → ℕ) → seen (i .obj) ≡ false → cl (i .obj) ≢ 0 → ((x : ℕ) → f x ≤ cond (eqb (cl x) (cl (i .obj))) (g x) 0)
+      → weighed H g (λ x. eqb (cl x) (cl (i .obj)) || seen x) + sum (H .n) f ≤ weighed H g seen
+  unfolding weighed
+  weighed-older g f e p h =
+      let s = sum-add (H .n) (λ x. cond (eqb (cl x) (cl (i .obj)) || seen x) 0 (g x)) f in
+      let t = sum-mono (H .n) (λ x. cond (eqb (cl x) (cl (i .obj)) || seen x) 0 (g x) + f x) (λ x. cond (seen x) 0 (g x))
+      (λ x j k. each x (eqb (cl x) (cl (i .obj))) (seen x) (λ u. older-unseen H limit R _ I (i .obj) x e p (eqb-true (cl x) (cl (i .obj)) u)) refl (h x)) in
+      omega arith
+    where
+      each : (x : ℕ) (a b : Bool) → (a ≡ true → seen x ≡ false) → seen x ≡ b → f x ≤ cond a (g x) 0 → cond (a || b) 0 (g x) + f x ≤ cond b 0 (g x)
+      each x true true u v l = absurd (true≢false (sym v ∙ u refl))
+      each x true false u v l = omega arith
+      each x false b u v l = omega arith
+
+  slots-one : i .obj ≢ 0 → seen (i .obj) ≡ false → unseenSlots H (upd seen (i .obj) true) + length (H .kids (i .obj)) ≤ unseenSlots H seen
+  unfolding unseenSlots weighed
+  slots-one p e = let a = weighed-upd H (λ x. length (H .kids x)) seen (i .obj) p (in-range H limit R seen cl i rest I) e in omega arith
+
+  slots-older : seen (i .obj) ≡ false → cl (i .obj) ≢ 0
+      → unseenSlots H (seenBy seen cl (i .obj) older) + slotsOf H cl (i .obj) older ≤ unseenSlots H seen
+  unfolding unseenSlots weighed seenBy slotsOf
+  slots-older e p =
+      let a = length-gather (H .n) (λ x. eqb (cl x) (cl (i .obj)) && H .out x) (H .kids) in
+      let b = weighed-older (λ x. length (H .kids x)) (λ x. cond (eqb (cl x) (cl (i .obj)) && H .out x) (length (H .kids x)) 0) e p
+      (λ x. each (eqb (cl x) (cl (i .obj))) (H .out x) (length (H .kids x))) in
+      omega arith
+    where
+      each : (a b : Bool) (k : ℕ) → cond (a && b) k 0 ≤ cond a k 0
+      each true true k = omega arith
+      each true false k = omega arith
+      each false b k = omega arith
+
+  -- what a visit puts in front was counted among the slots of objects that were not seen
+  pub slots-act : (k : Visit) → Facts H limit seen cl (i .obj) (i .passed) k
+      → unseenSlots H (seenBy seen cl (i .obj) k) + slotsOf H cl (i .obj) k ≤ unseenSlots H seen
+  unfolding seenBy slotsOf
+  slots-act skip f = omega arith
+  slots-act older f = slots-older (f .1) (f .2)
+  slots-act alone f = slots-one (f .0) (f .1)
+  slots-act join f = slots-one (f .0 .nonzero) (f .0 .unseen)
+  slots-act head f = slots-one (f .nonzero) (f .unseen)
+
   -- one object is seen, and its pointers are visited
   needed-one : (c : ℕ) (cl′ : ℕ → ℕ) → i .obj ≢ 0 → seen (i .obj) ≡ false
       → needed H (record { todo = items c (H .kids (i .obj)) ++ rest; seen = upd seen (i .obj) true; cl = cl′ })
       < needed H (record { todo = i ∷ rest; seen = seen; cl = cl })
-  unfolding needed weight
+  unfolding needed weighed
   needed-one c cl′ p e =
-      let a = weight-upd H seen (i .obj) p (in-range H limit R seen cl i rest I) e in
+      let a = weighed-upd H (λ x. length (H .kids x) + length (sinksAt H x)) seen (i .obj) p (in-range H limit R seen cl i rest I) e in
       let b = length-append (items c (H .kids (i .obj))) rest in
       let d = length-items c (H .kids (i .obj)) in
       omega arith
 
+  -- an older cluster is seen, the pointers of its out members and its sinks are visited: these are counted at its head
   needed-older : seen (i .obj) ≡ false → cl (i .obj) ≢ 0
       → needed H (act H seen cl (i .obj) (i .passed) rest older) < needed H (record { todo = i ∷ rest; seen = seen; cl = cl })
-  unfolding needed weight act pushed seenBy clBy visitsOfCluster
+  unfolding needed weighed act pushed seenBy clBy visitsOfCluster
   needed-older e p =
-      let a = length-append (items 0 (visitsOfCluster H cl (cl (i .obj)))) rest in
-      let b = length-items 0 (visitsOfCluster H cl (cl (i .obj))) in
-      let d = length-gather (H .n) (λ x. eqb (cl x) (cl (i .obj)) && H .out x) (H .kids) in
-      let s = sum-add (H .n) (weight H after) pushed in
-      let t = sum-mono (H .n) (λ x. weight H after x + pushed x) (weight H seen)
-      (λ x j k. each x (eqb (cl x) (cl (i .obj))) (seen x) (H .out x)
-      (λ u. older-unseen H limit R _ I (i .obj) x e p (eqb-true (cl x) (cl (i .obj)) u)) refl refl) in
+      let a = length-append (items 0 (visitsOfCluster H cl c)) rest in
+      let b = length-items 0 (visitsOfCluster H cl c) in
+      let d = length-append (gather (H .n) (λ x. eqb (cl x) c && H .out x) (H .kids)) (sinksAt H c) in
+      let g = length-gather (H .n) (λ x. eqb (cl x) c && H .out x) (H .kids) in
+      let k = sum-at (H .n) c sinks (omega (arith, p)) (I .range c (λ j. p (sym own ∙ j))) (λ x q. rw (ne-eqb x c q) refl) in
+      let m : sinks c ≡ length (sinksAt H c) = rw (eq-eqb c c refl) refl in
+      let s = sum-add (H .n) slots sinks in
+      let t = weighed-older (λ x. length (H .kids x) + length (sinksAt H x)) (λ x. slots x + sinks x) e p
+      (λ x. each (eqb (cl x) c) (H .out x) (eqb x c) (length (H .kids x)) (length (sinksAt H x)) (λ q. eq-eqb (cl x) c (ap cl (eqb-true x c q) ∙ own))) in
       omega arith
     where
-      after : ℕ → Bool
-      after x = eqb (cl x) (cl (i .obj)) || seen x
+      c : ℕ
+      c = cl (i .obj)
 
-      pushed : ℕ → ℕ
-      pushed x = cond (eqb (cl x) (cl (i .obj)) && H .out x) (length (H .kids x)) 0
+      own : cl c ≡ c
+      own = I .heads (i .obj) p
 
-      each : (x : ℕ) (a b d : Bool) → (a ≡ true → seen x ≡ false) → eqb (cl x) (cl (i .obj)) ≡ a → seen x ≡ b
-          → cond (a || b) 0 (length (H .kids x)) + cond (a && d) (length (H .kids x)) 0 ≤ cond b 0 (length (H .kids x))
-      each x true true d h f g = absurd (true≢false (sym g ∙ h refl))
-      each x true false true h f g = omega arith
-      each x true false false h f g = omega arith
-      each x false true d h f g = omega arith
-      each x false false d h f g = omega arith
+      slots : ℕ → ℕ
+      slots x = cond (eqb (cl x) c && H .out x) (length (H .kids x)) 0
+
+      sinks : ℕ → ℕ
+      sinks x = cond (eqb x c) (length (sinksAt H x)) 0
+
+      each : (a b d : Bool) (k m : ℕ) → (d ≡ true → a ≡ true) → cond (a && b) k 0 + cond d m 0 ≤ cond a (k + m) 0
+      each true true true k m h = omega arith
+      each true true false k m h = omega arith
+      each true false true k m h = omega arith
+      each true false false k m h = omega arith
+      each false b true k m h = absurd (true≢false (sym (h refl)))
+      each false b false k m h = omega arith
 
   pub needed-act : (k : Visit) → Facts H limit seen cl (i .obj) (i .passed) k
       → needed H (act H seen cl (i .obj) (i .passed) rest k) < needed H (record { todo = i ∷ rest; seen = seen; cl = cl })
-  unfolding act pushed seenBy clBy needed weight
+  unfolding act pushed seenBy clBy needed
   needed-act skip f = omega arith
   needed-act older f = needed-older (f .1) (f .2)
   needed-act alone f = needed-one 0 cl (f .0) (f .1)
@@ -213,21 +273,18 @@ module _ (H : Heap) (limit : ℕ) (R : Ready H) (p : 1 ≤ limit) where
       go (inr l) = le-of-lt l
 
 -- where no object has more than 8 slots
-pub needed-le : (H : Heap) (w : Work) → ((x : ℕ) → Obj (H .n) x → length (H .kids x) ≤ 8) → needed H w ≤ length (w .todo) + 8 * H .n
-unfolding needed
-needed-le H w h =
-    let a = sum-most (H .n) 8 (λ x. cond (w .seen x) 0 (length (H .kids x))) (λ x b. part (w .seen x) (length (H .kids x)) (h x b)) in
-    omega arith
+pub unseen-le : (H : Heap) (seen : ℕ → Bool) → ((x : ℕ) → Obj (H .n) x → length (H .kids x) ≤ 8) → unseenSlots H seen ≤ 8 * H .n
+unfolding unseenSlots
+unseen-le H seen h = sum-most (H .n) 8 (λ x. cond (seen x) 0 (length (H .kids x))) (λ x b. part (seen x) (length (H .kids x)) (h x b))
   where
     part : (b : Bool) (k : ℕ) → k ≤ 8 → cond b 0 k ≤ 8
     part true k l = omega arith
     part false k l = l
 
--- the walk from the roots and sinks ends
-pub walk-ends : (H : Heap) (limit : ℕ) (roots : List ℕ) → Ready H → 1 ≤ limit → ((k : ℕ) → List·Memᴰ k roots → k ≤ H .n)
-    → finish H limit (begin H (starts H roots)) .todo ≡ []
-walk-ends H limit roots R p h =
-    finish-ends H limit R p (begin H (starts H roots)) (begin-inv H limit (starts H roots) R (starts-range H roots h))
+-- the walk from starts in range ends
+pub walk-ends : (H : Heap) (limit : ℕ) (from : List ℕ) → Ready H → 1 ≤ limit → ((k : ℕ) → List·Memᴰ k from → k ≤ H .n)
+    → finish H limit (begin H from) .todo ≡ []
+walk-ends H limit from R p h = finish-ends H limit R p (begin H from) (begin-inv H limit from R h)
 
 -- ---- one visit after the other
 

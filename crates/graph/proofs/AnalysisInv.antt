@@ -3,20 +3,22 @@
 -- Assumes nothing.
 use Prim.Native.Nat.{ℕ, _+_, _≤_}
 use mathlib.Core.Path.{_≡_, refl, sym, ap, ap₂, _∙_}
-use mathlib.Core.Bool.{Bool, true, false, not, _&&_, _||_, true≢false, false≢true}
-use mathlib.Core.List.{List, [], _∷_, _++_, List·Memᴰ, List·Memᴰ·head, List·Memᴰ·tail, List·Memᴰ·not-nil}
+use mathlib.Core.Bool.{Bool, true, false, not, _&&_, _||_, true≢false}
+use mathlib.Core.List.{List, [], _∷_, _++_, List·Memᴰ, List·Memᴰ·head, List·Memᴰ·tail, List·Memᴰ·append-cases, List·Memᴰ·not-nil}
 use mathlib.Core.Logic.{_≢_, _⊎_, inl, inr}
 use native.Mathlib.Decide.{ℕ-discrete}
 use native.Mathlib.Omega.{arith}
 use lib.Dec.{leb, eqb}
 use borrow.Author.Tests.{eqb-true, eqb-false, eq-eqb, ne-eqb, not-true, not-false, leb-true}
-use Rattle.graph.specs.Numbers.{upd, count, bit}
+use Rattle.graph.specs.Numbers.{upd, count, bit, gather}
 use Rattle.graph.specs.Heap.{Heap}
-use Rattle.graph.specs.Clusters.{size}
+use Rattle.graph.specs.Clusters.{size, sinksAt}
 use Rattle.graph.specs.Analysis.{Item, Work, items, bars, Visit, skip, older, alone, join, head, pick, kind, visitsOfCluster, pushed, seenBy, clBy, act}
 use Rattle.graph.specs.Invariant.{Connected, Heads, All, none, both, Ok, Ready, Inv}
 use Rattle.graph.proofs.NumberLaws.{upd-same, upd-other, sum-ext, sum-bump, sum-zero, gather-all}
+pub use Rattle.graph.proofs.NumberLaws.{and-split}
 use Rattle.graph.proofs.Paths.{heads-upd, upd-keeps, connected-join, connected-new}
+use Rattle.graph.proofs.SinkLaws.{sink-plain}
 
 -- ---- what the tests tell
 
@@ -38,10 +40,6 @@ Facts H limit seen cl o c head = Free H seen cl o
 pub or-split : (a b : Bool) → (a || b) ≡ false → (a ≡ false) × (b ≡ false)
 or-split true b e = absurd (true≢false e)
 or-split false b e = (refl, e)
-
-pub and-split : (a b : Bool) → (a && b) ≡ true → (a ≡ true) × (b ≡ true)
-and-split true b e = (refl, e)
-and-split false b e = absurd (false≢true e)
 
 pub facts : (H : Heap) (limit : ℕ) (seen : ℕ → Bool) (cl : ℕ → ℕ) (o c : ℕ) → Facts H limit seen cl o c (kind H limit seen cl o c)
 unfolding kind pick
@@ -238,7 +236,11 @@ module _ (H : Heap) (limit : ℕ) (R : Ready H) (seen : ℕ → Bool) (cl : ℕ 
   acts l older f =
       look _ _ (λ x e. or-split (eqb (cl x) (cl (i .obj))) (seen x) e .1)
       (λ x y p q. ap₂ (λ a b. eqb a (cl (i .obj)) || b) (I .kept x p ∙ q ∙ sym (I .kept y (λ j. p (q ∙ j)))) (I .whole x y p q))
-      (gather-all (λ k. k ≤ H .n) (H .n) _ (H .kids) (λ x q k m. R .closed x k m))
+      (λ k m. visits k (List·Memᴰ·append-cases _ m))
+    where
+      visits : (k : ℕ) → List·Memᴰ k (gather (H .n) (λ x. eqb (cl x) (cl (i .obj)) && H .out x) (H .kids)) ⊎ List·Memᴰ k (sinksAt H (cl (i .obj))) → k ≤ H .n
+      visits k (inl m) = gather-all (λ k. k ≤ H .n) (H .n) _ (H .kids) (λ x q k m. R .closed x k m) k m
+      visits k (inr m) = sink-plain H (R .listed-in) (cl (i .obj)) k m .0 .1
   acts l alone f = look _ _ upd-seen (whole-upd (no-older (f .1) (f .2))) (R .closed (i .obj))
   acts l join f =
       let t = all-first (I .visits) .from (f .1) in

@@ -12,15 +12,15 @@ use lib.Dec.{leb, eqb}
 use lib.ListN.{length-append}
 use borrow.Author.Tests.{eq-eqb, ne-eqb, le-leb, lt-leb}
 use Rattle.graph.specs.Numbers.{upd, gather}
-use Rattle.graph.specs.Heap.{Heap, starts}
-use Rattle.graph.specs.Clusters.{size}
+use Rattle.graph.specs.Heap.{Heap}
+use Rattle.graph.specs.Clusters.{size, sinksAt}
 use Rattle.graph.specs.Analysis.{Item, Work, items, bars, Visit, skip, older, alone, join, head, pick, kind, visitsOfCluster, pushed, seenBy, clBy, act, visit, step, begin, needed, finish, walked}
 use Rattle.graph.specs.DepthFirst.{Known, placed, Fresh, Meets, Visits, Forms}
 use Rattle.graph.specs.DepthFirst as Deep
 use Rattle.graph.specs.Invariant.{Ready, Inv}
 use Rattle.graph.proofs.NumberLaws.{upd-same, upd-other}
 use Rattle.graph.proofs.AnalysisInv.{all-first, size-more}
-use Rattle.graph.proofs.AnalysisEnds.{step-inv, step-falls, step-needed, begin-inv, starts-range, older-same, inv-front, finish-step, finish-done}
+use Rattle.graph.proofs.AnalysisEnds.{step-inv, step-falls, step-needed, begin-inv, older-same, inv-front, finish-step, finish-done}
 
 -- the objects that the walk by a list counts as seen: of a handled cluster all
 unfoldable seenOf : Heap → Known → ℕ → Bool
@@ -134,12 +134,12 @@ module _ (H : Heap) (limit o c : ℕ) (R : Ready H) (k : Known) (rest : List Ite
       (kind-by false true _ _ (rw (ne-eqb o 0 (λ e. nz (ap (H .cluster) e ∙ R .zero-none)), u) refl)
       (rw (ne-eqb (k .cl o) 0 (λ e. nz (sym (I .kept o nz) ∙ e))) refl) refl refl)
       ∙ (λ i. record {
-        todo = items 0 (gather (H .n) (λ x. same-members nz u x i && H .out x) (H .kids)) ++ rest;
+        todo = items 0 (gather (H .n) (λ x. same-members nz u x i && H .out x) (H .kids) ++ sinksAt H (I .kept o nz i)) ++ rest;
         seen = λ x. (same-members nz u x i || seenOf H k x);
         cl = k .cl;
       })
       ∙ (λ i. record {
-        todo = items 0 (gather (H .n) (λ x. eqb (H .cluster x) (H .cluster o) && H .out x) (H .kids)) ++ rest;
+        todo = items 0 (gather (H .n) (λ x. eqb (H .cluster x) (H .cluster o) && H .out x) (H .kids) ++ sinksAt H (H .cluster o)) ++ rest;
         seen = λ x. seen-handled nz x i;
         cl = k .cl;
       })
@@ -228,34 +228,32 @@ module _ (H : Heap) (limit : ℕ) (R : Ready H) (p : 1 ≤ limit) where
       front : (a b : List Item) (k : Known) → needed H (at H a k) ≤ needed H (at H (a ++ b) k)
       front a b k = unfold needed in (let e = length-append a b in omega arith)
 
-module _ (H : Heap) (limit : ℕ) (roots : List ℕ) (R : Ready H) (p : 1 ≤ limit) (h : (k : ℕ) → List·Memᴰ k roots → k ≤ H .n) where
+module _ (H : Heap) (limit : ℕ) (from : List ℕ) (R : Ready H) (p : 1 ≤ limit) (h : (k : ℕ) → List·Memᴰ k from → k ≤ H .n) where
   abbrev start : Known
   start = record { handled = λ h. false; seen = λ x. false; cl = H .cluster }
 
-  same-start : begin H (starts H roots) ≡ at H (items 0 (starts H roots)) start
+  same-start : begin H from ≡ at H (items 0 from) start
   unfolding begin seenOf
-  same-start i = record { todo = items 0 (starts H roots); seen = λ x. either (eqb (H .cluster x) 0) i; cl = H .cluster }
+  same-start i = record { todo = items 0 from; seen = λ x. either (eqb (H .cluster x) 0) i; cl = H .cluster }
     where
       either : (b : Bool) → false ≡ cond b false false
       either true = refl
       either false = refl
 
-  started : Inv H limit (at H (items 0 (starts H roots)) start)
-  started = subst (λ (w : Work). Inv H limit w) same-start (begin-inv H limit (starts H roots) R (starts-range H roots h))
+  started : Inv H limit (at H (items 0 from) start)
+  started = subst (λ (w : Work). Inv H limit w) same-start (begin-inv H limit from R h)
 
   -- it ends with the clusters of the walk by a list
-  ends-as : (k : Known) → Visits H limit 0 (starts H roots) start k → k .cl ≡ walked H limit roots
+  ends-as : (k : Known) → Visits H limit 0 from start k → k .cl ≡ walked H limit from
   unfolding walked
   ends-as k v =
       let e = visits-finish H limit R p v [] (rw append-nil started) .0 in
       sym (ap (λ (w : Work). w .cl) (ap (finish H limit) same-start ∙ rw append-nil at e ∙ finish-done H limit R p (at H [] k) refl))
 
   -- the walk of the analysis is the recursive one
-  pub forms : Forms H limit roots (walked H limit roots)
-  unfolding starts
-  forms = let t = visits-end H limit R p _ 0 (starts H roots) start started (le-refl _) in (t .0, t .1, ends-as (t .0) (t .1))
+  pub forms : Forms H limit from (walked H limit from)
+  forms = let t = visits-end H limit R p _ 0 from start started (le-refl _) in (t .0, t .1, ends-as (t .0) (t .1))
 
   -- and that has one end
-  pub forms-one : (cl : ℕ → ℕ) → Forms H limit roots cl → cl ≡ walked H limit roots
-  unfolding starts
+  pub forms-one : (cl : ℕ → ℕ) → Forms H limit from cl → cl ≡ walked H limit from
   forms-one cl t = sym (t .2) ∙ ends-as (t .0) (t .1)

@@ -7,6 +7,7 @@ pub mod RunLaws
 pub mod Paths
 pub mod OutLaws
 pub mod MemberLaws
+pub mod SinkLaws
 -- ---- the walk of a collection: in every heap, then with connected clusters
 pub mod ReachLaws
 pub mod RoundLaws

@@ -2,7 +2,7 @@
 -- Assumes nothing.
 use Prim.Native.Nat.{ℕ, zero, suc, _+_, _*_, _≤_, _<_}
 use mathlib.Core.Path.{_≡_, refl, sym, ap, _∙_}
-use mathlib.Core.Bool.{Bool, true, false, cond, _||_, or-true, false≢true}
+use mathlib.Core.Bool.{Bool, true, false, cond, _&&_, _||_, or-true, false≢true}
 use mathlib.Core.List.{List, [], _∷_, _++_, List·Memᴰ, List·Memᴰ·head, List·Memᴰ·tail, Memᴰ·append-left, Memᴰ·append-right, List·Memᴰ·append-cases, List·Memᴰ·not-nil, List·Memᴰ·eq-of-singleton}
 use mathlib.Core.Logic.{_≢_, _⊎_, inl, inr}
 use native.Mathlib.Decide.{ℕ-discrete}
@@ -11,7 +11,12 @@ use native.Mathlib.Omega.{arith}
 use lib.ListN.{length, getD, set, length-append}
 use lib.Dec.{eqb}
 use borrow.Author.Tests.{eqb-true, eq-eqb, ne-eqb}
-use Rattle.graph.specs.Numbers.{Obj, upd, has, bit, sum, count, gather}
+use Rattle.graph.specs.Numbers.{Obj, upd, has, bit, sum, count, gather, some, only}
+
+-- two tests that pass together
+pub and-split : (a b : Bool) → (a && b) ≡ true → (a ≡ true) × (b ≡ true)
+and-split true b e = (refl, e)
+and-split false b e = absurd (false≢true e)
 
 -- ---- a change at one place
 
@@ -102,6 +107,12 @@ sum-single (suc n) c f h = go (ℕ-discrete (suc n) c) (sum-single n c f h)
         let b : f (suc n) ≡ f c = ap f e in
         omega arith
     go (no e) rec = let a = h (suc n) e in omega arith
+
+pub sum-at : (n c : ℕ) (f : ℕ → ℕ) → 0 < c → c ≤ n → ((x : ℕ) → x ≢ c → f x ≡ 0) → sum n f ≡ f c
+sum-at n c f p q h =
+    let a = sum-bump n c (f c) (λ x. 0) f p q (omega arith) h in
+    let b = sum-zero n (λ x. 0) (λ x r s. refl) in
+    omega arith
 
 pub bit-le : (b : Bool) → bit b ≤ 1
 bit-le true = omega arith
@@ -282,3 +293,70 @@ gather-of n t x m =
 
 pub in-gather : (n : ℕ) (t : ℕ → Bool) (x : ℕ) → Obj n x → t x ≡ true → List·Memᴰ x (gather n t (λ y. y ∷ []))
 in-gather n t x b e = gather-in n t (λ y. y ∷ []) x x b e (List·Memᴰ·head refl)
+
+-- ---- whether one of 1 to n passes
+
+pub some-from : (n : ℕ) (t : ℕ → Bool) → some n t ≡ true → (x : ℕ) × Obj n x × (t x ≡ true)
+unfolding some
+some-from zero t e = absurd (false≢true e)
+some-from (suc n) t e = go (λ i. some-from n t i) (some n t) refl e
+  where
+    go : (some n t ≡ true → (x : ℕ) × Obj n x × (t x ≡ true)) → (b : Bool) → some n t ≡ b → (b || t (suc n)) ≡ true
+        → (x : ℕ) × Obj (suc n) x × (t x ≡ true)
+    go k true f e = let r = k f in (r .0, (r .1 .0, omega (arith, r .1 .1)), r .2)
+    go k false f e = (suc n, (omega arith, omega arith), e)
+
+pub some-in : (n : ℕ) (t : ℕ → Bool) (x : ℕ) → Obj n x → t x ≡ true → some n t ≡ true
+unfolding some
+some-in zero t x b e = absurd (omega arith)
+some-in (suc n) t x b e = go (λ l. some-in n t x (b .0, l) e) (le-suc-iff .0 (b .1))
+  where
+    go : (x ≤ n → some n t ≡ true) → (x ≤ n) ⊎ (x ≡ suc n) → (some n t || t (suc n)) ≡ true
+    go r (inl l) = rw (r l) refl
+    go r (inr q) = rw (ap t (sym q) ∙ e) (or-true (some n t))
+
+pub some-ext : (n : ℕ) (s t : ℕ → Bool) → ((x : ℕ) → Obj n x → s x ≡ t x) → some n s ≡ some n t
+unfolding some
+some-ext zero s t h = refl
+some-ext (suc n) s t h = rw (some-ext n s t (λ x b. h x (omega arith)), h (suc n) (omega arith)) refl
+
+pub some-none : (n : ℕ) (t : ℕ → Bool) → ((x : ℕ) → Obj n x → t x ≡ false) → some n t ≡ false
+unfolding some
+some-none zero t h = refl
+some-none (suc n) t h = rw (some-none n t (λ x b. h x (omega arith)), h (suc n) (omega arith)) refl
+
+-- ---- those of a list that pass
+
+pub only-from : (t : ℕ → Bool) (l : List ℕ) (y : ℕ) → List·Memᴰ y (only t l) → List·Memᴰ y l × (t y ≡ true)
+unfolding only
+only-from t [] y m = absurd (List·Memᴰ·not-nil m)
+only-from t (x ∷ l) y m = go (λ a. only-from t l y a) (t x) refl m
+  where
+    go : (List·Memᴰ y (only t l) → List·Memᴰ y l × (t y ≡ true)) → (b : Bool) → t x ≡ b → List·Memᴰ y (cond b (x ∷ only t l) (only t l))
+        → List·Memᴰ y (x ∷ l) × (t y ≡ true)
+    go k true e (List·Memᴰ·head q) = (List·Memᴰ·head q, ap t q ∙ e)
+    go k true e (List·Memᴰ·tail a) = let r = k a in (List·Memᴰ·tail (r .0), r .1)
+    go k false e a = let r = k a in (List·Memᴰ·tail (r .0), r .1)
+
+pub only-in : (t : ℕ → Bool) (l : List ℕ) (y : ℕ) → List·Memᴰ y l → t y ≡ true → List·Memᴰ y (only t l)
+unfolding only
+only-in t (x ∷ l) y (List·Memᴰ·head q) e = rw (ap t (sym q) ∙ e) (List·Memᴰ·head q)
+only-in t (x ∷ l) y (List·Memᴰ·tail m) e = go (t x) (only-in t l y m e)
+  where
+    go : (b : Bool) → List·Memᴰ y (only t l) → List·Memᴰ y (cond b (x ∷ only t l) (only t l))
+    go true a = List·Memᴰ·tail a
+    go false a = a
+
+pub only-ext : (s t : ℕ → Bool) (l : List ℕ) → ((y : ℕ) → List·Memᴰ y l → s y ≡ t y) → only s l ≡ only t l
+unfolding only
+only-ext s t [] h = refl
+only-ext s t (x ∷ l) h = rw (h x (List·Memᴰ·head refl), only-ext s t l (λ y m. h y (List·Memᴰ·tail m))) refl
+
+pub length-only : (t : ℕ → Bool) (l : List ℕ) → length (only t l) ≤ length l
+unfolding only
+length-only t [] = omega arith
+length-only t (x ∷ l) = go (t x) (length-only t l)
+  where
+    go : (b : Bool) → length (only t l) ≤ length l → length (cond b (x ∷ only t l) (only t l)) ≤ length (x ∷ l)
+    go true r = omega arith
+    go false r = omega arith

@@ -42,17 +42,21 @@ unfolding outBit
 outBit-same kids kids′ sink cl cl′ x e f h =
     rw (← e, ← f) (ap (λ k. not (eqb (cl x) 0) && ltb 0 k) (outCount-same sink cl cl′ (cl x) h (kids x)))
 
--- the same, where the clusters are equal at x and at its words
-pub outBit-words : (kids kids′ : ℕ → List ℕ) (sink : ℕ → Bool) (cl cl′ : ℕ → ℕ) (x : ℕ) → kids x ≡ kids′ x → cl x ≡ cl′ x
-    → ((y : ℕ) → List·Memᴰ y (kids x) → cl y ≡ cl′ y) → outBit kids sink cl x ≡ outBit kids′ sink cl′ x
+-- the same, where sinks and clusters are equal at the objects that x points at
+pub outBit-words : (kids kids′ : ℕ → List ℕ) (sink sink′ : ℕ → Bool) (cl cl′ : ℕ → ℕ) (x : ℕ) → kids x ≡ kids′ x → cl x ≡ cl′ x
+    → ((y : ℕ) → List·Memᴰ y (kids x) → y ≢ 0 → (sink y ≡ sink′ y) × (cl y ≡ cl′ y)) → outBit kids sink cl x ≡ outBit kids′ sink′ cl′ x
 unfolding outBit outCount leaves
-outBit-words kids kids′ sink cl cl′ x e f h = rw (← e, ← f) (ap (λ k. not (eqb (cl x) 0) && ltb 0 k) (counted (kids x) h))
+outBit-words kids kids′ sink sink′ cl cl′ x e f h = rw (← e, ← f) (ap (λ k. not (eqb (cl x) 0) && ltb 0 k) (counted (kids x) h))
   where
-    counted : (l : List ℕ) → ((y : ℕ) → List·Memᴰ y l → cl y ≡ cl′ y) → outCount sink cl (cl x) l ≡ outCount sink cl′ (cl x) l
+    one : (y : ℕ) → (y ≢ 0 → (sink y ≡ sink′ y) × (cl y ≡ cl′ y)) → Dec (y ≡ 0) → leaves sink cl (cl x) y ≡ leaves sink′ cl′ (cl x) y
+    one y g (yes z) = rw (eq-eqb y 0 z) refl
+    one y g (no nz) = rw (g nz .0, g nz .1) refl
+
+    counted : (l : List ℕ) → ((y : ℕ) → List·Memᴰ y l → y ≢ 0 → (sink y ≡ sink′ y) × (cl y ≡ cl′ y))
+        → outCount sink cl (cl x) l ≡ outCount sink′ cl′ (cl x) l
     counted [] g = refl
     counted (y ∷ l) g =
-        ap₂ (λ z k. bit (not (eqb y 0) && (not (sink y) && not (eqb z (cl x)))) + k) (g y (List·Memᴰ·head refl))
-        (counted l (λ z m. g z (List·Memᴰ·tail m)))
+        ap₂ (λ b k. bit b + k) (one y (g y (List·Memᴰ·head refl)) (ℕ-discrete y 0)) (counted l (λ z m. g z (List·Memᴰ·tail m)))
 
 pub outBit-none : (kids : ℕ → List ℕ) (sink : ℕ → Bool) (cl : ℕ → ℕ) (x : ℕ) → cl x ≡ 0 → outBit kids sink cl x ≡ false
 unfolding outBit

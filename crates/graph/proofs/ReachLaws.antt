@@ -1,16 +1,13 @@
 -- Laws of what paths of pointers lead to, and of the starts of the walks.
 -- Assumes nothing.
 use Prim.Native.Nat.{ℕ, _≤_}
-use mathlib.Core.Path.{_≡_}
 use mathlib.Core.Bool.{Bool, true, false, cond}
-use mathlib.Core.List.{List, [], _∷_, List·Memᴰ, List·Memᴰ·append-cases}
-use mathlib.Core.Logic.{_⊎_, inl, inr}
+use mathlib.Core.List.{List, [], _∷_, List·Memᴰ}
 use native.Mathlib.Omega.{arith}
 use lib.Dec.{eqb}
 use lib.ListN.{length}
-use Rattle.graph.specs.Numbers.{Obj, gather}
-use Rattle.graph.specs.Heap.{Heap, pointers, starts, Reach, start, along}
-use Rattle.graph.proofs.NumberLaws.{in-left, in-right, gather-of, in-gather}
+use Rattle.graph.specs.Numbers.{Obj}
+use Rattle.graph.specs.Heap.{Heap, pointers, Reach, start, along}
 use Rattle.graph.proofs.MemberLaws.{pointer-word, pointer-nonzero}
 
 -- ---- reachability
@@ -48,28 +45,6 @@ length-pointers (w ∷ l) = go (eqb w 0) (length-pointers l)
     go true r = omega arith
     go false r = omega arith
 
--- what holds of the roots and of the sinks holds of the starts
-pub starts-all : (Q : ℕ → Type 0) (H : Heap) (roots : List ℕ) → ((k : ℕ) → List·Memᴰ k roots → Q k)
-    → ((x : ℕ) → Obj (H .n) x → H .sink x ≡ true → Q x) → (k : ℕ) → List·Memᴰ k (starts H roots) → Q k
-unfolding starts
-starts-all Q H roots r s k m = go (List·Memᴰ·append-cases roots m)
-  where
-    go : List·Memᴰ k roots ⊎ List·Memᴰ k (gather (H .n) (H .sink) (λ x. x ∷ [])) → Q k
-    go (inl a) = r k a
-    go (inr a) = let t = gather-of (H .n) (H .sink) k a in s k (t .0) (t .1)
-
-module _ (H : Heap) (roots : List ℕ) where
-  pub root-start : (x : ℕ) → List·Memᴰ x roots → List·Memᴰ x (starts H roots)
-  unfolding starts
-  root-start x m = in-left x roots _ m
-
-  pub sink-start : (x : ℕ) → Obj (H .n) x → H .sink x ≡ true → List·Memᴰ x (starts H roots)
-  unfolding starts
-  sink-start x b e = in-right x roots _ (in-gather (H .n) (H .sink) x b e)
-
-  -- roots that are objects or 0 give starts in range
-  pub starts-range : ((x : ℕ) → List·Memᴰ x roots → x ≤ H .n) → (x : ℕ) → List·Memᴰ x (starts H roots) → x ≤ H .n
-  starts-range h = starts-all (λ k. k ≤ H .n) H roots h (λ x b e. b .1)
-
-  pub starts-ranged : ((x : ℕ) → List·Memᴰ x roots → x ≤ H .n) → (x : ℕ) → List·Memᴰ x (pointers (starts H roots)) → Obj (H .n) x
-  starts-ranged h x m = (omega (arith, pointer-nonzero (starts H roots) x m), starts-range h x (pointer-word (starts H roots) x m))
+-- starts that are objects or 0 are in range
+pub starts-ranged : (H : Heap) (from : List ℕ) → ((x : ℕ) → List·Memᴰ x from → x ≤ H .n) → (x : ℕ) → List·Memᴰ x (pointers from) → Obj (H .n) x
+starts-ranged H from h x m = (omega (arith, pointer-nonzero from x m), h x (pointer-word from x m))

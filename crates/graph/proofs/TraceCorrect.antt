@@ -6,10 +6,10 @@ use mathlib.Core.Bool.{Bool, true, false}
 use mathlib.Core.List.{List, List·Memᴰ}
 use mathlib.Core.Logic.{_↔_}
 use Rattle.graph.specs.Numbers.{Obj, count}
-use Rattle.graph.specs.Heap.{Heap, pointers, targets, withMembers, starts, Reach}
+use Rattle.graph.specs.Heap.{Heap, pointers, targets, withMembers, Reach}
 use Rattle.graph.specs.Clusters.{outBit}
 use Rattle.graph.specs.Trace.{Walk, traced, keeps, unclustered}
-use Rattle.graph.specs.Invariant.{Connected, Heads}
+use Rattle.graph.specs.Invariant.{Connected, Heads, Listed}
 use Rattle.graph.proofs.NumberLaws.{in-left}
 use Rattle.graph.proofs.Paths.{connected-head}
 use Rattle.graph.proofs.ReachLaws.{starts-ranged, reach-mono}
@@ -21,19 +21,20 @@ use Rattle.graph.proofs.TraceReach.{kept-reach, connected-reach}
 pub record Sound (H : Heap) (from : List ℕ) : Type 0 where
   pub starts-in : StartsIn H from
   pub targets-in : Ranged H
-  pub quiet : Quiet H from
+  pub quiet : Quiet H
   pub heads : Heads (H .cluster)
 
--- it follows from what holds of a heap between calls, with the roots in range
-pub sound-starts : (H : Heap) (roots : List ℕ) → Heads (H .cluster)
+-- it follows from what holds of a heap between calls, with the starts in range
+pub sound-starts : (H : Heap) (from : List ℕ) → Heads (H .cluster)
     → ((x y : ℕ) → List·Memᴰ y (H .kids x) → y ≤ H .n)
-    → ((x : ℕ) → Obj (H .n) x → H .out x ≡ outBit (H .kids) (H .sink) (H .cluster) x) → ((x : ℕ) → List·Memᴰ x roots → x ≤ H .n)
-    → Sound H (starts H roots)
-sound-starts H roots heads closed exact rooted =
+    → ((x : ℕ) → Obj (H .n) x → H .out x ≡ outBit (H .kids) (H .sink) (H .cluster) x) → ((x : ℕ) → List·Memᴰ x from → x ≤ H .n)
+    → Listed H → ((y : ℕ) → H .sink y ≡ true → List·Memᴰ y (H .listed))
+    → Sound H from
+sound-starts H from heads closed exact rooted in-list all =
     record {
-      starts-in = starts-ranged H roots rooted;
-      targets-in = words-ranged H closed;
-      quiet = exact-quiet H (words-ranged H closed) roots exact;
+      starts-in = starts-ranged H from rooted;
+      targets-in = words-ranged H closed in-list;
+      quiet = exact-quiet H exact all;
       heads = heads;
     }
 
@@ -70,7 +71,12 @@ unconnected H y c e nz = absurd (nz (sym e))
 
 plain-sound : (H : Heap) (from : List ℕ) → StartsIn H from → Ranged H → Sound (unclustered H) from
 plain-sound H from si R =
-    record { starts-in = si; targets-in = R; quiet = λ x y b nz. absurd (nz refl); heads = connected-head (H .kids) (λ x. 0) (unconnected H) }
+    record {
+      starts-in = si;
+      targets-in = record { targets-in = R .targets-in; listed-in = λ y m nz. (R .listed-in y m nz .0, refl) };
+      quiet = λ x y b nz. absurd (nz refl);
+      heads = connected-head (H .kids) (λ x. 0) (unconnected H);
+    }
 
 -- what is proved of the end of its walk
 pub record PlainCollected (H : Heap) (from : List ℕ) (w : Walk) : Type 0 where

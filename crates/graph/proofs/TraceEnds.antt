@@ -3,16 +3,18 @@
 use Prim.Native.Nat.{ℕ, zero, suc, _≤_, _<_}
 use mathlib.Core.Path.{_≡_, refl, sym, ap, subst, _∙_}
 use mathlib.Core.Bool.{Bool, true, false}
-use mathlib.Core.List.{List, [], _∷_}
+use mathlib.Core.List.{List, [], _∷_, List·Memᴰ, List·Memᴰ·head, List·Memᴰ·tail}
 use mathlib.Core.Logic.{_⊎_, inl, inr}
 use native.Mathlib.Omega.{arith}
 use lib.Dec.{eqb}
 use lib.ListN.{length, length-append}
 use Rattle.graph.specs.Numbers.{Obj, count, lowest}
 use Rattle.graph.specs.Heap.{Heap, targets}
-use Rattle.graph.specs.Trace.{marked, postponed, reached, Walk, scan, postpone, unpostpone, arrive, scanIf, scanOuts}
+use Rattle.graph.specs.Clusters.{sinksAt}
+use Rattle.graph.specs.Trace.{marked, postponed, reached, Walk, scan, postpone, unpostpone, arrive, scanIf, scanAll, scanOuts}
 use Rattle.graph.specs.Trace.{visitBy, visit, takeBy, take, stepBy, step, begin, weight, needed, finish, traced}
 use Rattle.graph.proofs.RunLaws as RunLaws
+use Rattle.graph.proofs.SinkLaws.{sink-plain}
 use Rattle.graph.proofs.LowestLaws.{lowest-passes, lowest-none, none-lowest}
 use Rattle.graph.proofs.FlagLaws.{marked≢postponed, reached≢marked, reached≢postponed, postponed≢marked, Is, setFlag-apart, rest}
 use Rattle.graph.proofs.FlagLaws.{rest-set, rest-other, count-grow, count-clear, count-other}
@@ -68,6 +70,15 @@ module _ (H : Heap) where
   weight-scanIf w o true false m e b = (refl, refl)
   weight-scanIf w o false c m e b = (refl, refl)
 
+  weight-scanAll : (l : List ℕ) (w : Walk) → ((y : ℕ) → List·Memᴰ y l → Obj n y)
+      → (weight H (scanAll H l w) ≡ weight H w) × (later (scanAll H l w) ≡ later w)
+  unfolding scanAll
+  weight-scanAll [] w h = (refl, refl)
+  weight-scanAll (y ∷ l) w h =
+      let t = weight-scanIf w y true true (w .flags marked y) refl (h y (List·Memᴰ·head refl)) in
+      let u = weight-scanAll l (scanIf H true true (w .flags marked y) y w) (λ z m. h z (List·Memᴰ·tail m)) in
+      (u .0 ∙ t .0, u .1 ∙ t .1)
+
   weight-scanOuts : (h k : ℕ) (w : Walk) → k ≤ n → (weight H (scanOuts H h k w) ≡ weight H w) × (later (scanOuts H h k w) ≡ later w)
   unfolding scanOuts
   weight-scanOuts h zero w le = (refl, refl)
@@ -77,19 +88,20 @@ module _ (H : Heap) where
       (u .0 ∙ t .0, u .1 ∙ t .1)
 
   -- a visit leaves the weight, and postpones at most one object
-  weight-visitBy : (w : Walk) (o : ℕ) (z h m r : Bool) → w .flags marked o ≡ m → Obj n o
+  weight-visitBy : Ranged H → (w : Walk) (o : ℕ) (z h m r : Bool) → w .flags marked o ≡ m → Obj n o
       → (weight H (visitBy H z h m r o w) ≡ weight H w) × (later (visitBy H z h m r o w) ≤ suc (later w))
   unfolding visitBy
-  weight-visitBy w o true h true r e b = (refl, omega arith)
-  weight-visitBy w o true h false r e b = let t = weight-scan w o b e in (t .0, omega arith)
-  weight-visitBy w o false true m true e b = (refl, omega arith)
-  weight-visitBy w o false true m false e b =
-      let t = weight-arrive w o in
-      let u = weight-scanOuts o n (arrive H o w) (omega arith) in
-      (u .0 ∙ t .0, omega arith)
-  weight-visitBy w o false false true r e b = (refl, omega arith)
-  weight-visitBy w o false false false true e b = (refl, omega arith)
-  weight-visitBy w o false false false false e b = weight-postpone w o b
+  weight-visitBy R w o true h true r e b = (refl, omega arith)
+  weight-visitBy R w o true h false r e b = let t = weight-scan w o b e in (t .0, omega arith)
+  weight-visitBy R w o false true m true e b = (refl, omega arith)
+  weight-visitBy R w o false true m false e b =
+      let a = weight-scanAll (sinksAt H o) w (λ y q. sink-plain H (R .listed-in) o y q .0) in
+      let t = weight-arrive (scanAll H (sinksAt H o) w) o in
+      let u = weight-scanOuts o n (arrive H o (scanAll H (sinksAt H o) w)) (omega arith) in
+      (u .0 ∙ t .0 ∙ a .0, omega arith)
+  weight-visitBy R w o false false true r e b = (refl, omega arith)
+  weight-visitBy R w o false false false true e b = (refl, omega arith)
+  weight-visitBy R w o false false false false e b = weight-postpone w o b
 
   weight-takeBy : (w : Walk) (o : ℕ) (m r : Bool) → w .flags marked o ≡ m → Obj n o
       → (weight H (takeBy H m r o w) ≡ weight H w) × (later (takeBy H m r o w) ≡ later w)
@@ -120,33 +132,33 @@ module _ (H : Heap) where
   unfolding needed later
   take-falls w m b i = let t = weight-take w m b i in (omega arith, omega arith)
 
-  pub visit-falls : (w : Walk) (o : ℕ) (r : List ℕ) → w .todo ≡ o ∷ r → Obj n o
+  pub visit-falls : Ranged H → (w : Walk) (o : ℕ) (r : List ℕ) → w .todo ≡ o ∷ r → Obj n o
       → Falls w (visit H o (record { flags = w .flags; todo = r; scanned = w .scanned }))
   unfolding visit needed weight later
-  visit-falls w o r e b =
+  visit-falls R w o r e b =
       let w′ : Walk = record { flags = w .flags; todo = r; scanned = w .scanned } in
-      let t = weight-visitBy w′ o (eqb (cluster o) 0) (eqb (cluster o) o) (w .flags marked o) (w .flags reached (cluster o)) refl b in
+      let t = weight-visitBy R w′ o (eqb (cluster o) 0) (eqb (cluster o) o) (w .flags marked o) (w .flags reached (cluster o)) refl b in
       let x : length (w .todo) ≡ suc (length r) = ap length e in
       (omega arith, omega arith)
 
-  falls-stepBy : (l : List ℕ) (w : Walk) → w .todo ≡ l → Safe H w → Ended w ⊎ Falls w (stepBy H l w)
+  falls-stepBy : Ranged H → (l : List ℕ) (w : Walk) → w .todo ≡ l → Safe H w → Ended w ⊎ Falls w (stepBy H l w)
   unfolding stepBy
-  falls-stepBy [] w e v = go (lowest (λ x. w .flags postponed x) n) refl
+  falls-stepBy R [] w e v = go (lowest (λ x. w .flags postponed x) n) refl
     where
       go : (m : ℕ) → lowest (λ x. w .flags postponed x) n ≡ m → Ended w ⊎ Falls w (take H m w)
       go zero q = inl (e, lowest-none (λ x. w .flags postponed x) n q)
       go (suc m) q =
           let t = lowest-passes (λ x. w .flags postponed x) n m q in
           inr (take-falls w m (subst (λ z. Obj n z) q (t .0)) (subst (λ z. Is (w .flags) postponed z) q (t .1)))
-  falls-stepBy (o ∷ r) w e v = inr (visit-falls w o r e (safe-rest H w o r e v .0))
+  falls-stepBy R (o ∷ r) w e v = inr (visit-falls R w o r e (safe-rest H w o r e v .0))
 
   -- a walk that has not ended comes nearer to its end
-  pub step-falls : (w : Walk) → Safe H w → Ended w ⊎ Falls w (step H w)
+  pub step-falls : Ranged H → (w : Walk) → Safe H w → Ended w ⊎ Falls w (step H w)
   unfolding step
-  step-falls w v = falls-stepBy (w .todo) w refl v
+  step-falls R w v = falls-stepBy R (w .todo) w refl v
 
-  needed-falls : (w : Walk) → Safe H w → Ended w ⊎ (needed H (step H w) < needed H w)
-  needed-falls w v = go (step-falls w v)
+  needed-falls : Ranged H → (w : Walk) → Safe H w → Ended w ⊎ (needed H (step H w) < needed H w)
+  needed-falls R w v = go (step-falls R w v)
     where
       go : Ended w ⊎ Falls w (step H w) → Ended w ⊎ (needed H (step H w) < needed H w)
       go (inl end) = inl end
@@ -171,12 +183,12 @@ module _ (H : Heap) where
   module _ (R : Ranged H) where
     pub finish-ends : (w : Walk) → Safe H w → Ended (finish H w)
     unfolding finish
-    finish-ends = RunLaws.finish-ends (step H) (needed H) (Safe H) Ended (safe-step H R) ended-step needed-falls
+    finish-ends = RunLaws.finish-ends (step H) (needed H) (Safe H) Ended (safe-step H R) ended-step (needed-falls R)
 
     -- a step leaves the end of the walk as it is: what a loop that makes the steps keeps
     pub finish-step : (w : Walk) → Safe H w → finish H (step H w) ≡ finish H w
     unfolding finish
-    finish-step = RunLaws.finish-step (step H) (needed H) (Safe H) Ended (safe-step H R) ended-step needed-falls
+    finish-step = RunLaws.finish-step (step H) (needed H) (Safe H) Ended (safe-step H R) ended-step (needed-falls R)
 
   pub traced-ends : Ranged H → (from : List ℕ) → StartsIn H from → Ended (traced H from)
   unfolding traced

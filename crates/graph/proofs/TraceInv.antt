@@ -9,6 +9,7 @@ use native.Mathlib.Decide.{ℕ-discrete}
 use Rattle.graph.specs.Numbers.{Obj, count}
 use Rattle.graph.specs.Heap.{Heap, pointers, targets}
 use Rattle.graph.specs.Trace.{Flag, marked, postponed, reached, Flags, setFlag, Walk, scan, postpone, unpostpone, arrive}
+use Rattle.graph.specs.Clusters.{sinksAt}
 use Rattle.graph.proofs.NumberLaws.{in-left, in-right}
 use Rattle.graph.proofs.FlagLaws.{marked≢postponed, marked≢reached, reached≢marked, reached≢postponed, postponed≢marked}
 use Rattle.graph.proofs.FlagLaws.{postponed≢reached, setFlag-other, setFlag-apart, Is, set-cases, set-keeps, clear-cases, count-set}
@@ -48,6 +49,7 @@ module _ (H : Heap) where
       pub starts-seen : (x : ℕ) → List·Memᴰ x (pointers from) → Seen D w x
       pub targets-seen : (x y : ℕ) → Is (w .flags) marked x → List·Memᴰ y (targets H x) → Seen D w y
       pub outs-marked : (x : ℕ) → Obj n x → Is (w .flags) reached (cluster x) → out x ≡ true → O x ⊎ Is (w .flags) marked x
+      pub sinks-marked : (h y : ℕ) → Is (w .flags) reached h → List·Memᴰ y (sinksAt H h) → Is (w .flags) marked y
       pub heads : (x : ℕ) → Is (w .flags) marked x → cluster x ≡ x → Is (w .flags) reached x
       pub counted : w .scanned ≡ count n (λ x. w .flags marked x)
 
@@ -57,15 +59,17 @@ module _ (H : Heap) where
         → (f ≡ marked → (y : ℕ) → List·Memᴰ y (targets H o) → List·Memᴰ y new)
         → (f ≡ reached → (x : ℕ) → Obj n x → cluster x ≡ o → O′ x)
         → ((x : ℕ) → O x → O′ x)
+        → (f ≡ reached → (y : ℕ) → List·Memᴰ y (sinksAt H o) → Is (w .flags) marked y)
         → (f ≡ marked → cluster o ≡ o → Is (w .flags) reached o)
         → c ≡ count n (λ x. setFlag (w .flags) f o true marked x)
         → Inv D O′ (record { flags = setFlag (w .flags) f o true; todo = new ++ w .todo; scanned = c })
-    inv-set D O O′ w f o new c v at-later at-marked at-reached widen at-head many =
+    inv-set D O O′ w f o new c v at-later at-marked at-reached widen at-sinks at-head many =
         record {
           later-member = λ x i. later′ x (set-cases s f o postponed x i);
           starts-seen = λ x m. seen x (v .starts-seen x m);
           targets-seen = λ x y i m. targets′ x y m (set-cases s f o marked x i);
           outs-marked = λ x b i e. outs′ x b e (set-cases s f o reached (cluster x) i);
+          sinks-marked = λ h y i m. sinks′ h y m (set-cases s f o reached h i);
           heads = λ x i e. heads′ x e (set-cases s f o marked x i);
           counted = many;
         }
@@ -98,6 +102,10 @@ module _ (H : Heap) where
             old (inl y) = inl (widen x y)
             old (inr y) = inr (set-keeps s f o marked x y)
 
+        sinks′ : (h y : ℕ) → List·Memᴰ y (sinksAt H h) → ((o ≡ h) × (f ≡ reached)) ⊎ Is s reached h → Is (setFlag s f o true) marked y
+        sinks′ h y m (inl (e, q)) = set-keeps s f o marked y (at-sinks q y (subst (λ z. List·Memᴰ y (sinksAt H z)) (sym e) m))
+        sinks′ h y m (inr i) = set-keeps s f o marked y (v .sinks-marked h y i m)
+
         heads′ : (x : ℕ) → cluster x ≡ x → ((o ≡ x) × (f ≡ marked)) ⊎ Is s marked x → Is (setFlag s f o true) reached x
         heads′ x e (inl (q, g)) = set-keeps s f o reached x (subst (λ z. Is s reached z) q (at-head g (subst (λ z. cluster z ≡ z) (sym q) e)))
         heads′ x e (inr i) = set-keeps s f o reached x (v .heads x i e)
@@ -113,6 +121,7 @@ module _ (H : Heap) where
           starts-seen = λ x m. seen x (v .starts-seen x m);
           targets-seen = λ x y i m. seen y (v .targets-seen x y i m);
           outs-marked = λ x b i e. outs x b e (v .outs-marked x b i e);
+          sinks-marked = v .sinks-marked;
           heads = v .heads;
           counted = v .counted;
         }
@@ -135,6 +144,7 @@ module _ (H : Heap) where
           starts-seen = λ x m. seen x (v .starts-seen x m);
           targets-seen = λ x y i m. seen y (v .targets-seen x y i m);
           outs-marked = v .outs-marked;
+          sinks-marked = v .sinks-marked;
           heads = v .heads;
           counted = v .counted;
         }
@@ -158,21 +168,22 @@ module _ (H : Heap) where
     unfolding scan
     inv-scan D O w o v b e hd =
         inv-set D O O w marked o (targets H o) (suc (w .scanned)) v (λ q. absurd (marked≢postponed q)) (λ _ y m. m)
-        (λ q. absurd (marked≢reached q)) (λ x y. y) (λ _. hd)
+        (λ q. absurd (marked≢reached q)) (λ x y. y) (λ q. absurd (marked≢reached q)) (λ _. hd)
         (ap suc (v .counted) ∙ sym (count-set n (w .flags) marked o b e))
 
     pub inv-postpone : (D O : ℕ → Type 0) (w : Walk) (o : ℕ) → Inv D O w → (cluster o ≢ 0) × (cluster o ≢ o) → Inv D O (postpone H o w)
     unfolding postpone
     inv-postpone D O w o v h =
         inv-set D O O w postponed o [] (w .scanned) v (λ _. h) (λ q. absurd (postponed≢marked q)) (λ q. absurd (postponed≢reached q)) (λ x y. y)
-        (λ q. absurd (postponed≢marked q))
+        (λ q. absurd (postponed≢reached q)) (λ q. absurd (postponed≢marked q))
         (v .counted ∙ sym (count-other n (w .flags) postponed o true marked postponed≢marked))
 
-    pub inv-arrive : (D : ℕ → Type 0) (w : Walk) (h : ℕ) → Inv D None w → Inv D (Upto cluster h n) (arrive H h w)
+    pub inv-arrive : (D : ℕ → Type 0) (w : Walk) (h : ℕ) → Inv D None w → ((y : ℕ) → List·Memᴰ y (sinksAt H h) → Is (w .flags) marked y)
+        → Inv D (Upto cluster h n) (arrive H h w)
     unfolding arrive
-    inv-arrive D w h v =
+    inv-arrive D w h v sm =
         inv-set D None (Upto cluster h n) w reached h [] (w .scanned) v (λ q. absurd (reached≢postponed q)) (λ q. absurd (reached≢marked q))
-        (λ _ x b q. (q, b .1)) (λ x y. absurd y) (λ q. absurd (reached≢marked q))
+        (λ _ x b q. (q, b .1)) (λ x y. absurd y) (λ _. sm) (λ q. absurd (reached≢marked q))
         (v .counted ∙ sym (count-other n (w .flags) reached h true marked reached≢marked))
 
     -- o is no longer postponed: it is an exception until it is found kept or is scanned
@@ -184,6 +195,7 @@ module _ (H : Heap) where
           starts-seen = λ x m. seen x (v .starts-seen x m);
           targets-seen = λ x y i m. seen y (v .targets-seen x y (before marked x i) m);
           outs-marked = λ x b i e. outs x (v .outs-marked x b (before reached (cluster x) i) e);
+          sinks-marked = λ h y i m. after marked y postponed≢marked (v .sinks-marked h y (before reached h i) m);
           heads = λ x i e. after reached x postponed≢reached (v .heads x (before marked x i) e);
           counted = v .counted ∙ sym (count-other n s postponed o false marked postponed≢marked);
         }

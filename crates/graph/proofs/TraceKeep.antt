@@ -9,13 +9,14 @@ use native.Mathlib.Omega.{arith}
 use lib.Dec.{eqb}
 use borrow.Author.Tests.{eqb-false, eq-eqb, ne-eqb}
 use Rattle.graph.specs.Numbers.{Obj, count, gather}
-use Rattle.graph.specs.Heap.{Heap, pointers, targets, withMembers, starts, Reach}
-use Rattle.graph.specs.Clusters.{outBit}
+use Rattle.graph.specs.Heap.{Heap, pointers, targets, withMembers, Reach}
+use Rattle.graph.specs.Clusters.{outBit, sinksAt}
 use Rattle.graph.specs.Trace.{marked, reached, Flags, Walk, traced, keeps}
 use Rattle.graph.specs.Invariant.{Heads}
 use Rattle.graph.proofs.NumberLaws.{count-within, count-ext}
-use Rattle.graph.proofs.MemberLaws.{word-pointer, pointer-word, pointer-nonzero, member-of, no-out}
-use Rattle.graph.proofs.ReachLaws.{reach-all, sink-start}
+use Rattle.graph.proofs.MemberLaws.{pointer-word, pointer-nonzero, member-of, no-out}
+use Rattle.graph.proofs.SinkLaws.{sinks-in}
+use Rattle.graph.proofs.ReachLaws.{reach-all}
 use Rattle.graph.proofs.FlagLaws.{Is}
 use Rattle.graph.proofs.TraceSafe.{Ranged, StartsIn}
 use Rattle.graph.proofs.TraceInv.{None, Kept, Seen, Inv}
@@ -95,26 +96,20 @@ module _ (H : Heap) where
 
   -- ---- kept is closed under pointers
 
-  -- a pointer of a member without the out bit stays in the cluster or leads to a start
-  abbrev pub Quiet : List ℕ → Type 0
-  Quiet from =
-      (x y : ℕ) → Obj n x → cluster x ≢ 0 → out x ≡ false → List·Memᴰ y (targets H x) → (cluster y ≡ cluster x) ⊎ List·Memᴰ y (pointers from)
+  -- a pointer of a member without the out bit stays in the cluster or leads to a sink of its head's set
+  abbrev pub Quiet : Type 0
+  Quiet =
+      (x y : ℕ) → Obj n x → cluster x ≢ 0 → out x ≡ false → List·Memᴰ y (targets H x) → (cluster y ≡ cluster x) ⊎ List·Memᴰ y (sinksAt H (cluster x))
 
-  -- for the starts of a collection: it stays in the cluster or leads to a sink
-  pub sinks-quiet : Ranged H → (roots : List ℕ)
-      → ((x y : ℕ) → Obj n x → cluster x ≢ 0 → out x ≡ false → List·Memᴰ y (targets H x) → (sink y ≡ true) ⊎ (cluster y ≡ cluster x))
-      → Quiet (starts H roots)
-  sinks-quiet R roots h x y b nz e m = go (h x y b nz e m)
+  -- so it does where out bits are exact and every sink is listed
+  pub exact-quiet : ((x : ℕ) → Obj n x → out x ≡ outBit kids sink cluster x) → ((y : ℕ) → sink y ≡ true → List·Memᴰ y (H .listed)) → Quiet
+  exact-quiet exact all x y b nz e m =
+      go (no-out kids sink cluster x y nz (sym (exact x b) ∙ e) (pointer-word (kids x) y m) (pointer-nonzero (kids x) y m))
     where
-      go : (sink y ≡ true) ⊎ (cluster y ≡ cluster x) → (cluster y ≡ cluster x) ⊎ List·Memᴰ y (pointers (starts H roots))
-      go (inl s) = inr (word-pointer (starts H roots) y (pointer-nonzero (kids x) y m) (sink-start H roots y (R x y b m) s))
+      go : (sink y ≡ true) ⊎ (cluster y ≡ cluster x) → (cluster y ≡ cluster x) ⊎ List·Memᴰ y (sinksAt H (cluster x))
+      go (inl s) =
+          inr (sinks-in H (cluster x) y x (all y s) (pointer-nonzero (kids x) y m) b refl (pointer-word (kids x) y m))
       go (inr q) = inl q
-
-  -- so it does where out bits are exact
-  pub exact-quiet : Ranged H → (roots : List ℕ) → ((x : ℕ) → Obj n x → out x ≡ outBit kids sink cluster x) → Quiet (starts H roots)
-  exact-quiet R roots exact =
-      sinks-quiet R roots
-      (λ x y b nz e m. no-out kids sink cluster x y nz (sym (exact x b) ∙ e) (pointer-word (kids x) y m) (pointer-nonzero (kids x) y m))
 
   module _ (R : Ranged H) (from : List ℕ) (si : StartsIn H from) where
     pub start-kept : (x : ℕ) → List·Memᴰ x (pointers from) → keeps H (traced H from .flags) x ≡ true
@@ -122,7 +117,7 @@ module _ (H : Heap) where
         let v = traced-inv H from R si in
         kept→keeps (traced H from .flags) x (seen-kept from (traced H from) v (traced-ends H R from si) x (si x m) (v .starts-seen x m))
 
-    module _ (Q : Quiet from) where
+    module _ (Q : Quiet) where
       pub kept-closed : (x y : ℕ) → Obj n x → keeps H (traced H from .flags) x ≡ true → List·Memᴰ y (targets H x)
           → keeps H (traced H from .flags) y ≡ true
       kept-closed x y b k m = go (keeps→kept s x k)
@@ -134,15 +129,15 @@ module _ (H : Heap) where
           v = traced-inv H from R si
 
           by-mark : Is s marked x → keeps H s y ≡ true
-          by-mark i = kept→keeps s y (seen-kept from (traced H from) v (traced-ends H R from si) y (R x y b m) (v .targets-seen x y i m))
+          by-mark i = kept→keeps s y (seen-kept from (traced H from) v (traced-ends H R from si) y (R .targets-in x y b m) (v .targets-seen x y i m))
 
           out-member : ⊥ ⊎ Is s marked x → keeps H s y ≡ true
           out-member (inl z) = absurd z
           out-member (inr i) = by-mark i
 
-          quietly : cluster x ≢ 0 → Is s reached (cluster x) → (cluster y ≡ cluster x) ⊎ List·Memᴰ y (pointers from) → keeps H s y ≡ true
+          quietly : cluster x ≢ 0 → Is s reached (cluster x) → (cluster y ≡ cluster x) ⊎ List·Memᴰ y (sinksAt H (cluster x)) → keeps H s y ≡ true
           quietly nz i (inl e) = kept→keeps s y (inr (λ z. nz (sym e ∙ z), subst (λ z. Is s reached z) (sym e) i))
-          quietly nz i (inr q) = start-kept y q
+          quietly nz i (inr q) = kept→keeps s y (inl (v .sinks-marked (cluster x) y i q))
 
           by-out : (o : Bool) → out x ≡ o → cluster x ≢ 0 → Is s reached (cluster x) → keeps H s y ≡ true
           by-out true e nz i = out-member (v .outs-marked x b i e)
@@ -161,7 +156,7 @@ module _ (H : Heap) where
           next : (x y : ℕ) → Obj n x × (keeps H (traced H from .flags) x ≡ true)
               → List·Memᴰ y (targets H x) ⊎ List·Memᴰ y (gather n (λ z. eqb (cluster z) x) (λ z. z ∷ []))
               → Obj n y × (keeps H (traced H from .flags) y ≡ true)
-          next x y t (inl m) = (R x y (t .0) m, kept-closed x y (t .0) (t .1) m)
+          next x y t (inl m) = (R .targets-in x y (t .0) m, kept-closed x y (t .0) (t .1) m)
           next x y t (inr m) =
               let g = member-of n cluster x y m in
               let c : cluster y ≢ 0 = λ z. absurd (omega (arith, t .0 .0, g .1, z)) in

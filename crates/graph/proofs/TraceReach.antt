@@ -12,14 +12,16 @@ use Rattle.graph.specs.Numbers.{Obj, lowest, gather}
 use Rattle.graph.specs.Heap.{Heap, pointers, targets, withMembers, Reach, start, along}
 use Rattle.graph.specs.Run as Run
 use Rattle.graph.specs.Trace.{Flag, marked, postponed, reached, Flags, setFlag, Walk, noFlags, scan, postpone, unpostpone, arrive}
-use Rattle.graph.specs.Trace.{scanIf, scanOuts, visitBy, visit, takeBy, take, stepBy, step, begin, needed, finish, traced}
+use Rattle.graph.specs.Trace.{scanIf, scanAll, scanOuts, visitBy, visit, takeBy, take, stepBy, step, begin, needed, finish, traced}
+use Rattle.graph.specs.Clusters.{sinksAt}
 use Rattle.graph.specs.Invariant.{Connected}
 use Rattle.graph.proofs.NumberLaws.{in-left, in-right, in-gather}
 use Rattle.graph.proofs.RunLaws.{run-keeps}
 use Rattle.graph.proofs.LowestLaws.{lowest-passes}
 use Rattle.graph.proofs.FlagLaws.{Is, set-cases, clear-cases}
 use Rattle.graph.proofs.ReachLaws.{reach-all}
-use Rattle.graph.proofs.MemberLaws.{pointer-nonzero, member-of, reach-member}
+use Rattle.graph.proofs.MemberLaws.{word-pointer, pointer-nonzero, member-of, reach-member}
+use Rattle.graph.proofs.SinkLaws.{sinks-from}
 use Rattle.graph.proofs.TraceInv.{Kept}
 
 module _ (H : Heap) (from : List ℕ) where
@@ -75,6 +77,22 @@ module _ (H : Heap) (from : List ℕ) where
   just-scanIf true false m h o w e b r v = v
   just-scanIf false c m h o w e b r v = v
 
+  just-scanAll : (l : List ℕ) (w : Walk) → ((y : ℕ) → List·Memᴰ y l → Live y) → Justified w → Justified (scanAll H l w)
+  unfolding scanAll
+  just-scanAll [] w h v = v
+  just-scanAll (y ∷ l) w h v = just-scanAll l _ (λ z m. h z (List·Memᴰ·tail m)) (one (w .flags marked y))
+    where
+      one : (b : Bool) → Justified (scanIf H true true b y w)
+      one true = unfold scanIf in v
+      one false = unfold scanIf in (just-scan w y (h y (List·Memᴰ·head refl)) v)
+
+  -- a sink of the set at a reachable head is reachable, through the member that points at it
+  sink-live : (h y : ℕ) → Live h → List·Memᴰ y (sinksAt H h) → Live y
+  sink-live h y r m =
+      let t = sinks-from H h y m in
+      let x = t .2 .0 in
+      along (member-live x h (t .2 .1) (t .2 .2) r) (in-left y (targets H x) _ (word-pointer (H .kids x) y (t .1) (t .2 .3)))
+
   just-scanOuts : (h k : ℕ) (w : Walk) → k ≤ n → Live h → Justified w → Justified (scanOuts H h k w)
   unfolding scanOuts
   just-scanOuts h zero w le r v = v
@@ -89,7 +107,8 @@ module _ (H : Heap) (from : List ℕ) where
   just-visitBy true h false r o w l v = just-scan w o l v
   just-visitBy false true m true o w l v = v
   just-visitBy false true m false o w l v =
-      just-scanOuts o n (arrive H o w) (omega arith) l (just-arrive w o l v)
+      just-scanOuts o n (arrive H o (scanAll H (sinksAt H o) w)) (omega arith) l
+      (just-arrive (scanAll H (sinksAt H o) w) o l (just-scanAll (sinksAt H o) w (λ y m. sink-live o y l m) v))
   just-visitBy false false true r o w l v = v
   just-visitBy false false false true o w l v = v
   just-visitBy false false false false o w l v = just-postpone w o l v

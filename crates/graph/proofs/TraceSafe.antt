@@ -9,18 +9,25 @@ use native.Mathlib.Omega.{arith}
 use lib.Dec.{eqb}
 use Rattle.graph.specs.Numbers.{Obj, lowest}
 use Rattle.graph.specs.Heap.{Heap, pointers, targets}
-use Rattle.graph.specs.Trace.{marked, postponed, reached, Walk, scan, postpone, unpostpone, arrive, scanIf, scanOuts, visitBy, visit}
+use Rattle.graph.specs.Trace.{marked, postponed, reached, Walk, scan, postpone, unpostpone, arrive, scanIf, scanAll, scanOuts, visitBy, visit}
 use Rattle.graph.specs.Trace.{takeBy, take, stepBy, step, begin}
+use Rattle.graph.specs.Clusters.{sinksAt}
+use Rattle.graph.specs.Invariant.{Listed}
 use Rattle.graph.proofs.MemberLaws.{pointer-word, pointer-nonzero}
+use Rattle.graph.proofs.SinkLaws.{sink-plain}
 use Rattle.graph.proofs.LowestLaws.{lowest-passes}
 
--- the pointers of objects are in range
-abbrev pub Ranged : Heap → Type 0
-Ranged H = (x y : ℕ) → Obj (H .n) x → List·Memᴰ y (targets H x) → Obj (H .n) y
+-- the pointers of objects are in range, and so are the listed sinks, which have no cluster
+pub record Ranged (H : Heap) : Type 0 where
+  pub targets-in : (x y : ℕ) → Obj (H .n) x → List·Memᴰ y (targets H x) → Obj (H .n) y
+  pub listed-in : Listed H
 
 -- as they are if no word points above n
-pub words-ranged : (H : Heap) → ((x y : ℕ) → List·Memᴰ y (H .kids x) → y ≤ H .n) → Ranged H
-words-ranged H h x y b m = (omega (arith, pointer-nonzero (H .kids x) y m), h x y (pointer-word (H .kids x) y m))
+pub words-ranged : (H : Heap) → ((x y : ℕ) → List·Memᴰ y (H .kids x) → y ≤ H .n) → Listed H → Ranged H
+words-ranged H h l = record {
+  targets-in = λ x y b m. (omega (arith, pointer-nonzero (H .kids x) y m), h x y (pointer-word (H .kids x) y m));
+  listed-in = l;
+}
 
 -- so are the starts
 abbrev pub StartsIn : Heap → List ℕ → Type 0
@@ -51,7 +58,7 @@ module _ (H : Heap) where
     safe-scan w o b v = record { todo-in = λ x m. at x (List·Memᴰ·append-cases (targets H o) m) }
       where
         at : (x : ℕ) → List·Memᴰ x (targets H o) ⊎ List·Memᴰ x (w .todo) → Obj n x
-        at x (inl m) = R o x b m
+        at x (inl m) = R .targets-in o x b m
         at x (inr m) = v .todo-in x m
 
     safe-scanIf : (a c m : Bool) (o : ℕ) (w : Walk) → Obj n o → Safe H w → Safe H (scanIf H a c m o w)
@@ -60,6 +67,12 @@ module _ (H : Heap) where
     safe-scanIf true true true o w b v = v
     safe-scanIf true false m o w b v = v
     safe-scanIf false c m o w b v = v
+
+    pub safe-scanAll : (l : List ℕ) (w : Walk) → ((y : ℕ) → List·Memᴰ y l → Obj n y) → Safe H w → Safe H (scanAll H l w)
+    unfolding scanAll
+    safe-scanAll [] w h v = v
+    safe-scanAll (y ∷ l) w h v =
+        safe-scanAll l _ (λ z m. h z (List·Memᴰ·tail m)) (safe-scanIf true true (w .flags marked y) y w (h y (List·Memᴰ·head refl)) v)
 
     pub safe-scanOuts : (h k : ℕ) (w : Walk) → k ≤ n → Safe H w → Safe H (scanOuts H h k w)
     unfolding scanOuts
@@ -73,7 +86,9 @@ module _ (H : Heap) where
     safe-visitBy true h true r o w b v = v
     safe-visitBy true h false r o w b v = safe-scan w o b v
     safe-visitBy false true m true o w b v = v
-    safe-visitBy false true m false o w b v = safe-scanOuts o n (arrive H o w) (omega arith) (record { todo-in = v .todo-in })
+    safe-visitBy false true m false o w b v =
+        let u = safe-scanAll (sinksAt H o) w (λ y m. sink-plain H (R .listed-in) o y m .0) v in
+        safe-scanOuts o n (arrive H o (scanAll H (sinksAt H o) w)) (omega arith) (record { todo-in = u .todo-in })
     safe-visitBy false false true r o w b v = v
     safe-visitBy false false false true o w b v = v
     safe-visitBy false false false false o w b v = record { todo-in = v .todo-in }

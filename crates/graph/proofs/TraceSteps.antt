@@ -3,7 +3,7 @@
 use Prim.Native.Nat.{ℕ, zero, suc, _≤_}
 use mathlib.Core.Path.{_≡_, refl, sym, subst, _∙_}
 use mathlib.Core.Bool.{Bool, true, false, true≢false}
-use mathlib.Core.List.{List, [], _∷_}
+use mathlib.Core.List.{List, [], _∷_, List·Memᴰ, List·Memᴰ·head, List·Memᴰ·tail, List·Memᴰ·not-nil}
 use mathlib.Core.Logic.{_≢_, _⊎_, inl, inr}
 use native.Mathlib.Nat.{le-suc-iff}
 use native.Mathlib.Omega.{arith}
@@ -12,16 +12,18 @@ use borrow.Author.Tests.{eqb-true, eqb-false}
 use Rattle.graph.specs.Numbers.{Obj, lowest}
 use Rattle.graph.specs.Heap.{Heap}
 use Rattle.graph.specs.Run as Run
-use Rattle.graph.specs.Trace.{Flag, marked, postponed, reached, Walk, noFlags, scan, postpone, unpostpone, arrive, scanIf, scanOuts}
+use Rattle.graph.specs.Trace.{Flag, marked, postponed, reached, Walk, noFlags, scan, postpone, unpostpone, arrive, scanIf, scanAll, scanOuts}
 use Rattle.graph.specs.Trace.{visitBy, visit, takeBy, take, stepBy, step, begin, needed, finish, traced}
+use Rattle.graph.specs.Clusters.{sinksAt}
 use Rattle.graph.proofs.NumberLaws.{count-none}
+use Rattle.graph.proofs.SinkLaws.{sink-plain}
 use Rattle.graph.proofs.RunLaws.{run-keeps}
 use Rattle.graph.proofs.LowestLaws.{lowest-passes}
 use Rattle.graph.proofs.FlagLaws.{postponed≢marked, postponed≢reached, setFlag-same, setFlag-apart, Is, set-keeps}
 use Rattle.graph.proofs.TraceSafe.{Ranged, StartsIn, Safe, safe-begin, safe-rest, safe-step}
 use Rattle.graph.proofs.TraceInv.{None, Upto, Handled, Inv, change, pop, inv-scan, inv-postpone, inv-arrive, inv-unpostpone}
 
-module _ (H : Heap) (from : List ℕ) where
+module _ (H : Heap) (from : List ℕ) (R : Ranged H) where
   open Heap H using (n, cluster, out)
 
   -- suc k is looked at, of the members of h's cluster
@@ -58,19 +60,52 @@ module _ (H : Heap) (from : List ℕ) where
       let t = inv-scanIf D w h k (out (suc k)) (eqb (cluster (suc k)) h) (w .flags marked (suc k)) refl refl refl le i v in
       inv-scanOuts D h k (scanIf H (out (suc k)) (eqb (cluster (suc k)) h) (w .flags marked (suc k)) (suc k) w) (omega arith) (t .1) (t .0)
 
+  -- a list of objects in no cluster is scanned: each is marked then, and no flag is lost
+  inv-scanAll : (D O : ℕ → Type 0) (l : List ℕ) (w : Walk) → ((y : ℕ) → List·Memᴰ y l → Obj n y × (cluster y ≡ 0)) → Inv H from D O w
+      → Inv H from D O (scanAll H l w) × ((y : ℕ) → List·Memᴰ y l → Is (scanAll H l w .flags) marked y)
+      × ((f : Flag) (x : ℕ) → Is (w .flags) f x → Is (scanAll H l w .flags) f x)
+  unfolding scanAll
+  inv-scanAll D O [] w h v = (v, (λ y m. absurd (List·Memᴰ·not-nil m)), λ f x i. i)
+  inv-scanAll D O (y ∷ l) w h v =
+      let p = h y (List·Memᴰ·head refl) in
+      let t = one (w .flags marked y) refl (p .0) (p .1) in
+      let u = inv-scanAll D O l (scanIf H true true (w .flags marked y) y w) (λ z m. h z (List·Memᴰ·tail m)) (t .0) in
+      (u .0, (λ z m. each z m (t .1) (u .1) (u .2)), λ f x i. u .2 f x (t .2 f x i))
+    where
+      one : (b : Bool) → w .flags marked y ≡ b → Obj n y → cluster y ≡ 0
+          → Inv H from D O (scanIf H true true b y w) × Is (scanIf H true true b y w .flags) marked y
+          × ((f : Flag) (x : ℕ) → Is (w .flags) f x → Is (scanIf H true true b y w .flags) f x)
+      one true e b z = unfold scanIf in (v, e, λ f x i. i)
+      one false e b z = unfold scanIf in (
+        inv-scan H from D O w y v b e (λ q. absurd (omega (arith, b .0, sym q ∙ z))),
+        unfold scan in (setFlag-same (w .flags) marked y true),
+        λ f x i. unfold scan in (set-keeps (w .flags) marked y f x i),
+      )
+
+      each : (z : ℕ) → List·Memᴰ z (y ∷ l) → Is (scanIf H true true (w .flags marked y) y w .flags) marked y
+          → ((z : ℕ) → List·Memᴰ z l → Is (scanAll H l (scanIf H true true (w .flags marked y) y w) .flags) marked z)
+          → ((f : Flag) (x : ℕ) → Is (scanIf H true true (w .flags marked y) y w .flags) f x
+          → Is (scanAll H l (scanIf H true true (w .flags marked y) y w) .flags) f x)
+          → Is (scanAll H l (scanIf H true true (w .flags marked y) y w) .flags) marked z
+      each z (List·Memᴰ·head e) i a k = k marked z (subst (λ x. Is (scanIf H true true (w .flags marked y) y w .flags) marked x) (sym e) i)
+      each z (List·Memᴰ·tail m) i a k = a z m
+
   -- the object taken is handled
   close : (w : Walk) (o : ℕ) → Inv H from (λ x. x ≡ o) None w → Handled H (w .flags) o → Inv H from None None w
   close w o v h =
       change H from (λ x. x ≡ o) None None None w v (λ x e. inl (subst (λ z. Handled H (w .flags) z) (sym e) h)) (λ x b e z. absurd z)
 
-  -- a head's visit: the cluster is reached, and its out members are scanned
-  inv-head : (w : Walk) (o : ℕ) → cluster o ≡ o → Obj n o → Inv H from (λ x. x ≡ o) None w → Inv H from None None (scanOuts H o n (arrive H o w))
+  -- a head's visit: its sinks are scanned, the cluster is reached, and its out members are scanned
+  inv-head : (w : Walk) (o : ℕ) → cluster o ≡ o → Obj n o → Inv H from (λ x. x ≡ o) None w
+      → Inv H from None None (scanOuts H o n (arrive H o (scanAll H (sinksAt H o) w)))
   inv-head w o e b v =
-      let w′ = scanOuts H o n (arrive H o w) in
-      let i : Is (arrive H o w .flags) reached o = unfold arrive in (setFlag-same (w .flags) reached o true) in
-      let t = inv-scanOuts (λ x. x ≡ o) o n (arrive H o w) (omega arith) i (inv-arrive H from (λ x. x ≡ o) w o v) in
-      let u = change H from (λ x. x ≡ o) (Upto cluster o 0) (λ x. x ≡ o) None w′ (t .0) (λ x d. inr (inr d)) (λ x c q y. absurd (omega arith)) in
-      close w′ o u (inl (inr (λ z. absurd (omega arith), subst (λ x. Is (w′ .flags) reached x) (sym e) (t .1))))
+      let u = scanAll H (sinksAt H o) w in
+      let a = inv-scanAll (λ x. x ≡ o) None (sinksAt H o) w (λ y m. sink-plain H (R .listed-in) o y m) v in
+      let w′ = scanOuts H o n (arrive H o u) in
+      let i : Is (arrive H o u .flags) reached o = unfold arrive in (setFlag-same (u .flags) reached o true) in
+      let t = inv-scanOuts (λ x. x ≡ o) o n (arrive H o u) (omega arith) i (inv-arrive H from (λ x. x ≡ o) u o (a .0) (a .1)) in
+      let z = change H from (λ x. x ≡ o) (Upto cluster o 0) (λ x. x ≡ o) None w′ (t .0) (λ x d. inr (inr d)) (λ x c q y. absurd (omega arith)) in
+      close w′ o z (inl (inr (λ q. absurd (omega arith), subst (λ x. Is (w′ .flags) reached x) (sym e) (t .1))))
 
   inv-visitBy : (w : Walk) (o : ℕ) (z h m r : Bool) → eqb (cluster o) 0 ≡ z → eqb (cluster o) o ≡ h → w .flags marked o ≡ m
       → w .flags reached (cluster o) ≡ r
@@ -144,11 +179,12 @@ module _ (H : Heap) (from : List ℕ) where
         starts-seen = λ x m. inr (inl m);
         targets-seen = λ x y i m. absurd (true≢false (sym i));
         outs-marked = λ x b i e. absurd (true≢false (sym i));
+        sinks-marked = λ h y i m. absurd (true≢false (sym i));
         heads = λ x i e. absurd (true≢false (sym i));
         counted = sym (count-none n (λ x. false) (λ x b. refl));
       }
 
-  module _ (R : Ranged H) (si : StartsIn H from) where
+  module _ (si : StartsIn H from) where
     -- at every step
     pub run-inv : (k : ℕ) → Safe H (Run.run (step H) k (begin H from)) × Inv H from None None (Run.run (step H) k (begin H from))
     run-inv k =

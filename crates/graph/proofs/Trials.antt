@@ -16,14 +16,14 @@ use Rattle.graph.specs.Trials as Trials
 -- whoever unfolds this unfolds every definition that a heap is computed by
 unfoldable pub computed : ℕ
 unfolding
-    Numbers.has Numbers.upd Numbers.sum Numbers.count Numbers.gather Numbers.lowestOf Numbers.lowest
-    Heap.pointers Heap.starts
+    Numbers.has Numbers.upd Numbers.sum Numbers.count Numbers.gather Numbers.some Numbers.only Numbers.lowestOf Numbers.lowest
+    Heap.pointers
     Rounds.anyOf Rounds.round Rounds.rounds
     Run.run Run.finish
-    Clusters.size Clusters.keep Clusters.others Clusters.leaves Clusters.outCount Clusters.outBit Clusters.outsOf
-    Trace.sameFlag Trace.setFlag Trace.noFlags Trace.scan Trace.postpone Trace.unpostpone Trace.arrive Trace.scanIf Trace.scanOuts Trace.visitBy Trace.visit Trace.takeBy Trace.take Trace.stepBy Trace.step Trace.begin Trace.weight Trace.needed Trace.finish Trace.traced Trace.keeps
+    Clusters.size Clusters.keep Clusters.others Clusters.leaves Clusters.outCount Clusters.outBit Clusters.outsOf Clusters.pointed Clusters.inSet Clusters.sinksAt
+    Trace.sameFlag Trace.setFlag Trace.noFlags Trace.scan Trace.postpone Trace.unpostpone Trace.arrive Trace.scanIf Trace.scanAll Trace.scanOuts Trace.visitBy Trace.visit Trace.takeBy Trace.take Trace.stepBy Trace.step Trace.begin Trace.weight Trace.needed Trace.finish Trace.traced Trace.keeps
     Analysis.items Analysis.bars Analysis.pick Analysis.kind Analysis.visitsOfCluster Analysis.pushed Analysis.seenBy Analysis.clBy Analysis.act Analysis.visit Analysis.step Analysis.begin Analysis.needed Analysis.finish Analysis.walked Analysis.isNew Analysis.newHead Analysis.over Analysis.few Analysis.stays Analysis.outLossOf Analysis.leftClusters Analysis.analyse
-    Writes.dissolves Writes.stored Writes.storeBy Writes.lossBy Writes.store Writes.lossOf Writes.declare
+    Writes.dissolves Writes.stored Writes.storeBy Writes.lossBy Writes.store Writes.lossOf Writes.placed Writes.declare
 computed = 0
 
 -- analyses: out loss and clusters; collections: what is kept, and how many are scanned; writes: how many are dissolved

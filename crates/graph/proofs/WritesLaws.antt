@@ -13,12 +13,12 @@ use borrow.Author.Tests.{eqb-false, eq-eqb, ne-eqb, not-true, not-false}
 use Rattle.graph.specs.Numbers.{upd, bit, count, has}
 use Rattle.graph.specs.Heap.{Heap}
 use Rattle.graph.specs.Clusters.{keep, size, outBit, others}
-use Rattle.graph.specs.Writes.{dissolves, stored, storeBy, lossBy, store, lossOf, declare}
+use Rattle.graph.specs.Writes.{dissolves, stored, storeBy, lossBy, store, lossOf, placed, declare}
 use Rattle.graph.specs.Invariant.{Connected}
-use Rattle.graph.proofs.NumberLaws.{upd-same, upd-other, bit-le, sum-add, sum-mono, mem-set, mem-of-set, has-in}
+use Rattle.graph.proofs.NumberLaws.{and-split, upd-same, upd-other, bit-le, sum-add, sum-mono, mem-set, mem-of-set, has-in}
 use Rattle.graph.proofs.Paths.{connected-keep, connected-kids, keep-out, keep-zero}
+use Rattle.graph.proofs.SinkLaws.{placed-from, placed-keeps, placed-there}
 use Rattle.graph.proofs.OutLaws.{outBit-same, outBit-keep, outBit-none}
-use Rattle.graph.proofs.AnalysisInv.{and-split}
 use Rattle.graph.proofs.State.{Good, clustered, keep-fewer}
 
 others-same : (c : ℕ) → others c c ≡ false
@@ -83,6 +83,9 @@ module _ (H : Heap) (loss o k t : ℕ) (G : Good H loss) (p : t ≤ H .n) where
     range = λ x r. G .range x (λ j. r (keep-zero (others c) (H .cluster) x j));
     sinks = λ x e. keep-zero (others c) (H .cluster) x (G .sinks x e);
     exact = λ x. exact′ x (ℕ-discrete x o);
+    listed-in = G .listed-in;
+    listed-all = G .listed-all;
+    sink-none = G .sink-none;
     losses = let a = dissolve-count (H .n) (H .cluster) c q in let b = G .losses in omega arith;
   }
     where
@@ -113,6 +116,9 @@ module _ (H : Heap) (loss o k t : ℕ) (G : Good H loss) (p : t ≤ H .n) where
     range = G .range;
     sinks = G .sinks;
     exact = λ x. exact′ x (ℕ-discrete x o);
+    listed-in = G .listed-in;
+    listed-all = G .listed-all;
+    sink-none = G .sink-none;
     losses = let b = G .losses in omega arith;
   }
     where
@@ -159,15 +165,19 @@ write-fits H loss o k t G e =
 
 -- ---- sinks
 
-pub declare-good : (H : Heap) (loss o : ℕ) → Good H loss → Good (declare H o) loss
+-- with an empty place, or of a sink
+pub declare-good : (H : Heap) (loss o : ℕ) → Good H loss → o ≢ 0 → o ≤ H .n → (H .sink o ≡ false → List·Memᴰ 0 (H .listed)) → Good (declare H o) loss
 unfolding declare clustered
-declare-good H loss o G = record {
+declare-good H loss o G nz le room = record {
   conn = connected-keep (H .kids) (others c) (H .cluster) (G .conn);
   zero-none = keep-zero (others c) (H .cluster) 0 (G .zero-none);
   closed = G .closed;
   range = λ x r. G .range x (λ j. r (keep-zero (others c) (H .cluster) x j));
   sinks = λ x e. sinks′ x e (ℕ-discrete x o);
   exact = λ x. refl;
+  listed-in = λ y m z. in′ y z (H .sink o) refl m;
+  listed-all = λ y e. all′ y e (ℕ-discrete y o) (H .sink o) refl;
+  sink-none = λ e. G .sink-none (sym (upd-other (H .sink) o 0 true (λ z. nz (sym z))) ∙ e);
   losses =
       let a = keep-fewer (H .n) (others c) (H .cluster) in
       let b = G .losses in
@@ -180,6 +190,29 @@ declare-good H loss o G = record {
     sinks′ : (x : ℕ) → upd (H .sink) o true x ≡ true → Dec (x ≡ o) → keep (others c) (H .cluster) x ≡ 0
     sinks′ x e (yes i) = keep-out (others c) (H .cluster) c x (ap (H .cluster) i) (others-same c)
     sinks′ x e (no i) = keep-zero (others c) (H .cluster) x (G .sinks x (sym (upd-other (H .sink) o x true i) ∙ e))
+
+    was : (y : ℕ) → y ≢ 0 → List·Memᴰ y (H .listed) → Dec (y ≡ o) → (y ≤ H .n) × (upd (H .sink) o true y ≡ true)
+    was y z m (yes e) = (rw e le, rw e (upd-same (H .sink) o true))
+    was y z m (no e) = let t = G .listed-in y m z in (t .0, upd-other (H .sink) o y true e ∙ t .1)
+
+    in′ : (y : ℕ) → y ≢ 0 → (b : Bool) → H .sink o ≡ b → List·Memᴰ y (cond b (H .listed) (placed o (H .listed)))
+        → (y ≤ H .n) × (upd (H .sink) o true y ≡ true)
+    in′ y z true f m = was y z m (ℕ-discrete y o)
+    in′ y z false f m = go (placed-from o (H .listed) y m)
+      where
+        go : (y ≡ o) ⊎ List·Memᴰ y (H .listed) → (y ≤ H .n) × (upd (H .sink) o true y ≡ true)
+        go (inl e) = (rw e le, rw e (upd-same (H .sink) o true))
+        go (inr a) = was y z a (ℕ-discrete y o)
+
+    nonzero : (y : ℕ) → H .sink y ≡ true → y ≢ 0
+    nonzero y e z = G .sink-none (ap (H .sink) (sym z) ∙ e)
+
+    all′ : (y : ℕ) → upd (H .sink) o true y ≡ true → Dec (y ≡ o) → (b : Bool) → H .sink o ≡ b → List·Memᴰ y (cond b (H .listed) (placed o (H .listed)))
+    all′ y e (yes i) true f = G .listed-all y (ap (H .sink) i ∙ f)
+    all′ y e (yes i) false f = rw i (placed-there o (H .listed) (room f))
+    all′ y e (no i) true f = G .listed-all y (sym (upd-other (H .sink) o y true i) ∙ e)
+    all′ y e (no i) false f =
+        let s : H .sink y ≡ true = sym (upd-other (H .sink) o y true i) ∙ e in placed-keeps o (H .listed) y (G .listed-all y s) (nonzero y s)
 
 -- to dissolve no cluster changes none
 keep-all : (cl : ℕ → ℕ) (x : ℕ) → keep (others 0) cl x ≡ cl x
@@ -197,6 +230,7 @@ declare-again H loss o G e = λ i. record {
   n = H .n;
   kids = H .kids;
   sink = same-sink i;
+  listed = same-listed i;
   written = H .written;
   cluster = same-cluster i;
   out = same-out i;
@@ -208,6 +242,9 @@ declare-again H loss o G e = λ i. record {
         go : (x : ℕ) → Dec (x ≡ o) → upd (H .sink) o true x ≡ H .sink x
         go x (yes i) = rw i (upd-same (H .sink) o true ∙ sym e)
         go x (no i) = upd-other (H .sink) o x true i
+
+    same-listed : cond (H .sink o) (H .listed) (placed o (H .listed)) ≡ H .listed
+    same-listed = rw e refl
 
     same-cluster : keep (others (H .cluster o)) (H .cluster) ≡ H .cluster
     same-cluster = rw (G .sinks o e) (fun-ext (keep-all (H .cluster)))

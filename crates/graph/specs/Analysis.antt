@@ -5,8 +5,8 @@ use mathlib.Core.List.{List, [], _∷_, _++_}
 use lib.Dec.{leb, ltb, eqb}
 use lib.ListN.{length}
 use Rattle.graph.specs.Numbers.{upd, sum, count, gather}
-use Rattle.graph.specs.Heap.{Heap, starts}
-use Rattle.graph.specs.Clusters.{size, keep, outBit, outsOf}
+use Rattle.graph.specs.Heap.{Heap}
+use Rattle.graph.specs.Clusters.{size, keep, outBit, outsOf, sinksAt}
 use Rattle.graph.specs.Run as Run
 
 -- ---- the walk
@@ -49,9 +49,9 @@ unfoldable pub kind : Heap → ℕ → (ℕ → Bool) → (ℕ → ℕ) → ℕ 
 kind H limit seen cl o c =
     pick (eqb o 0 || seen o) (not (eqb (cl o) 0)) (bars H o) (not (eqb c 0) && leb (size (H .n) cl c + 1) limit)
 
--- what a met older cluster leads to: each out member's pointers, members in number order
+-- what a met older cluster leads to: each out member's pointers, members in number order, then its sinks by place
 unfoldable pub visitsOfCluster : Heap → (ℕ → ℕ) → ℕ → List ℕ
-visitsOfCluster H cl c = gather (H .n) (λ x. eqb (cl x) c && H .out x) (H .kids)
+visitsOfCluster H cl c = gather (H .n) (λ x. eqb (cl x) c && H .out x) (H .kids) ++ sinksAt H c
 
 -- the visits that come next after a visit to o, to which c was passed
 unfoldable pub pushed : Heap → (ℕ → ℕ) → ℕ → ℕ → Visit → List Item
@@ -94,17 +94,17 @@ step H limit w = visit H limit (w .seen) (w .cl) (w .todo)
 unfoldable pub begin : Heap → List ℕ → Work
 begin H from = record { todo = items 0 from; seen = λ x. false; cl = H .cluster }
 
--- steps that are enough: the visits to make, and the slots of objects that are not seen
+-- steps that are enough: the visits to make, and, of the objects that are not seen, the slots and the sets
 unfoldable pub needed : Heap → Work → ℕ
-needed H w = length (w .todo) + sum (H .n) (λ x. cond (w .seen x) 0 (length (H .kids x)))
+needed H w = length (w .todo) + sum (H .n) (λ x. cond (w .seen x) 0 (length (H .kids x) + length (sinksAt H x)))
 
 -- the walk to its end ("Analysis")
 unfoldable pub finish : Heap → ℕ → Work → Work
 finish H limit w = Run.finish (step H limit) (needed H) w
 
--- the clusters when the walk from the roots and sinks is over
+-- the clusters when the walk from these starts is over
 unfoldable pub walked : Heap → ℕ → List ℕ → ℕ → ℕ
-walked H limit roots = finish H limit (begin H (starts H roots)) .cl
+walked H limit from = finish H limit (begin H from) .cl
 
 -- ---- what is left
 
@@ -140,7 +140,7 @@ module _ (P : Rule) (H : Heap) (cl : ℕ → ℕ) where
 
 -- the clusters that are left
 unfoldable pub leftClusters : Rule → Heap → ℕ → List ℕ → ℕ → ℕ
-leftClusters P H limit roots = keep (stays P H (walked H limit roots)) (walked H limit roots)
+leftClusters P H limit from = keep (stays P H (walked H limit from)) (walked H limit from)
 
 -- clusters: formed by this analysis and left; members: theirs
 pub record Analysed : Type 0 where
@@ -151,17 +151,18 @@ pub record Analysed : Type 0 where
 
 -- the heap, the out loss and the counts that an analysis with this limit leaves ("Analysis")
 unfoldable pub analyse : Rule → Heap → ℕ → List ℕ → Analysed
-analyse P H limit roots =
+analyse P H limit from =
     record {
       heap = record {
         n = H .n;
         kids = H .kids;
         sink = H .sink;
+        listed = H .listed;
         written = λ x. false;
-        cluster = leftClusters P H limit roots;
-        out = outBit (H .kids) (H .sink) (leftClusters P H limit roots);
+        cluster = leftClusters P H limit from;
+        out = outBit (H .kids) (H .sink) (leftClusters P H limit from);
       };
-      outLoss = outLossOf P H (walked H limit roots);
-      clusters = count (H .n) (λ h. eqb (H .cluster h) 0 && eqb (leftClusters P H limit roots h) h);
-      members = count (H .n) (λ x. eqb (H .cluster x) 0 && not (eqb (leftClusters P H limit roots x) 0));
+      outLoss = outLossOf P H (walked H limit from);
+      clusters = count (H .n) (λ h. eqb (H .cluster h) 0 && eqb (leftClusters P H limit from h) h);
+      members = count (H .n) (λ x. eqb (H .cluster x) 0 && not (eqb (leftClusters P H limit from x) 0));
     }

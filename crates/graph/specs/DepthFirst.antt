@@ -7,7 +7,7 @@ use mathlib.Core.Logic.{_≢_}
 use lib.Dec.{eqb}
 use Rattle.graph.specs.Numbers.{upd, gather}
 use Rattle.graph.specs.Heap.{Heap}
-use Rattle.graph.specs.Clusters.{size}
+use Rattle.graph.specs.Clusters.{size, sinksAt}
 
 -- the older clusters that were handled, the objects that were seen, and the cluster of each object, older or new
 pub record Known : Type 0 where
@@ -26,9 +26,9 @@ Fresh H k o = (o ≢ 0) × (H .cluster o ≡ 0) × (k .seen o ≡ false)
 -- `Meets H limit o c k l d k′`: a visit to o, with cluster c passed, turns k into k′ and then leads to visits of the objects l, with d passed
 pub data Meets (H : Heap) (limit o c : ℕ) (k : Known) : List ℕ → ℕ → Known → Type 0 where
   nil : o ≡ 0 → Meets H limit o c k [] 0 k
-  -- an older cluster, met at any member, is handled once
+  -- an older cluster, met at any member, is handled once: its out members' pointers, then its sinks by place
   older : H .cluster o ≢ 0 → k .handled (H .cluster o) ≡ false
-      → Meets H limit o c k (gather (H .n) (λ x. eqb (H .cluster x) (H .cluster o) && H .out x) (H .kids)) 0
+      → Meets H limit o c k (gather (H .n) (λ x. eqb (H .cluster x) (H .cluster o) && H .out x) (H .kids) ++ sinksAt H (H .cluster o)) 0
       (record { handled = upd (k .handled) (H .cluster o) true; seen = k .seen; cl = k .cl })
   again : H .cluster o ≢ 0 → k .handled (H .cluster o) ≡ true → Meets H limit o c k [] 0 k
   seen : H .cluster o ≡ 0 → k .seen o ≡ true → Meets H limit o c k [] 0 k
@@ -46,9 +46,9 @@ pub data Visits (H : Heap) (limit : ℕ) : ℕ → List ℕ → Known → Known 
   first : {o c d : ℕ} {l m : List ℕ} {k k₁ k₂ k₃ : Known} → Meets H limit o c k m d k₁ → Visits H limit d m k₁ k₂ → Visits H limit c l k₂ k₃
       → Visits H limit c (o ∷ l) k k₃
 
--- the walk from the roots and then from the sinks, none of them passed a cluster, ends with the clusters cl
+-- the walk from these starts, none of them passed a cluster, ends with the clusters cl
 abbrev pub Forms : Heap → ℕ → List ℕ → (ℕ → ℕ) → Type 0
-Forms H limit roots cl =
+Forms H limit from cl =
     (k : Known)
-    × Visits H limit 0 (roots ++ gather (H .n) (H .sink) (λ x. x ∷ [])) (record { handled = λ h. false; seen = λ x. false; cl = H .cluster }) k
+    × Visits H limit 0 from (record { handled = λ h. false; seen = λ x. false; cl = H .cluster }) k
     × (k .cl ≡ cl)

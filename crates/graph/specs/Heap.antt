@@ -6,11 +6,13 @@ use lib.Dec.{eqb}
 use Rattle.graph.specs.Numbers.{gather}
 
 -- kids: an object's used slots in order, each the number that its word points at or 0 for no pointer; a free object has none.
+-- listed: the sinks by place, 0 for an empty place.
 -- cluster: the head of the object's cluster, 0 for none. out is the term of "The heap": see `outBit`. written: stored into since the last analysis.
 pub record Heap : Type 0 where
   pub n : ℕ
   pub kids : ℕ → List ℕ
   pub sink : ℕ → Bool
+  pub listed : List ℕ
   pub written : ℕ → Bool
   pub cluster : ℕ → ℕ
   pub out : ℕ → Bool
@@ -23,10 +25,6 @@ pointers (w ∷ l) = cond (eqb w 0) (pointers l) (w ∷ pointers l)
 -- the pointers of an object, by slot
 abbrev pub targets : Heap → ℕ → List ℕ
 targets H x = pointers (H .kids x)
-
--- where every walk begins ("Analysis", "Collection"): the roots by index, then the sinks by number
-unfoldable pub starts : Heap → List ℕ → List ℕ
-starts H roots = roots ++ gather (H .n) (H .sink) (λ x. x ∷ [])
 
 -- the pointers of an object, and the members of the cluster that it heads
 abbrev pub withMembers : Heap → ℕ → List ℕ

@@ -1,9 +1,11 @@
 -- What the walk of the analysis keeps at each step. Contracts of the crate `analyse` speak of it; no demand rests on it.
 use Prim.Native.Nat.{ℕ, _≤_}
 use mathlib.Core.Path.{_≡_}
-use mathlib.Core.Bool.{true, false}
+use mathlib.Core.Bool.{Bool, true, false, cond}
 use mathlib.Core.List.{List, [], _∷_, List·Memᴰ}
 use mathlib.Core.Logic.{_≢_}
+use lib.ListN.{length}
+use Rattle.graph.specs.Numbers.{sum}
 use Rattle.graph.specs.Heap.{Heap}
 use Rattle.graph.specs.Clusters.{size}
 use Rattle.graph.specs.Analysis.{Item, Work, bars}
@@ -31,12 +33,17 @@ pub record Ok (H : Heap) (cl : ℕ → ℕ) (i : Item) : Type 0 where
   pub fits : i .obj ≤ H .n
   pub from : i .passed ≢ 0 → (x : ℕ) × (cl x ≡ i .passed) × List·Memᴰ (i .obj) (H .kids x) × (H .cluster (i .passed) ≡ 0)
 
+-- every listed sink is an object in no cluster
+abbrev pub Listed : Heap → Type 0
+Listed H = (y : ℕ) → List·Memᴰ y (H .listed) → y ≢ 0 → (y ≤ H .n) × (H .cluster y ≡ 0)
+
 -- What the check for damage makes sure of, as far as the walk needs it. That clusters are connected is not among it: no call checks that.
 pub record Ready (H : Heap) : Type 0 where
   pub heads : Heads (H .cluster)
   pub zero-none : H .cluster 0 ≡ 0
   pub closed : (x y : ℕ) → List·Memᴰ y (H .kids x) → y ≤ H .n
   pub range : (x : ℕ) → H .cluster x ≢ 0 → x ≤ H .n
+  pub listed-in : Listed H
 
 -- what holds before each visit: older clusters stay as they are and are seen whole, written objects and sinks join nothing, a new cluster
 -- has at most the limit, and connected clusters stay connected
@@ -56,3 +63,7 @@ pub record Inv (H : Heap) (limit : ℕ) (w : Work) : Type 0 where
 -- the table holds the size of each cluster that is not older
 unfoldable pub Sizes : Heap → (ℕ → ℕ) → (ℕ → ℕ) → Type 0
 Sizes H cl table = (c : ℕ) → c ≢ 0 → H .cluster c ≡ 0 → table c ≡ size (H .n) cl c
+
+-- the slots of the objects that are not seen: the room that they will take
+unfoldable pub unseenSlots : Heap → (ℕ → Bool) → ℕ
+unseenSlots H seen = sum (H .n) (λ x. cond (seen x) 0 (length (H .kids x)))

@@ -36,6 +36,16 @@ unfoldable pub gather : ℕ → (ℕ → Bool) → (ℕ → List ℕ) → List �
 gather zero t f = []
 gather (suc n) t f = gather n t f ++ cond (t (suc n)) (f (suc n)) []
 
+-- whether one of 1 to n passes the test
+unfoldable pub some : ℕ → (ℕ → Bool) → Bool
+some zero t = false
+some (suc n) t = some n t || t (suc n)
+
+-- those of a list that pass the test
+unfoldable pub only : (ℕ → Bool) → List ℕ → List ℕ
+only t [] = []
+only t (x ∷ l) = cond (t x) (x ∷ only t l) (only t l)
+
 -- a number that was found before, if it is not 0; else x, if x passes
 unfoldable pub lowestOf : ℕ → Bool → ℕ → ℕ
 lowestOf zero true x = x

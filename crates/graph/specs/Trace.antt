@@ -6,6 +6,7 @@ use lib.Dec.{eqb}
 use lib.ListN.{length}
 use Rattle.graph.specs.Numbers.{sum, count, lowest}
 use Rattle.graph.specs.Heap.{Heap, pointers, targets}
+use Rattle.graph.specs.Clusters.{sinksAt}
 use Rattle.graph.specs.Run as Run
 
 -- ---- the flags of the objects
@@ -73,6 +74,11 @@ module _ (H : Heap) where
   scanIf true false m o w = w
   scanIf false c m o w = w
 
+  -- the objects of a list that are not marked are scanned, one after the other
+  unfoldable pub scanAll : List ℕ → Walk → Walk
+  scanAll [] w = w
+  scanAll (y ∷ l) w = scanAll l (scanIf true true (w .flags marked y) y w)
+
   -- the out members of h's cluster among 1 to k that are not marked are scanned, the highest first, so that in the end their pointers are in number order
   unfoldable pub scanOuts : ℕ → ℕ → Walk → Walk
   scanOuts h zero w = w
@@ -83,7 +89,7 @@ module _ (H : Heap) where
   visitBy true h true r o w = w
   visitBy true h false r o w = scan o w
   visitBy false true m true o w = w
-  visitBy false true m false o w = scanOuts o n (arrive o w)
+  visitBy false true m false o w = scanOuts o n (arrive o (scanAll (sinksAt H o) w))
   visitBy false false true r o w = w
   visitBy false false false true o w = w
   visitBy false false false false o w = postpone o w
@@ -140,4 +146,4 @@ module _ (H : Heap) where
 
 -- the heap as a plain collection sees it: no clusters
 abbrev pub unclustered : Heap → Heap
-unclustered H = record { n = H .n; kids = H .kids; sink = H .sink; written = H .written; cluster = λ x. 0; out = λ x. false }
+unclustered H = record { n = H .n; kids = H .kids; sink = H .sink; listed = H .listed; written = H .written; cluster = λ x. 0; out = λ x. false }

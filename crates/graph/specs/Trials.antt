@@ -4,7 +4,7 @@ use mathlib.Core.Bool.{Bool, true, false}
 use mathlib.Core.List.{List, [], _∷_, _++_, map}
 use lib.ListN.{getD, length}
 use Rattle.graph.specs.Numbers.{has}
-use Rattle.graph.specs.Heap.{Heap, starts}
+use Rattle.graph.specs.Heap.{Heap}
 use Rattle.graph.specs.Clusters.{outBit}
 use Rattle.graph.specs.Trace.{traced, keeps}
 use Rattle.graph.specs.Analysis.{Rule, analyse}
@@ -27,6 +27,7 @@ heap kids written sinks clusters =
       n = length kids;
       kids = nth [] kids;
       sink = λ x. has x sinks;
+      listed = sinks;
       written = λ x. has x written;
       cluster = nth 0 clusters;
       out = outBit (nth [] kids) (λ x. has x sinks) (nth 0 clusters);
@@ -101,6 +102,19 @@ analyses =
       clusters = 1 ∷ 0 ∷ 0 ∷ 1 ∷ 5 ∷ 0 ∷ 1 ∷ 1 ∷ 5 ∷ 5 ∷ 5 ∷ [];
       outLoss = 0;
     }
+    -- an older cluster's out member 4 leads to 7 before the sinks of its set, by place: 6, then 5; all three lead to chain 8 to 11, which 7 takes
+    ∷ record {
+      start =
+          heap
+          ((2 ∷ 3 ∷ []) ∷ (5 ∷ []) ∷ (4 ∷ 6 ∷ []) ∷ (7 ∷ []) ∷ (8 ∷ []) ∷ (8 ∷ []) ∷ (8 ∷ []) ∷ (9 ∷ []) ∷ (10 ∷ []) ∷ (11 ∷ []) ∷ [] ∷ [])
+          []
+          (6 ∷ 5 ∷ [])
+          (1 ∷ 1 ∷ 1 ∷ 1 ∷ []);
+      limit = 16;
+      root = 1;
+      clusters = 1 ∷ 1 ∷ 1 ∷ 1 ∷ 0 ∷ 0 ∷ 7 ∷ 7 ∷ 7 ∷ 7 ∷ 7 ∷ [];
+      outLoss = 0;
+    }
     -- four members with ten pointers at written object 5: left; with eleven: deleted
     ∷ record {
       start =
@@ -132,12 +146,12 @@ pub record Traced : Type 0 where
 -- which objects are kept
 unfoldable pub kept : Traced → List Bool
 kept t =
-    let w = traced (t .start) (starts (t .start) (t .roots)) in
+    let w = traced (t .start) (t .roots) in
     map (keeps (t .start) (w .flags)) (upTo (t .start .n))
 
 -- how many are scanned
 unfoldable pub scanned : Traced → ℕ
-scanned t = traced (t .start) (starts (t .start) (t .roots)) .scanned
+scanned t = traced (t .start) (t .roots) .scanned
 
 -- object 1 points at 2 and 3, and 2, 3, 4 at 4, 5, 6; more pointers of 1 and 5
 unfoldable pub six : List ℕ → List ℕ → List ℕ → List (List ℕ)
@@ -185,12 +199,12 @@ collections =
       scanned = 2;
       kept = true ∷ true ∷ true ∷ true ∷ true ∷ true ∷ [];
     }
-    -- a sink is a start
+    -- a sink that member 4, without the out bit, points at is reached through the set at head 1; sink 7, which nothing leads to, is not kept
     ∷ record {
-      start = heap ((2 ∷ []) ∷ [] ∷ [] ∷ []) [] (1 ∷ []) [];
-      roots = 0 ∷ [];
+      start = heap ((2 ∷ 3 ∷ []) ∷ [] ∷ (4 ∷ []) ∷ (5 ∷ []) ∷ (6 ∷ []) ∷ [] ∷ [] ∷ []) [] (7 ∷ 0 ∷ 5 ∷ []) (1 ∷ 1 ∷ 1 ∷ 1 ∷ []);
+      roots = 1 ∷ [];
       scanned = 2;
-      kept = true ∷ true ∷ false ∷ [];
+      kept = true ∷ true ∷ true ∷ true ∷ true ∷ true ∷ false ∷ [];
     }
     ∷ []
 

@@ -1,7 +1,7 @@
 -- Writes and sinks ("Writes and sinks"): what an accepted write and a declaration do to the clusters.
 use Prim.Native.Nat.{ℕ}
-use mathlib.Core.Bool.{Bool, true, false, not, _&&_}
-use mathlib.Core.List.{List}
+use mathlib.Core.Bool.{Bool, true, false, not, cond, _&&_}
+use mathlib.Core.List.{List, [], _∷_}
 use lib.Dec.{eqb}
 use lib.ListN.{getD, set}
 use Rattle.graph.specs.Numbers.{upd, has}
@@ -25,6 +25,7 @@ storeBy true H o k t =
       n = H .n;
       kids = stored H o k t;
       sink = H .sink;
+      listed = H .listed;
       written = upd (H .written) o true;
       cluster = keep (others (H .cluster o)) (H .cluster);
       out = λ x. others (H .cluster o) (H .cluster x) && H .out x;
@@ -34,6 +35,7 @@ storeBy false H o k t =
       n = H .n;
       kids = stored H o k t;
       sink = H .sink;
+      listed = H .listed;
       written = upd (H .written) o true;
       cluster = H .cluster;
       out = upd (H .out) o (outBit (stored H o k t) (H .sink) (H .cluster) o);
@@ -52,13 +54,19 @@ store H o k t = storeBy (dissolves H o k t) H o k t
 unfoldable pub lossOf : Heap → ℕ → ℕ → ℕ → ℕ
 lossOf H o k t = lossBy (dissolves H o k t) H o
 
--- o becomes a sink: its cluster is dissolved, and every out bit made exact
+-- o in the first empty place
+unfoldable pub placed : ℕ → List ℕ → List ℕ
+placed o [] = []
+placed o (y ∷ l) = cond (eqb y 0) (o ∷ l) (y ∷ placed o l)
+
+-- o becomes a sink: it is listed, its cluster is dissolved, and every out bit made exact
 unfoldable pub declare : Heap → ℕ → Heap
 declare H o =
     record {
       n = H .n;
       kids = H .kids;
       sink = upd (H .sink) o true;
+      listed = cond (H .sink o) (H .listed) (placed o (H .listed));
       written = H .written;
       cluster = keep (others (H .cluster o)) (H .cluster);
       out = outBit (H .kids) (upd (H .sink) o true) (keep (others (H .cluster o)) (H .cluster));

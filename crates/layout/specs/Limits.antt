@@ -15,6 +15,10 @@ rootMax = 64
 abbrev pub widthMax : ℕ
 widthMax = 8
 
+-- the places of the list of sinks ("The heap")
+abbrev pub sinkMax : ℕ
+sinkMax = 64
+
 -- the lowest size limit ("Analysis")
 abbrev pub limitMin : ℕ
 limitMin = 8

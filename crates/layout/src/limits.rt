@@ -8,6 +8,8 @@ pub const ROOT_MAX: u32 = 64;
 
 pub const WIDTH_MAX: u32 = 8;
 
+pub const SINK_MAX: u32 = 64;
+
 pub const LIMIT_MIN: u32 = 8;
 
 pub const LIMIT_MAX: u32 = 4095;

@@ -43,6 +43,9 @@ pub const BAD_IMAGE: u32 = 27;
 
 pub const UNKNOWN_KIND: u32 = 28;
 
+// Refusal of a new sink: all places of the list are taken.
+pub const SINKS_FULL: u32 = 29;
+
 // Whether n or r is outside its range.
 pub fn bad_sizes(n: u32, r: u32) -> bool
     ensures { λ b. ⌜ b ≡ badSizes n r ⌝ }

@@ -2,12 +2,12 @@
 -- Assumes nothing.
 use Prim.Native.Nat.{ℕ, zero, suc, _+_, _-_, _≤_, _<_}
 use mathlib.Core.Path.{_≡_, refl, sym, ap, ap₂, _∙_}
-use mathlib.Core.Bool.{Bool, true, false, not, _&&_, _||_, cond, or-true, true≢false, false≢true}
+use mathlib.Core.Bool.{Bool, true, false, not, _&&_, _||_, cond, or-true, or-false, true≢false, false≢true}
 use mathlib.Core.List.{List, [], _∷_}
 use mathlib.Core.Logic.{_≢_}
 use native.Mathlib.Decide.{ℕ-discrete}
 use native.Mathlib.Omega.{arith}
-use borrow.Author.Tests.{le-leb, lt-leb, lt-ltb, le-ltb, eq-eqb, ne-eqb, ltb-false}
+use borrow.Author.Tests.{le-leb, lt-leb, lt-ltb, le-ltb, eq-eqb, ne-eqb, eqb-true, leb-false, not-false}
 use lib.Dec.{eqb, ltb}
 use lib.ListN.{length, take, drop, length-drop}
 use lib.Seq.{drop-drop}
@@ -16,9 +16,11 @@ use Rattle.layout.specs.Refusal.{first, by}
 use Rattle.layout.proofs.LimitLaws.{within-true}
 use Rattle.layout.proofs.RefusalLaws.{by-zero, by-number}
 use Rattle.endian.specs.Bytes.{numberAt}
-use Rattle.rules.specs.Image.{frontLen, bodyLen, kindOf, bodyOf, past, cut}
-use Rattle.rules.specs.Load.{known, passed, misplaced, badBody, chunkTests, imageTests}
+use Rattle.rules.specs.Image.{frontLen, sinksKind, bodyLen, kindOf, bodyOf, past, cut}
+use Rattle.rules.specs.Load.{known, passed, misplaced, badBody, badSinks, chunkTests, imageTests}
 use Rattle.rules.proofs.BoolLaws.{or-split}
+use Rattle.rules.proofs.ImageLaws.{past-suc}
+use Rattle.rules.proofs.AcceptedLaws.{fronted}
 use Rattle.loads.specs.Chunks.{kindRefusal, frontRefusal, chunkRefusal, refusalFrom, Chunk}
 use Rattle.loads.proofs.PlaceLaws.{number-drop, number-here}
 
@@ -48,6 +50,10 @@ module _ (t k : ℕ) where
   kind-passed e p l = sym (rw (e, le-leb 0x8000 k p, le-ltb t 3 l) refl)
 
 -- ---- the front
+
+pub kind-at : (image : List ℕ) (at k : ℕ) → k ≡ numberAt 2 (at + 4) image → k ≡ kindOf (drop at image)
+unfolding kindOf
+kind-at image at k is = is ∙ sym (number-drop 2 4 at image)
 
 module _ (t : ℕ) (image : List ℕ) (at : ℕ) (p : at ≤ length image) where
   abbrev b : List ℕ
@@ -81,13 +87,8 @@ module _ (t : ℕ) (image : List ℕ) (at : ℕ) (p : at ≤ length image) where
         ) refl)
 
 -- a chunk that is not cut
-pub uncut : (b : List ℕ) → cut b ≡ false → frontLen + bodyLen b ≤ length b
-unfolding cut
-uncut b e =
-    let s = or-split (ltb (length b) frontLen) (ltb (length b - frontLen) (bodyLen b)) e in
-    let f = ltb-false (length b) frontLen (s .0) in
-    let g = ltb-false (length b - frontLen) (bodyLen b) (s .1) in
-    omega arith
+uncut : (b : List ℕ) → cut b ≡ false → frontLen + bodyLen b ≤ length b
+uncut b e = let f = fronted b e in omega (arith, f .0, f .1)
 
 pub front-uncut : (t : ℕ) (b : List ℕ) → frontRefusal t b ≡ 0 → cut b ≡ false
 unfolding frontRefusal
@@ -143,9 +144,7 @@ module _ (t : ℕ) (b : List ℕ) (bad : Bool) where
 
 -- the bytes after one chunk more
 pub past-next : (t : ℕ) (l : List ℕ) → past (suc t) l ≡ drop (frontLen + bodyLen (past t l)) (past t l)
-unfolding past
-past-next zero l = refl
-past-next (suc t) l = past-next t (drop (frontLen + bodyLen l) l)
+past-next t l = past-suc t l ∙ unfold past in refl
 
 module _ (image : List ℕ) where
   past-shorter : (t : ℕ) → cut (past t image) ≡ false → length (past (suc t) image) + frontLen ≤ length (past t image)
@@ -153,6 +152,17 @@ module _ (image : List ℕ) where
       let a = ap length (past-next t image) ∙ length-drop (frontLen + bodyLen (past t image)) (past t image) in
       let u = uncut (past t image) e in
       omega arith
+
+  -- chunk t is one of sinks that does not pass
+  abbrev pub sinksBad : ℕ → Bool
+  sinksBad t = eqb (kindOf (past t image)) sinksKind && badSinks image t
+
+  -- its test with number 27, and that with 28
+  abbrev test27 : ℕ → Bool
+  test27 t = misplaced t (kindOf (past t image)) || (known (kindOf (past t image)) && badBody image t) || sinksBad t
+
+  abbrev test28 : ℕ → Bool
+  test28 t = not (known (kindOf (past t image))) && not (passed (kindOf (past t image)))
 
   -- more fuel than bytes is enough
   enough : (f g t : ℕ) → length (past t image) < f → length (past t image) < g → first (chunkTests image f t) ≡ first (chunkTests image g t)
@@ -163,14 +173,13 @@ module _ (image : List ℕ) where
     where
       go : (z c : Bool) → cut (past t image) ≡ c
           → (length (past (suc t) image) < f → length (past (suc t) image) < g → first (chunkTests image f (suc t)) ≡ first (chunkTests image g (suc t)))
-          → first (cond z ((26, ltb t 3) ∷ []) ((26, c) ∷ (27, misplaced t (kindOf (past t image)) || (known (kindOf (past t image)) && badBody image t)) ∷ (28, not (known (kindOf (past t image))) && not (passed (kindOf (past t image)))) ∷ chunkTests image f (suc t)))
-          ≡ first (cond z ((26, ltb t 3) ∷ []) ((26, c) ∷ (27, misplaced t (kindOf (past t image)) || (known (kindOf (past t image)) && badBody image t)) ∷ (28, not (known (kindOf (past t image))) && not (passed (kindOf (past t image)))) ∷ chunkTests image g (suc t)))
+          → first (cond z ((26, ltb t 3) ∷ []) ((26, c) ∷ (27, test27 t) ∷ (28, test28 t) ∷ chunkTests image f (suc t)))
+          ≡ first (cond z ((26, ltb t 3) ∷ []) ((26, c) ∷ (27, test27 t) ∷ (28, test28 t) ∷ chunkTests image g (suc t)))
       go true c e h = refl
       go false true e h = refl
       go false false e h =
           let s = past-shorter t e in
-          ap (λ (r : ℕ). cond (misplaced t (kindOf (past t image)) || (known (kindOf (past t image)) && badBody image t)) 27
-          (cond (not (known (kindOf (past t image))) && not (passed (kindOf (past t image)))) 28 r)) (h (omega arith) (omega arith))
+          ap (λ (r : ℕ). cond (test27 t) 27 (cond (test28 t) 28 r)) (h (omega arith) (omega arith))
 
   -- one chunk, then the others
   after : (t : ℕ) → cut (past t image) ≡ false → first (chunkTests image (length (past t image)) (suc t)) ≡ refusalFrom image (suc t)
@@ -182,68 +191,84 @@ module _ (image : List ℕ) where
   refusal-all = refl
 
   -- the tests of one chunk as one choice
-  choice : (m k s bad : Bool) (rest : ℕ) → (m ≡ false → k ≡ false → s ≡ true → bad ≡ false)
-      → cond (m || (k && bad)) 27 (cond (not k && not s) 28 rest)
+  choice : (m k s p q bad : Bool) (rest : ℕ) → (m ≡ false → (k || s) ≡ true → (p || q) ≡ bad) → (k ≡ false → s ≡ false → (p || q) ≡ false)
+      → cond (m || p || q) 27 (cond (not k && not s) 28 rest)
       ≡ by (by (cond m 27 (cond (not k && not s) 28 0)) (cond bad 27 0) (λ j. j)) rest (λ j. j)
   unfolding by
-  choice true k s bad rest h = refl
-  choice false true s true rest h = refl
-  choice false true s false rest h = refl
-  choice false false true true rest h = absurd (true≢false (h refl refl refl))
-  choice false false true false rest h = refl
-  choice false false false bad rest h = refl
+  choice true k s p q bad rest h g = refl
+  choice false true s p q bad rest h g = rw (h refl refl) (sure bad)
+    where
+      sure : (b : Bool) → cond b 27 rest ≡ by (cond b 27 0) rest (λ j. j)
+      sure true = refl
+      sure false = refl
+  choice false false true p q bad rest h g = rw (h refl refl) (sure bad)
+    where
+      sure : (b : Bool) → cond b 27 rest ≡ by (cond b 27 0) rest (λ j. j)
+      sure true = refl
+      sure false = refl
+  choice false false false p q bad rest h g = rw (g refl refl) refl
 
   module _ (t : ℕ) where
     abbrev bytes : List ℕ
     bytes = past t image
 
-    -- only a chunk behind the third may be of a kind that is passed over
-    quiet : misplaced t (kindOf bytes) ≡ false → known (kindOf bytes) ≡ false → passed (kindOf bytes) ≡ true → badBody image t ≡ false
-    unfolding misplaced badBody
-    quiet m k s = go t refl
+    -- what is tested of its body: of one of the first three by its place, and behind them of the sinks alone
+    abbrev pub badAt : Bool
+    badAt = cond (ltb t 3) (badBody image t) (sinksBad t)
+
+    quiet : misplaced t (kindOf bytes) ≡ false → (known (kindOf bytes) || passed (kindOf bytes)) ≡ true
+        → ((known (kindOf bytes) && badBody image t) || sinksBad t) ≡ badAt
+    unfolding misplaced known
+    quiet m o = go (within 1 3 (kindOf bytes)) (passed (kindOf bytes)) refl refl m o
       where
-        early : t < 3 → badBody image t ≡ false
-        early l = absurd (false≢true (sym m ∙ rw (k, s, lt-ltb t 3 l) refl))
+        place : (b : Bool) → not b || false ≡ false → b ≡ true
+        place true e = refl
+        place false e = absurd (true≢false e)
 
-        go : (u : ℕ) → t ≡ u → badBody image t ≡ false
-        go zero e = early (omega arith)
-        go (suc zero) e = early (omega arith)
-        go (suc (suc zero)) e = early (omega arith)
-        go (suc (suc (suc u))) e = ap (badBody image) e
+        go : (k s : Bool) → within 1 3 (kindOf bytes) ≡ k → passed (kindOf bytes) ≡ s → ((k && not (eqb (kindOf bytes) (suc t))) || (s && ltb t 3)) ≡ false → (k || s) ≡ true
+            → ((k && badBody image t) || sinksBad t) ≡ badAt
+        go true s a b m o =
+            let w = within-true 1 3 (kindOf bytes) a in
+            let e = eqb-true (kindOf bytes) (suc t) (not-false _ (or-split (not (eqb (kindOf bytes) (suc t))) (s && ltb t 3) m .0)) in
+            rw (lt-ltb t 3 (omega arith), ne-eqb (kindOf bytes) sinksKind (λ q. omega arith)) (or-false (badBody image t))
+        go false true a b m o = rw m refl
+        go false false a b m o = absurd (false≢true o)
 
-    is-cut : cut bytes ≡ true → (A : ℕ) → cond (cut bytes) 26 A ≡ by (chunkRefusal t bytes (badBody image t)) (refusalFrom image (suc t)) (λ j. j)
+    strange : known (kindOf bytes) ≡ false → passed (kindOf bytes) ≡ false → ((known (kindOf bytes) && badBody image t) || sinksBad t) ≡ false
+    unfolding passed
+    strange k s = let l = leb-false 0x8000 (kindOf bytes) s in rw (k, ne-eqb (kindOf bytes) sinksKind (λ q. omega arith)) refl
+
+    is-cut : cut bytes ≡ true → (A : ℕ) → cond (cut bytes) 26 A ≡ by (chunkRefusal t bytes badAt) (refusalFrom image (suc t)) (λ j. j)
     unfolding chunkRefusal frontRefusal by
     is-cut e A = rw e refl
 
     is-whole : cut bytes ≡ false
-        → cond (cut bytes) 26 (cond (misplaced t (kindOf bytes) || (known (kindOf bytes) && badBody image t)) 27
-        (cond (not (known (kindOf bytes)) && not (passed (kindOf bytes))) 28 (first (chunkTests image (length bytes) (suc t)))))
-        ≡ by (chunkRefusal t bytes (badBody image t)) (refusalFrom image (suc t)) (λ j. j)
+        → cond (cut bytes) 26 (cond (test27 t) 27 (cond (test28 t) 28 (first (chunkTests image (length bytes) (suc t)))))
+        ≡ by (chunkRefusal t bytes badAt) (refusalFrom image (suc t)) (λ j. j)
     unfolding chunkRefusal frontRefusal kindRefusal
     is-whole e =
         rw (e, after t e)
-        (choice (misplaced t (kindOf bytes)) (known (kindOf bytes)) (passed (kindOf bytes)) (badBody image t) (refusalFrom image (suc t)) quiet)
+        (choice (misplaced t (kindOf bytes)) (known (kindOf bytes)) (passed (kindOf bytes)) (known (kindOf bytes) && badBody image t) (sinksBad t) badAt (refusalFrom image (suc t)) quiet strange)
 
     -- a chunk, then the others
-    some : length bytes ≢ 0 → refusalFrom image t ≡ by (chunkRefusal t bytes (badBody image t)) (refusalFrom image (suc t)) (λ j. j)
+    some : length bytes ≢ 0 → refusalFrom image t ≡ by (chunkRefusal t bytes badAt) (refusalFrom image (suc t)) (λ j. j)
     unfolding refusalFrom chunkTests first
     some d = rw (ne-eqb (length bytes) 0 d) (go (cut bytes) refl)
       where
         go : (c : Bool) → cut bytes ≡ c
-            → cond (cut bytes) 26 (cond (misplaced t (kindOf bytes) || (known (kindOf bytes) && badBody image t)) 27
-            (cond (not (known (kindOf bytes)) && not (passed (kindOf bytes))) 28 (first (chunkTests image (length bytes) (suc t)))))
-            ≡ by (chunkRefusal t bytes (badBody image t)) (refusalFrom image (suc t)) (λ j. j)
+            → cond (cut bytes) 26 (cond (test27 t) 27 (cond (test28 t) 28 (first (chunkTests image (length bytes) (suc t)))))
+            ≡ by (chunkRefusal t bytes badAt) (refusalFrom image (suc t)) (λ j. j)
         go true e = is-cut e _
         go false e = is-whole e
 
     -- the first three chunks have to be there
-    pub step : t < 3 → refusalFrom image t ≡ by (chunkRefusal t bytes (badBody image t)) (refusalFrom image (suc t)) (λ j. j)
+    step : t < 3 → refusalFrom image t ≡ by (chunkRefusal t bytes (badBody image t)) (refusalFrom image (suc t)) (λ j. j)
     unfolding refusalFrom chunkTests first chunkRefusal frontRefusal cut by
     step l = go (ℕ-discrete (length bytes) 0)
       where
         go : Dec (length bytes ≡ 0) → refusalFrom image t ≡ by (chunkRefusal t bytes (badBody image t)) (refusalFrom image (suc t)) (λ j. j)
         go (yes e) = rw (e, lt-ltb t 3 l) refl
-        go (no d) = some d
+        go (no d) = some d ∙ ap (λ (b : Bool). by (chunkRefusal t bytes (cond b (badBody image t) (sinksBad t))) (refusalFrom image (suc t)) (λ j. j)) (lt-ltb t 3 l)
 
     module _ (k : ℕ) (is : k ≡ chunkRefusal t bytes (badBody image t)) (l : t < 3) where
       pub step-stop : k ≢ 0 → k ≡ refusalFrom image t
@@ -252,28 +277,9 @@ module _ (image : List ℕ) where
       pub step-on : k ≡ 0 → refusalFrom image t ≡ refusalFrom image (suc t)
       step-on z = step l ∙ by-zero (refusalFrom image (suc t)) (λ j. j) _ (sym is ∙ z)
 
-    -- and back: what 0 says of the first three
-    pub step-none : t < 3 → refusalFrom image t ≡ 0 → (chunkRefusal t bytes (badBody image t) ≡ 0) × (refusalFrom image (suc t) ≡ 0)
-    unfolding by
-    step-none l e = go (chunkRefusal t bytes (badBody image t)) refl (sym (step l) ∙ e)
-      where
-        go : (k : ℕ) → chunkRefusal t bytes (badBody image t) ≡ k → by k (refusalFrom image (suc t)) (λ j. j) ≡ 0 → (chunkRefusal t bytes (badBody image t) ≡ 0) × (refusalFrom image (suc t) ≡ 0)
-        go zero p z = (p, z)
-        go (suc k) p z = absurd (omega arith)
-
     -- ---- behind the third
 
     module _ (late : 3 ≤ t) where
-      no-body : badBody image t ≡ false
-      unfolding badBody
-      no-body = go t refl
-        where
-          go : (u : ℕ) → t ≡ u → badBody image t ≡ false
-          go zero e = absurd (omega arith)
-          go (suc zero) e = absurd (omega arith)
-          go (suc (suc zero)) e = absurd (omega arith)
-          go (suc (suc (suc u))) e = ap (badBody image) e
-
       late-kind : (k : ℕ) → misplaced t k ≡ misplaced 3 k
       unfolding misplaced known
       late-kind k = rw (le-ltb t 3 late) (go (within 1 3 k) refl)
@@ -282,19 +288,15 @@ module _ (image : List ℕ) where
           go true e = let b = within-true 1 3 k e in rw (ne-eqb k (suc t) (λ q. omega arith), ne-eqb k 4 (λ q. omega arith)) refl
           go false e = refl
 
-      late-front : chunkRefusal t bytes (badBody image t) ≡ frontRefusal 3 bytes
-      unfolding chunkRefusal frontRefusal kindRefusal by
-      late-front = rw (no-body, late-kind (kindOf bytes)) (go (frontRefusal 3 bytes))
-        where
-          go : (k : ℕ) → by k 0 (λ j. j) ≡ k
-          go zero = refl
-          go (suc k) = refl
+      late-front : chunkRefusal t bytes badAt ≡ chunkRefusal 3 bytes (sinksBad t)
+      unfolding chunkRefusal frontRefusal kindRefusal
+      late-front = rw (le-ltb t 3 late, late-kind (kindOf bytes)) refl
 
       pub late-end : length bytes ≡ 0 → 0 ≡ refusalFrom image t
       unfolding refusalFrom chunkTests first
       late-end e = sym (rw (e, le-ltb t 3 late) refl)
 
-      module _ (d : length bytes ≢ 0) (k : ℕ) (is : k ≡ frontRefusal 3 bytes) where
+      module _ (d : length bytes ≢ 0) (k : ℕ) (is : k ≡ chunkRefusal 3 bytes (sinksBad t)) where
         pub late-stop : k ≢ 0 → k ≡ refusalFrom image t
         late-stop z =
             sym (by-number (refusalFrom image (suc t)) (λ j. j) k z)
@@ -303,51 +305,6 @@ module _ (image : List ℕ) where
 
         pub late-on : k ≡ 0 → refusalFrom image (suc t) ≡ refusalFrom image t
         late-on z = sym (some d ∙ by-zero (refusalFrom image (suc t)) (λ j. j) _ (late-front ∙ sym is ∙ z))
-
--- ---- the loop over the chunks behind the third
-
--- from the chunk at place `at` on the refusal is that from chunk t on
-pub record Rest (image : List ℕ) (t at : ℕ) : Type 0 where
-  pub chunk : ℕ
-  pub late : 3 ≤ chunk
-  pub here : past chunk image ≡ drop at image
-  pub same : refusalFrom image chunk ≡ refusalFrom image t
-
-pub record Going (image : List ℕ) (start at : ℕ) : Type 0 where
-  pub inside : at ≤ length image
-  pub rest : (t : ℕ) → 3 ≤ t → past t image ≡ drop start image → Rest image t at
-
-pub going-start : (image : List ℕ) (start : ℕ) → start ≤ length image → Going image start start
-going-start image start p = record { inside = p; rest = λ t l e. record { chunk = t; late = l; here = e; same = refl } }
-
-module _ (image : List ℕ) (start at : ℕ) (g : Going image start at) where
-  more-bytes : at < length image → (u : ℕ) → past u image ≡ drop at image → length (past u image) ≢ 0
-  more-bytes p u h e = let a = ap length h ∙ length-drop at image in omega arith
-
-  module _ (p : at < length image) (k : ℕ) (is : k ≡ frontRefusal 3 (drop at image)) where
-    pub going-stop : k ≢ 0 → (t : ℕ) → 3 ≤ t → past t image ≡ drop start image → k ≡ refusalFrom image t
-    going-stop d t l e =
-        let r = g .rest t l e in
-        late-stop image (r .chunk) (r .late) (more-bytes p (r .chunk) (r .here)) k (is ∙ ap (frontRefusal 3) (sym (r .here))) d ∙ r .same
-
-    pub going-turn : k ≡ 0 → (e : ℕ) → Chunk image at e → Going image start e
-    going-turn z e c =
-        record {
-          inside = c .inside;
-          rest = λ t l q.
-              let r = g .rest t l q in
-              record {
-                chunk = suc (r .chunk);
-                late = let m = r .late in omega arith;
-                here = past-next (r .chunk) image ∙ ap (λ (b : List ℕ). drop (frontLen + bodyLen b) b) (r .here) ∙ sym (c .next);
-                same = late-on image (r .chunk) (r .late) (more-bytes p (r .chunk) (r .here)) k (is ∙ ap (frontRefusal 3) (sym (r .here))) z ∙ r .same;
-              };
-        }
-
-  pub going-end : length image ≤ at → (t : ℕ) → 3 ≤ t → past t image ≡ drop start image → 0 ≡ refusalFrom image t
-  going-end p t l e =
-      let r = g .rest t l e in
-      late-end image (r .chunk) (r .late) (ap length (r .here) ∙ length-drop at image ∙ omega arith) ∙ r .same
 
 -- ---- a chunk whose body was tested
 

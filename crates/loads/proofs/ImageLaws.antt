@@ -1,44 +1,36 @@
 -- The first three chunks of an image in turn, and what an image that is not refused says.
 -- Assumes nothing.
-use Prim.Native.Nat.{ℕ, _+_, _-_, _/_, _%_, _≤_, _<_}
+use Prim.Native.Nat.{ℕ, suc, _+_, _≤_}
 use mathlib.Core.Path.{_≡_, refl, sym, ap, _∙_}
-use mathlib.Core.Bool.{Bool, true, false, not, _&&_}
+use mathlib.Core.Bool.{Bool, true, false, not, _&&_, _||_}
 use mathlib.Core.List.{List}
 use mathlib.Core.Logic.{_≢_}
-use native.Mathlib.Decide.{decLt}
 use native.Mathlib.Omega.{arith}
 use borrow.Author.Tests.{eqb-true, leb-true, not-true, not-false}
-use lib.Dec.{eqb, leb}
-use lib.ListN.{length, getD, drop, replicate, length-take, length-replicate, getD-replicate, List·getD-eq-default}
-use Rattle.layout.specs.Field.{flag}
-use Rattle.layout.specs.Limits.{objectMax}
+use lib.Dec.{eqb, leb, ltb}
+use lib.ListN.{length, drop, replicate, length-take, length-replicate}
+use Rattle.layout.specs.Limits.{objectMax, sinkMax}
 use Rattle.layout.specs.ControlRecord.{badSizes}
 use Rattle.layout.specs.Refusal.{first}
 use Rattle.layout.proofs.ControlLaws.{Sizes, sizes-facts}
-use Rattle.layout.proofs.FieldLaws.{zero-flag}
+use Rattle.bitmap.proofs.BitLaws.{holds-blank}
 use Rattle.endian.specs.Bytes.{numberAt}
-use Rattle.rules.specs.Image.{frontLen, bodyLen, bodyOf, past, cut, savedN, savedR, savedLast, sizesOk, objectsOk, rootsOk}
-use Rattle.rules.specs.Load.{imageN, imageR, badBody, imageTests}
+use Rattle.graph.specs.Numbers.{count}
+use Rattle.rules.specs.Image.{frontLen, bodyLen, bodyOf, past, cut, savedN, savedR, savedLast, sizesOk, objectsOk, savedAsSink}
+use Rattle.rules.specs.Load.{objects, imageN, imageR, badBody, imageTests}
 use Rattle.rules.proofs.BoolLaws.{and-split}
-use Rattle.loads.specs.Bodies.{Listed, Empty, rootsPass}
+use Rattle.loads.specs.Bodies.{Listed, Sunk, Empty, objectsPass, rootsPass}
 use Rattle.loads.specs.Chunks.{chunkRefusal, refusalFrom, Chunk}
 use Rattle.loads.proofs.PlaceLaws.{number-part}
 use Rattle.loads.proofs.WordLaws.{roots-pass}
-use Rattle.loads.proofs.ChunkLaws.{front-uncut, chunk-none, past-next, step-stop, step-on, step-none, refusal-all}
+use Rattle.loads.proofs.ChunkLaws.{front-uncut, chunk-none, past-next, step-stop, step-on, refusal-all}
 
 -- words that are 0
 abbrev blank : List ℕ
 blank = replicate 64 0
 
 pub empty : Empty blank
-empty = (length-replicate {A = ℕ} 64 0, λ z. ap (flag (z % 64)) (zeros z (decLt (z / 64) 64)) ∙ zero-flag (z % 64))
-  where
-    zeros : (z : ℕ) → Dec (z / 64 < 64) → getD blank (z / 64) 0 ≡ 0
-    zeros z (yes l) = getD-replicate 64 (z / 64) 0 0 l
-    zeros z (no l) =
-        let e : length blank ≡ 64 = length-replicate {A = ℕ} 64 0 in
-        let p : length blank ≤ z / 64 = omega (arith, l) in
-        List·getD-eq-default blank 0 p
+empty = (length-replicate {A = ℕ} 64 0, holds-blank 64)
 
 -- a chunk with no refusal is whole
 pub chunk-uncut : (t : ℕ) (b : List ℕ) (bad : Bool) (k : ℕ) → k ≡ chunkRefusal t b bad → k ≡ 0 → cut b ≡ false
@@ -110,6 +102,10 @@ module _ (image : List ℕ) where
     pub first-on : k ≡ 0 → refusalFrom image 1 ≡ first (imageTests image)
     first-on z = sym (step-on image 0 k as-first (omega arith) z) ∙ refusal-all image
 
+  -- the chunk behind chunk t, which is at a place
+  pub place-next : (t at : ℕ) → past t image ≡ drop at image → (e : ℕ) → Chunk image at e → past (suc t) image ≡ drop e image
+  place-next t at h e c = past-next t image ∙ ap (λ (b : List ℕ). drop (frontLen + bodyLen b) b) h ∙ sym (c .next)
+
   -- the second chunk is at a place, and n is known
   pub record Second (at n : ℕ) : Type 0 where
     pub here : past 1 image ≡ drop at image
@@ -123,7 +119,7 @@ module _ (image : List ℕ) where
   second k is z at n c e =
       let s = first-sized k is z in
       record {
-        here = past-next 0 image ∙ sym (c .next);
+        here = place-next 0 0 refl at c;
         most = let a = s .sizes .most in omega (arith, e, s .n-at);
         is-n = e ∙ s .n-at;
         is-r = s .r-at;
@@ -131,27 +127,41 @@ module _ (image : List ℕ) where
       }
 
   module _ (at n : ℕ) (s : Second at n) where
-    second-is : chunkRefusal 1 (drop at image) (not (objectsOk (bodyOf (drop at image)) n)) ≡ chunkRefusal 1 (past 1 image) (badBody image 1)
-    unfolding badBody
-    second-is = rw (s .here, s .is-n) refl
+    second-is : chunkRefusal 1 (drop at image) (not (objectsPass n (bodyOf (drop at image)))) ≡ chunkRefusal 1 (past 1 image) (badBody image 1)
+    unfolding badBody objectsPass
+    second-is =
+        rw (s .here, s .is-n)
+        (ap (chunkRefusal 1 (drop at image)) (either (objectsOk (bodyOf (drop at image)) (imageN image)) (ltb sinkMax (count (imageN image) (savedAsSink (bodyOf (drop at image)))))))
+      where
+        either : (a b : Bool) → not (a && not b) ≡ not a || b
+        either true true = refl
+        either true false = refl
+        either false b = refl
 
-    module _ (k : ℕ) (is : k ≡ chunkRefusal 1 (drop at image) (not (objectsOk (bodyOf (drop at image)) n))) where
+    module _ (k : ℕ) (is : k ≡ chunkRefusal 1 (drop at image) (not (objectsPass n (bodyOf (drop at image))))) where
       pub second-stop : k ≢ 0 → k ≡ first (imageTests image)
       second-stop d = step-stop image 1 k (is ∙ second-is) (omega arith) d ∙ s .same
 
       second-on : k ≡ 0 → refusalFrom image 2 ≡ first (imageTests image)
       second-on z = sym (step-on image 1 k (is ∙ second-is) (omega arith) z) ∙ s .same
 
+    -- the numbers of the image itself
+    pub second-most : imageN image ≤ objectMax
+    second-most = omega (arith, s .most, s .is-n)
+
+    pub second-sunk : (words : List ℕ) → Sunk n (bodyOf (drop at image)) words → Sunk (imageN image) (objects image) words
+    second-sunk words h = rw (sym (s .is-n), s .here) h
+
   -- the third chunk is at a place
   pub record Third (at : ℕ) : Type 0 where
     pub here : past 2 image ≡ drop at image
     pub same : refusalFrom image 2 ≡ first (imageTests image)
 
-  pub third : (at n : ℕ) → Second at n → (k : ℕ) → k ≡ chunkRefusal 1 (drop at image) (not (objectsOk (bodyOf (drop at image)) n)) → k ≡ 0
+  pub third : (at n : ℕ) → Second at n → (k : ℕ) → k ≡ chunkRefusal 1 (drop at image) (not (objectsPass n (bodyOf (drop at image)))) → k ≡ 0
       → (e : ℕ) → Chunk image at e → Third e
   third at n s k is z e c =
       record {
-        here = past-next 1 image ∙ ap (λ (b : List ℕ). drop (frontLen + bodyLen b) b) (s .here) ∙ sym (c .next);
+        here = place-next 1 at (s .here) e c;
         same = second-on at n s k is z;
       }
 
@@ -167,36 +177,5 @@ module _ (image : List ℕ) where
       third-stop d = step-stop image 2 k (is ∙ third-is) (omega arith) d ∙ t .same
 
       -- the chunks behind the third decide
-      pub third-on : k ≡ 0 → (c q : ℕ) → Chunk image b c → ((u : ℕ) → 3 ≤ u → past u image ≡ drop c image → q ≡ refusalFrom image u) → q ≡ first (imageTests image)
-      third-on z c q g h =
-          h 3 (omega arith) (past-next 2 image ∙ ap (λ (l : List ℕ). drop (frontLen + bodyLen l) l) (t .here) ∙ sym (g .next))
-          ∙ sym (step-on image 2 k (is ∙ third-is) (omega arith) z)
-          ∙ t .same
-
--- ---- an image that is not refused
-
-pub record Whole (image : List ℕ) : Type 0 where
-  pub cut-first : cut image ≡ false
-  pub sizes-are : sizesOk (bodyOf image) ≡ true
-  pub cut-second : cut (past 1 image) ≡ false
-  pub objects-are : objectsOk (bodyOf (past 1 image)) (imageN image) ≡ true
-  pub cut-third : cut (past 2 image) ≡ false
-  pub roots-are : rootsOk (imageN image) (imageR image) (bodyOf (past 1 image)) (bodyOf (past 2 image)) ≡ true
-
-pub whole : (image : List ℕ) → first (imageTests image) ≡ 0 → Whole image
-unfolding badBody past
-whole image e =
-    let a = step-none image 0 (omega arith) (refusal-all image ∙ e) in
-    let b = step-none image 1 (omega arith) (a .1) in
-    let c = step-none image 2 (omega arith) (b .1) in
-    let p = chunk-none 0 image (badBody image 0) (a .0) in
-    let q = chunk-none 1 (past 1 image) (badBody image 1) (b .0) in
-    let r = chunk-none 2 (past 2 image) (badBody image 2) (c .0) in
-    record {
-      cut-first = front-uncut 0 image (p .0);
-      sizes-are = not-false _ (p .1);
-      cut-second = front-uncut 1 (past 1 image) (q .0);
-      objects-are = not-false _ (q .1);
-      cut-third = front-uncut 2 (past 2 image) (r .0);
-      roots-are = not-false _ (r .1);
-    }
+      pub third-on : k ≡ 0 → (q : ℕ) → q ≡ refusalFrom image 3 → q ≡ first (imageTests image)
+      third-on z q h = h ∙ sym (step-on image 2 k (is ∙ third-is) (omega arith) z) ∙ t .same

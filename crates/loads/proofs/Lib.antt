@@ -2,8 +2,11 @@
 pub mod PlaceLaws
 pub mod EntryLaws
 pub mod SetLaws
+pub mod SinkLaws
 pub mod WordLaws
 pub mod ChunkLaws
 pub mod ImageLaws
+pub mod TailLaws
+pub mod SinkPlaces
 pub mod LayLaws
 pub mod LoadLaws

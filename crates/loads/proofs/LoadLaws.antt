@@ -2,89 +2,96 @@
 -- Assumes nothing.
 use Prim.Native.Nat.{ℕ, zero, suc, _+_, _-_, _*_, _/_, _%_, _≤_}
 use mathlib.Core.Path.{_≡_, refl, sym, ap, ap₂, _∙_}
-use mathlib.Core.Bool.{Bool, true, false, _&&_, cond}
+use mathlib.Core.Bool.{Bool, true, false, cond}
 use mathlib.Core.List.{List, [], _∷_, _++_}
 use mathlib.Core.Logic.{_≢_}
 use native.Mathlib.Omega.{arith}
 use borrow.Author.Tests.{eqb-true}
 use lib.Dec.{eqb}
-use lib.ListN.{length, take, drop}
+use lib.ListN.{length, getD, take, drop}
 use Rattle.layout.specs.declared.answers.Control.{Control}
-use Rattle.layout.specs.Limits.{widthMax, slotsLen}
+use Rattle.layout.specs.Limits.{widthMax, sinkMax, slotsLen}
 use Rattle.layout.specs.ControlRecord.{newControl, withLast}
 use Rattle.layout.specs.Refusal.{Test, first}
 use Rattle.layout.proofs.RefusalLaws.{Numbered, nil, cons, first-front, first-skip, first-zero, first-holds, first-fails, outcome-zero, outcome-number}
 use Rattle.endian.specs.Bytes.{numberAt}
-use Rattle.rules.specs.Buffers.{eachFrom, eachRecord, zeros, allTo}
-use Rattle.rules.specs.Image.{frontLen, bodyLen, bodyOf, past, savedRoot, left, shaped, wordsOk, objectsOk, rootsOk}
+use Rattle.rules.specs.Buffers.{shortHeap, eachFrom, eachRecord, zeros}
+use Rattle.rules.specs.Image.{frontLen, bodyOf, past, cut, savedRoot, rootsOk}
 use Rattle.rules.specs.Load as Load
-use Rattle.rules.specs.Load.{imageN, imageR, imageTests, chunkTests, loadedRecord, loadedWord, rootWords}
+use Rattle.rules.specs.Load.{imageN, imageR, imageTests, chunkTests, loadedRecord, loadedWord, loadedSinks, rootWords}
 use Rattle.rules.proofs.ListLaws.{each-same, each-each}
 use Rattle.rules.proofs.BoolLaws.{and-split}
-use Rattle.table.specs.Room.{heapShort}
+use Rattle.rules.proofs.BufferLaws.{zeros-from}
+use Rattle.rules.proofs.AcceptedLaws.{accepted-places, sizes-right, objects-right, roots-right}
 use Rattle.table.proofs.RoomLaws.{heap-long}
-use Rattle.loads.specs.Bodies.{shapeOk}
 use Rattle.loads.specs.Chunks.{Chunk}
-use Rattle.loads.specs.Laid.{laid, recordOr, slotOr, Roomy, Accepted}
-use Rattle.loads.proofs.ChunkLaws.{past-next}
-use Rattle.loads.proofs.ImageLaws.{whole, Sized, sized}
+use Rattle.loads.specs.Laid.{laid, recordOr, slotOr, Roomy, Placed, Accepted}
+use Rattle.loads.proofs.ImageLaws.{place-next, Sized, sized}
+use Rattle.loads.proofs.SinkPlaces.{shape-of}
 use Rattle.loads.proofs.LayLaws.{laid-all}
 
 -- ---- the places of the chunks
 
 module _ (image : List ℕ) where
-  pub place-second : (e : ℕ) → Chunk image 0 e → past 1 image ≡ drop e image
-  unfolding past
-  place-second e c = sym (c .next)
-
-  pub place-next : (t at : ℕ) → past t image ≡ drop at image → (e : ℕ) → Chunk image at e → past (suc t) image ≡ drop e image
-  place-next t at h e c = past-next t image ∙ ap (λ (b : List ℕ). drop (frontLen + bodyLen b) b) h ∙ sym (c .next)
-
   -- the body of the chunk at a place
   pub body-at : (t at : ℕ) → past t image ≡ drop at image → (e : ℕ) → Chunk image at e → take (e - (at + frontLen)) (drop (at + frontLen) image) ≡ bodyOf (past t image)
   body-at t at h e c = c .body ∙ ap bodyOf (sym h)
 
 -- ---- the room of the stores
 
--- the objects that are tested are shaped
-shape-of : (n : ℕ) (body : List ℕ) → objectsOk body n ≡ true → shapeOk n body ≡ true
-unfolding objectsOk shapeOk
-shape-of n body e = and-split (allTo n (shaped body) && eqb (length (left body n)) 0) (allTo n (wordsOk body n)) e .0
+module _ (n r : ℕ) (image recs slots roots list sets : List ℕ) (a : Accepted n r image recs slots roots list sets) where
+  pub roomy : (body recs′ slots′ : List ℕ) → body ≡ bodyOf (past 1 image) → length recs′ ≡ length recs → length slots′ ≡ length slots → Roomy n body recs′ slots′
+  roomy body recs′ slots′ e f g =
+      let s = sized image (sizes-right image (a .none)) in
+      record {
+        shape = rw (e, a .is-n) (shape-of (imageN image) (bodyOf (past 1 image)) (objects-right image (a .none)));
+        most = let m = s .sizes .most in omega (arith, a .is-n);
+        records-room = let m = a .records-room in omega arith;
+        slots-room = let m = a .slots-room in omega arith;
+      }
 
-pub roomy : (n r : ℕ) (image recs slots roots : List ℕ) → Accepted n r image recs slots roots
-    → (body recs′ slots′ : List ℕ) → body ≡ bodyOf (past 1 image) → length recs′ ≡ length recs → length slots′ ≡ length slots → Roomy n body recs′ slots′
-roomy n r image recs slots roots a body recs′ slots′ e f g =
-    let w = whole image (a .none) in
-    let s = sized image (w .sizes-are) in
-    record {
-      shape = rw (e, a .is-n) (shape-of (imageN image) (bodyOf (past 1 image)) (w .objects-are));
-      most = let m = s .sizes .most in omega (arith, a .is-n);
-      records-room = let m = a .records-room in omega arith;
-      slots-room = let m = a .slots-room in omega arith;
-    }
+  pub roots-room : (body : List ℕ) → body ≡ bodyOf (past 2 image) → 4 * r ≤ length body
+  unfolding rootsOk
+  roots-room body e =
+      let l = eqb-true (length (bodyOf (past 2 image))) (4 * imageR image) (and-split (eqb (length (bodyOf (past 2 image))) (4 * imageR image)) _ (roots-right image (a .none)) .0) in
+      let f = ap length e in
+      let g = a .is-r in
+      omega arith
 
-pub roots-room : (n r : ℕ) (image recs slots roots : List ℕ) → Accepted n r image recs slots roots
-    → (body : List ℕ) → body ≡ bodyOf (past 2 image) → 4 * r ≤ length body
-unfolding rootsOk
-roots-room n r image recs slots roots a body e =
-    let w = whole image (a .none) in
-    let l = eqb-true (length (bodyOf (past 2 image))) (4 * imageR image) (and-split (eqb (length (bodyOf (past 2 image))) (4 * imageR image)) _ (w .roots-are) .0) in
-    let f = ap length e in
-    let g = a .is-r in
-    omega arith
+  -- its first three chunks are whole
+  pub first-whole : cut image ≡ false
+  unfolding past
+  first-whole = accepted-places image (a .none) .one .whole
+
+  pub second-whole : cut (past 1 image) ≡ false
+  second-whole = accepted-places image (a .none) .two .whole
+
+  pub third-whole : cut (past 2 image) ≡ false
+  third-whole = accepted-places image (a .none) .three .whole
+
+  -- where its chunks are
+  module _ (one two three : ℕ) (c : Chunk image 0 one) (d : Chunk image one two) (e : Chunk image two three) where
+    pub placed : Placed n image one two three
+    unfolding past
+    placed =
+        let h = place-next image 0 0 refl one c in
+        record {
+          is-n = a .is-n;
+          here = h;
+          chunk = d;
+          behind = record {
+            none = a .none;
+            low = omega (arith, c .start, d .start, e .start);
+            inside = e .inside;
+            here = place-next image 2 two (place-next image 1 one h two d) three e;
+          };
+        }
 
 -- ---- what is laid
 
-each-const : (i j k : ℕ) (l : List ℕ) → eachFrom i k (λ x w. 0) l ≡ eachFrom j k (λ x w. 0) l
-unfolding eachFrom
-each-const i j zero l = refl
-each-const i j (suc k) [] = refl
-each-const i j (suc k) (w ∷ l) = ap (λ (r : List ℕ). 0 ∷ r) (each-const (suc i) (suc j) k l)
-
 -- a change after all was cleared
 each-zeros : (i k : ℕ) (g : ℕ → ℕ → ℕ) (l : List ℕ) → eachFrom i k g (zeros k l) ≡ eachFrom i k (λ x w. g x 0) l
-unfolding zeros
-each-zeros i k g l = ap (eachFrom i k g) (each-const 0 i k l) ∙ each-each i k (λ x w. 0) g l
+each-zeros i k g l = ap (eachFrom i k g) (sym (zeros-from i k l)) ∙ each-each i k (λ x w. 0) g l
 
 module _ (n : ℕ) (image : List ℕ) where
   pub records-laid : (recs recs₁ recs₂ body : List ℕ) → recs₁ ≡ zeros n recs → recs₂ ≡ eachRecord n (recordOr body) recs₁ → body ≡ bodyOf (past 1 image)
@@ -126,33 +133,33 @@ numbered image (suc f) t = go (eqb (length (past t image)) 0) (numbered image f 
     go true n a b c d = some 25 a [] nil
     go false n a b c d = some 25 b _ (some 26 c _ (some 27 d _ n))
 
-module _ (image recs slots roots : List ℕ) where
+module _ (image recs slots roots list sets : List ℕ) where
   abbrev ends : List Test
-  ends = (2, heapShort (imageN image) (imageR image) recs slots roots) ∷ []
+  ends = (2, shortHeap (imageN image) (imageR image) recs slots roots list sets) ∷ []
 
-  tests : Load.loadTests image recs slots roots ≡ imageTests image ++ ends
-  unfolding Load.loadTests heapShort
+  tests : Load.loadTests image recs slots roots list sets ≡ imageTests image ++ ends
+  unfolding Load.loadTests
   tests = refl
 
-  refused : (k : ℕ) → first (Load.loadTests image recs slots roots) ≡ k → k ≢ 0 → (c : Control) → c ≡ newControl 0 0
-      → Load.gives (record { refusal = k; control = c }) recs slots roots ≡ Load.load image recs slots roots
+  refused : (k : ℕ) → first (Load.loadTests image recs slots roots list sets) ≡ k → k ≢ 0 → (c : Control) → c ≡ newControl 0 0
+      → Load.gives (record { refusal = k; control = c }) recs slots roots list sets ≡ Load.load image recs slots roots list sets
   unfolding Load.load
-  refused k e d c f = rw f (sym (outcome-number _ _ (Load.loadTests image recs slots roots) k e d))
+  refused k e d c f = rw f (sym (outcome-number _ _ (Load.loadTests image recs slots roots list sets) k e d))
 
   pub image-refused : (k : ℕ) → k ≡ first (imageTests image) → k ≢ 0 → (c : Control) → c ≡ newControl 0 0
-      → Load.gives (record { refusal = k; control = c }) recs slots roots ≡ Load.load image recs slots roots
+      → Load.gives (record { refusal = k; control = c }) recs slots roots list sets ≡ Load.load image recs slots roots list sets
   image-refused k e d =
       refused k (ap first tests ∙ first-front (imageTests image) ends (λ z. d (e ∙ z)) ∙ sym e) d
 
   module _ (none : first (imageTests image) ≡ 0) where
-    short-decides : first (Load.loadTests image recs slots roots) ≡ first ends
+    short-decides : first (Load.loadTests image recs slots roots list sets) ≡ first ends
     unfolding imageTests
     short-decides = ap first tests ∙ first-skip (imageTests image) ends (first-zero (imageTests image) (numbered image (suc (length image)) 0) none)
 
     -- the sizes stand at fixed places
     module _ (n r : ℕ) (en : n ≡ numberAt 2 8 image) (er : r ≡ numberAt 2 10 image) where
       pub is-sized : Sized image
-      is-sized = sized image (whole image none .sizes-are)
+      is-sized = sized image (sizes-right image none)
 
       same-n : n ≡ imageN image
       same-n = en ∙ is-sized .n-at
@@ -160,25 +167,35 @@ module _ (image recs slots roots : List ℕ) where
       same-r : r ≡ imageR image
       same-r = er ∙ is-sized .r-at
 
-      pub too-short : heapShort n r recs slots roots ≡ true → (c : Control) → c ≡ newControl 0 0
-          → Load.gives (record { refusal = 2; control = c }) recs slots roots ≡ Load.load image recs slots roots
+      pub too-short : shortHeap n r recs slots roots list sets ≡ true → (c : Control) → c ≡ newControl 0 0
+          → Load.gives (record { refusal = 2; control = c }) recs slots roots list sets ≡ Load.load image recs slots roots list sets
       too-short h =
-          refused 2 (short-decides ∙ first-holds 2 [] (heapShort (imageN image) (imageR image) recs slots roots) (rw (sym same-n, sym same-r) h)) (λ z. omega arith)
+          refused 2 (short-decides ∙ first-holds 2 [] (shortHeap (imageN image) (imageR image) recs slots roots list sets) (rw (sym same-n, sym same-r) h)) (λ z. omega arith)
 
-      pub accepted : heapShort n r recs slots roots ≡ false → Accepted n r image recs slots roots
+      pub accepted : shortHeap n r recs slots roots list sets ≡ false → Accepted n r image recs slots roots list sets
       unfolding slotsLen
       accepted h =
-          let l = heap-long n r recs slots roots h in
-          record { none = none; is-n = same-n; is-r = same-r; records-room = l .0; slots-room = l .1; roots-room = l .2 }
+          let l = heap-long n r recs slots roots list sets h in
+          record {
+            none = none;
+            is-n = same-n;
+            is-r = same-r;
+            records-room = l .recs-long;
+            slots-room = l .slots-long;
+            roots-room = l .roots-long;
+            sinks-room = l .sinks-long;
+            sets-room = l .sets-long;
+          }
 
-      pub loaded : heapShort n r recs slots roots ≡ false → (c d : Control) (last : ℕ) (recs′ slots′ roots′ : List ℕ)
+      pub loaded : shortHeap n r recs slots roots list sets ≡ false → (c d : Control) (last : ℕ) (recs′ slots′ roots′ list′ sets′ : List ℕ)
           → c ≡ newControl n r → last ≡ numberAt 2 12 image → d ≡ withLast last c
           → recs′ ≡ eachRecord n (λ x w. loadedRecord image x) recs
           → slots′ ≡ eachFrom 0 (slotsLen n) (λ j w. loadedWord image (j / widthMax + 1) (j % widthMax)) slots
           → roots′ ≡ eachFrom 0 r (λ j w. savedRoot (rootWords image) j) roots
-          → Load.gives (record { refusal = 0; control = d }) recs′ slots′ roots′ ≡ Load.load image recs slots roots
+          → list′ ≡ eachFrom 0 sinkMax (λ k y. getD (loadedSinks image) k 0) list → sets′ ≡ zeros n sets
+          → Load.gives (record { refusal = 0; control = d }) recs′ slots′ roots′ list′ sets′ ≡ Load.load image recs slots roots list sets
       unfolding Load.load
-      loaded h c d last recs′ slots′ roots′ p q s e f g =
-          rw (s, p, q, e, f, g, is-sized .last-at, same-n, same-r)
-          (sym (outcome-zero _ _ (Load.loadTests image recs slots roots)
-          (short-decides ∙ first-fails 2 [] (heapShort (imageN image) (imageR image) recs slots roots) (rw (sym same-n, sym same-r) h) ∙ none-first)))
+      loaded h c d last recs′ slots′ roots′ list′ sets′ p q s e f g u v =
+          rw (s, p, q, e, f, g, u, v, is-sized .last-at, same-n, same-r)
+          (sym (outcome-zero _ _ (Load.loadTests image recs slots roots list sets)
+          (short-decides ∙ first-fails 2 [] (shortHeap (imageN image) (imageR image) recs slots roots list sets) (rw (sym same-n, sym same-r) h) ∙ none-first)))

@@ -1,20 +1,26 @@
--- The bodies of an image as they are read: where an object's bytes stand, what is tested of them, and the set of the listed objects.
-use Prim.Native.Nat.{ℕ, _+_, _*_, _≤_, _<_}
+-- The bodies of an image as they are read: where an object's bytes stand, what is tested of them, and the sets of the listed objects and the sinks.
+use Prim.Native.Nat.{ℕ, _+_, _*_, _/_, _%_, _≤_, _<_}
 use mathlib.Core.Path.{_≡_}
-use mathlib.Core.Bool.{Bool, true, false, _&&_, _||_}
+use mathlib.Core.Bool.{Bool, true, false, not, _&&_, _||_}
 use mathlib.Core.List.{List, map}
-use lib.Dec.{eqb}
-use lib.ListN.{length, getD, drop}
-use Rattle.layout.specs.Limits.{widthMax}
+use lib.Dec.{eqb, leb, ltb}
+use lib.ListN.{length, getD, drop, set}
+use Rattle.layout.specs.Field.{putFlag}
+use Rattle.layout.specs.Limits.{widthMax, sinkMax}
 use Rattle.layout.specs.Word.{isNil, isPointer, isImmediate}
 use Rattle.endian.specs.Bytes.{numberAt}
 use Rattle.bitmap.specs.Bits.{holds}
+use Rattle.graph.specs.Numbers.{count}
 use Rattle.rules.specs.Buffers.{allOf, allTo, numbers}
-use Rattle.rules.specs.Image.{headLen, left, listed, shaped, wordsOk}
+use Rattle.rules.specs.Image.{headLen, left, listed, savedAsSink, shaped, wordsOk, objectsOk}
 
 -- the listed objects keep the layout and take all the bytes
 unfoldable pub shapeOk : ℕ → List ℕ → Bool
 shapeOk n body = allTo n (shaped body) && eqb (length (left body n)) 0
+
+-- they do, have legal words, and no more than 64 of them are sinks
+unfoldable pub objectsPass : ℕ → List ℕ → Bool
+objectsPass n body = objectsOk body n && not (ltb sinkMax (count n (savedAsSink body)))
 
 -- place `at` of a body is where the bytes are that are left after object x
 pub record Reached (body : List ℕ) (x at : ℕ) : Type 0 where
@@ -48,9 +54,21 @@ pub record Fit (n : ℕ) (body : List ℕ) (x at : ℕ) : Type 0 where
 abbrev pub Listed : ℕ → List ℕ → List ℕ → Type 0
 Listed n body words = (z : ℕ) → z ≤ n → holds z words ≡ listed body z
 
+-- the set has exactly the sinks up to n, and no number above
+abbrev pub Sunk : ℕ → List ℕ → List ℕ → Type 0
+Sunk n body words = (length words ≡ 64) × ((z : ℕ) → holds z words ≡ (leb z n && savedAsSink body z))
+
 -- a set with no number in it
 abbrev pub Empty : List ℕ → Type 0
 Empty words = (length words ≡ 64) × ((z : ℕ) → holds z words ≡ false)
+
+-- a set without 0
+abbrev pub NoZero : List ℕ → Type 0
+NoZero words = (length words ≡ 64) × (holds 0 words ≡ false)
+
+-- the set without number x
+abbrev pub takeBit : ℕ → List ℕ → List ℕ
+takeBit x words = set words (x / 64) (putFlag (x % 64) false (getD words (x / 64) 0))
 
 -- a word is nil, an immediate where these may stand, or a number in the set
 unfoldable pub passes : Bool → ℕ → List ℕ → ℕ → Bool

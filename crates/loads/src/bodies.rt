@@ -1,18 +1,22 @@
-// The bodies of the first three chunks of an image, tested. Nothing is stored but the set of the listed objects, a bit for each number.
+// The bodies of an image, tested. Nothing is stored but two sets, a bit for each number: the listed objects, and the sinks among them.
 ghost use mathlib.Core.Path.{_≡_};
-ghost use Prim.Native.Nat.{_+_, _*_, _/_, _%_, _<_, _≤_};
-ghost use mathlib.Core.Bool.{true};
-ghost use lib.ListN.{length, getD, set};
-ghost use Rattle.layout.specs.Field.{putFlag};
+ghost use Prim.Native.Nat.{_+_, _*_, _/_, _<_, _≤_};
+ghost use mathlib.Core.Bool.{true, cond};
+ghost use lib.Dec.{eqb};
+ghost use lib.ListN.{length};
 ghost use Rattle.layout.specs.Limits.{objectMax};
+ghost use Rattle.bitmap.specs.Bits.{holds, putBit};
 ghost use Rattle.rules.specs.Buffers.{allOf, allTo};
-ghost use Rattle.rules.specs.Image.{sizesOk, wordsOk, objectsOk};
-ghost use Rattle.loads.specs.Bodies.{shapeOk, Fit, Listed, Empty, passes, wordsAt, fourPass, WordsEnd, rootsPass};
+ghost use Rattle.rules.specs.Image.{sizesOk, wordsOk, sinksOk};
+ghost use Rattle.loads.specs.Bodies.{shapeOk, objectsPass, Fit, Listed, Sunk, Empty, NoZero, takeBit, passes, wordsAt, fourPass, WordsEnd, rootsPass};
 use crate::words::head_byte;
 use crate::words::word_at;
 use bitmap::has_bit;
+use bitmap::ones;
+use bitmap::put_bit;
 use endian::byte_at;
 use endian::get2;
+use layout::limits::SINK_MAX;
 use layout::limits::WIDTH_MAX;
 use layout::refusals::bad_sizes;
 
@@ -26,15 +30,13 @@ pub(crate) fn sizes_ok(body: &[u8]) -> bool
 
 // ---- objects
 
-// Number x goes into the set.
-pub(crate) fn put(words: &mut [u64], x: u32)
-    requires { ⌜ (length (now words) ≡ 64) × (x ≤ objectMax) ⌝ }
-    ensures { λ _. ⌜ now (words .exit) ≡ set (now (words .entry)) (x / 64) (putFlag (x % 64) true (getD (now (words .entry)) (x / 64) 0)) ⌝ }
+// Number x goes into the set, if the byte says that it is a sink.
+pub(crate) fn put_sink(sinks: &mut [u64], x: u32, byte: u32)
+    ensures { λ _. ⌜ now (sinks .exit) ≡ cond (eqb byte 1) (putBit x (now (sinks .entry))) (now (sinks .entry)) ⌝ }
 {
-    let i = x as usize;
-    let at = i / 64;
-    let w = words[at];
-    words[at] = w | (1 << (i % 64));
+    if byte == 1 {
+        put_bit(sinks, x as usize);
+    }
 }
 
 // Whether the object at a place, behind object `last`, keeps the layout.
@@ -66,11 +68,12 @@ pub(crate) fn fits(n: u32, last: u32, body: &[u8], at: usize) -> bool
     true
 }
 
-// Whether the listed objects keep the layout; their numbers go into the set.
-pub(crate) fn shape(n: u32, body: &[u8], words: &mut [u64]) -> bool
-    requires { ⌜ (n ≤ objectMax) × Empty (now words) ⌝ }
+// Whether the listed objects keep the layout; their numbers go into the first set, and those of the sinks into the second.
+pub(crate) fn shape(n: u32, body: &[u8], words: &mut [u64], sinks: &mut [u64]) -> bool
+    requires { ⌜ (n ≤ objectMax) × Empty (now words) × Empty (now sinks) ⌝ }
     ensures { λ b. ⌜ b ≡ shapeOk n (now (body .entry)) ⌝ }
     ensures { λ b. ⌜ (b ≡ true → Listed n (now (body .entry)) (now (words .exit))) ⌝ }
+    ensures { λ b. ⌜ (b ≡ true → Sunk n (now (body .entry)) (now (sinks .exit))) ⌝ }
 {
     let mut last: u32 = 0;
     let mut at: usize = 0;
@@ -79,7 +82,8 @@ pub(crate) fn shape(n: u32, body: &[u8], words: &mut [u64]) -> bool
             return false;
         }
         last = get2(body, at);
-        put(words, last);
+        put_bit(words, last as usize);
+        put_sink(sinks, last, byte_at(body, at + 3));
         at += 4 + 4 * byte_at(body, at + 2) as usize;
     }
     true
@@ -184,13 +188,17 @@ pub(crate) fn words_ok(n: u32, body: &[u8], words: &[u64]) -> bool
     true
 }
 
-// Whether the body of kind 2 is one of objects 1 to n; their numbers go into the set.
-pub(crate) fn objects_ok(n: u32, body: &[u8], words: &mut [u64]) -> bool
-    requires { ⌜ (n ≤ objectMax) × Empty (now words) ⌝ }
-    ensures { λ b. ⌜ b ≡ objectsOk (now (body .entry)) n ⌝ }
+// Whether the body of kind 2 is one of objects 1 to n with no more than 64 sinks; the numbers go into the two sets.
+pub(crate) fn objects_ok(n: u32, body: &[u8], words: &mut [u64], sinks: &mut [u64]) -> bool
+    requires { ⌜ (n ≤ objectMax) × Empty (now words) × Empty (now sinks) ⌝ }
+    ensures { λ b. ⌜ b ≡ objectsPass n (now (body .entry)) ⌝ }
     ensures { λ b. ⌜ (b ≡ true → Listed n (now (body .entry)) (now (words .exit))) ⌝ }
+    ensures { λ b. ⌜ (b ≡ true → Sunk n (now (body .entry)) (now (sinks .exit))) ⌝ }
 {
-    if !shape(n, body, words) {
+    if !shape(n, body, words, sinks) {
+        return false;
+    }
+    if SINK_MAX < ones(sinks) {
         return false;
     }
     words_ok(n, body, words)
@@ -206,4 +214,39 @@ pub(crate) fn roots_ok(n: u32, r: u32, body: &[u8], words: &[u64]) -> bool
         return false;
     }
     rest_end(false, n, body, 0, r, words) == 4 * k
+}
+
+// ---- sinks
+
+// Number x is taken out of the set.
+pub(crate) fn take_bit(sinks: &mut [u64], x: u32)
+    requires { ⌜ x / 64 < length (now sinks) ⌝ }
+    ensures { λ _. ⌜ now (sinks .exit) ≡ takeBit x (now (sinks .entry)) ⌝ }
+{
+    let i = x as usize;
+    let at = i / 64;
+    let w = sinks[at];
+    sinks[at] = w & !(1 << (i % 64));
+}
+
+// Whether the numbers of a body of kind 0x8001 are those in the set, each once. They are taken out of it, so that no second body passes.
+pub(crate) fn sinks_ok(body: &[u8], sinks: &mut [u64]) -> bool
+    requires { ⌜ NoZero (now sinks) ⌝ }
+    ensures { λ b. ⌜ b ≡ sinksOk objectMax (λ z. holds z (now (sinks .entry))) (now (body .entry)) ⌝ }
+    ensures { λ b. ⌜ (b ≡ true → Empty (now (sinks .exit))) ⌝ }
+{
+    let len = body.len();
+    if (len == 0) | (len != 2 * ones(sinks) as usize) {
+        return false;
+    }
+    let mut at: usize = 0;
+    while at < len {
+        let x = get2(body, at);
+        if !has_bit(sinks, x as usize) {
+            return false;
+        }
+        take_bit(sinks, x);
+        at += 2;
+    }
+    true
 }

@@ -1,22 +1,29 @@
 // The stores of load, all of them behind its last test.
 ghost use mathlib.Core.Path.{_≡_};
-ghost use Prim.Native.Nat.{_+_, _*_, _/_, _%_, _≤_};
-ghost use lib.ListN.{length};
-ghost use Rattle.layout.specs.Limits.{slotsLen, widthMax};
+ghost use Prim.Native.Nat.{_+_, _*_, _/_, _%_, _≤_, _<_};
+ghost use mathlib.Core.Bool.{cond};
+ghost use lib.Dec.{eqb};
+ghost use lib.ListN.{length, getD, drop, set};
+ghost use lib.Seq.{sets};
+ghost use Rattle.layout.specs.Limits.{slotsLen, widthMax, sinkMax};
 ghost use Rattle.endian.specs.Bytes.{numberAt};
-ghost use Rattle.rules.specs.Buffers.{eachFrom, eachRecord};
-ghost use Rattle.rules.specs.Image.{savedRoot};
-ghost use Rattle.rules.specs.Load.{rootWords, loadedRecord, loadedWord};
-ghost use Rattle.loads.specs.Laid.{laid, recordOr, slotOr, Roomy, Accepted};
+ghost use Rattle.rules.specs.Buffers.{eachFrom, eachRecord, zeros};
+ghost use Rattle.rules.specs.Image.{frontLen, sinksKind, kindOf, savedAsSink, savedRoot, savedList};
+ghost use Rattle.rules.specs.Load.{rootWords, loadedRecord, loadedWord, loadedSinks};
+ghost use Rattle.loads.specs.Laid.{laid, recordOr, slotOr, singles, Roomy, Tail, SinksAt, Listable, Placed, Accepted};
 use crate::chunks::FRONT;
+use crate::chunks::SINKS;
 use crate::chunks::end_of;
 use crate::words::head_byte;
 use crate::words::number_at;
 use crate::words::word_at;
+use endian::get2;
+use layout::limits::SINK_MAX;
 use layout::limits::slots_len;
 use records::new_record;
 use records::with_sink;
 use table::buffers::zero;
+use table::buffers::zero_sets;
 
 // The four words from a place of a body on, stored from place `to` on. All are read before the first is stored, so that they become one store.
 pub(crate) fn lay_four(body: &[u8], at: usize, words: &mut [u32], to: usize)
@@ -83,6 +90,97 @@ pub(crate) fn lay_objects(n: u32, body: &[u8], records: &mut [u32], slots: &mut 
     }
 }
 
+// ---- sinks
+
+// Place `at`, if a chunk of sinks is there, and else the place found before.
+pub(crate) fn newer(image: &[u8], at: usize, found: usize) -> usize
+    requires { ⌜ at + frontLen ≤ length (now image) ⌝ }
+    ensures { λ e. ⌜ e ≡ cond (eqb (kindOf (drop at (now (image .entry)))) sinksKind) at found ⌝ }
+{
+    if get2(image, at + 4) == SINKS {
+        at
+    } else {
+        found
+    }
+}
+
+// The place of the chunk of sinks among the chunks from a place on, 0 where there is none.
+pub(crate) fn find_sinks(image: &[u8], from: usize) -> usize
+    requires { ⌜ Tail (now image) from ⌝ }
+    ensures { λ e. ⌜ SinksAt (now (image .entry)) e ⌝ }
+{
+    let mut found: usize = 0;
+    let mut at = from;
+    while at < image.len() {
+        found = newer(image, at, found);
+        at = end_of(image, at);
+    }
+    found
+}
+
+// The numbers of a body of kind 0x8001, from the first place on.
+pub(crate) fn lay_list(body: &[u8], sinks: &mut [u32])
+    requires { ⌜ (length (now body) / 2 ≤ length (now sinks)) × (length (now body) % 2 ≡ 0) ⌝ }
+    ensures { λ _. ⌜ now (sinks .exit) ≡ sets (now (sinks .entry)) 0 (savedList (now (body .entry))) ⌝ }
+{
+    let mut to: usize = 0;
+    let mut at: usize = 0;
+    while at < body.len() {
+        sinks[to] = get2(body, at);
+        to += 1;
+        at += 2;
+    }
+}
+
+// Number x in place `to`, if the byte says that it is a sink; answers the next place.
+pub(crate) fn lay_number(x: u32, byte: u32, sinks: &mut [u32], to: usize) -> usize
+    requires { ⌜ (byte ≡ 1 → to < length (now sinks)) ⌝ }
+    ensures { λ e. ⌜ (e ≡ cond (eqb byte 1) (to + 1) to) × (now (sinks .exit) ≡ cond (eqb byte 1) (set (now (sinks .entry)) to x) (now (sinks .entry))) ⌝ }
+{
+    if byte != 1 {
+        return to;
+    }
+    sinks[to] = x;
+    to + 1
+}
+
+// The numbers of the sinks among the listed objects, from the first place on.
+pub(crate) fn lay_numbers(n: u32, body: &[u8], sinks: &mut [u32])
+    requires { ⌜ Listable n (now body) (now sinks) ⌝ }
+    ensures { λ _. ⌜ now (sinks .exit) ≡ sets (now (sinks .entry)) 0 (singles n (savedAsSink (now (body .entry)))) ⌝ }
+{
+    let mut to: usize = 0;
+    let mut at: usize = 0;
+    while at < body.len() {
+        to = lay_number(number_at(body, at), head_byte(body, at, 3), sinks, to);
+        at += 4 + 4 * head_byte(body, at, 2) as usize;
+    }
+}
+
+// The list of the sinks: as their chunk has them, and without one by number. The second chunk, the third and those behind are at places.
+pub(crate) fn lay_sinks(
+    n: u32,
+    image: &[u8],
+    second: usize,
+    third: usize,
+    tail: usize,
+    sinks: &mut [u32],
+)
+    requires { ⌜ Placed n (now image) second third tail × (sinkMax ≤ length (now sinks)) ⌝ }
+    ensures { λ _. ⌜ now (sinks .exit) ≡ eachFrom 0 sinkMax (λ k y. getD (loadedSinks (now (image .entry))) k 0) (now (sinks .entry)) ⌝ }
+{
+    zero(sinks, SINK_MAX as usize);
+    let at = find_sinks(image, tail);
+    if at == 0 {
+        let objects = second + FRONT;
+        lay_numbers(n, &image[objects..third], sinks);
+        return;
+    }
+    let start = at + FRONT;
+    let end = end_of(image, at);
+    lay_list(&image[start..end], sinks);
+}
+
 // The heap of an image that is not refused.
 pub(crate) fn lay(
     n: u32,
@@ -91,11 +189,15 @@ pub(crate) fn lay(
     records: &mut [u32],
     slots: &mut [u32],
     roots: &mut [u32],
+    sinks: &mut [u32],
+    sets: &mut [u64],
 )
-    requires { ⌜ Accepted n r (now image) (now records) (now slots) (now roots) ⌝ }
+    requires { ⌜ Accepted n r (now image) (now records) (now slots) (now roots) (now sinks) (now sets) ⌝ }
     ensures { λ _. ⌜ now (records .exit) ≡ eachRecord n (λ x w. loadedRecord (now (image .entry)) x) (now (records .entry)) ⌝ }
     ensures { λ _. ⌜ now (slots .exit) ≡ eachFrom 0 (slotsLen n) (λ j w. loadedWord (now (image .entry)) (j / widthMax + 1) (j % widthMax)) (now (slots .entry)) ⌝ }
     ensures { λ _. ⌜ now (roots .exit) ≡ eachFrom 0 r (λ j w. savedRoot (rootWords (now (image .entry))) j) (now (roots .entry)) ⌝ }
+    ensures { λ _. ⌜ now (sinks .exit) ≡ eachFrom 0 sinkMax (λ k y. getD (loadedSinks (now (image .entry))) k 0) (now (sinks .entry)) ⌝ }
+    ensures { λ _. ⌜ now (sets .exit) ≡ zeros n (now (sets .entry)) ⌝ }
 {
     let second = end_of(image, 0);
     let third = end_of(image, second);
@@ -106,4 +208,6 @@ pub(crate) fn lay(
     lay_objects(n, &image[objects..third], records, slots);
     let words = third + FRONT;
     lay_words(&image[words..end], 0, r, roots, 0);
+    lay_sinks(n, image, second, third, end, sinks);
+    zero_sets(sets, n as usize);
 }

@@ -29,11 +29,13 @@ pub extern "C" fn pakzid_create(
     records: &mut [u32],
     slots: &mut [u32],
     roots: &mut [u32],
+    sinks: &mut [u32],
+    sets: &mut [u64],
 ) -> Done
-    ensures { λ a. ⌜ Create.gives a (now (records .exit)) (now (slots .exit)) (now (roots .exit))
-        ≡ Create.create n r (now (records .entry)) (now (slots .entry)) (now (roots .entry)) ⌝ }
+    ensures { λ a. ⌜ Create.gives a (now (records .exit)) (now (slots .exit)) (now (roots .exit)) (now (sinks .exit)) (now (sets .exit))
+        ≡ Create.create n r (now (records .entry)) (now (slots .entry)) (now (roots .entry)) (now (sinks .entry)) (now (sets .entry)) ⌝ }
 {
-    heap::create::create(n, r, records, slots, roots)
+    heap::create::create(n, r, records, slots, roots, sinks, sets)
 }
 
 #[no_mangle]
@@ -78,11 +80,13 @@ pub extern "C" fn pakzid_write(
     word: u32,
     records: &mut [u32],
     slots: &mut [u32],
+    sinks: &[u32],
+    sets: &mut [u64],
 ) -> Done
-    ensures { λ a. ⌜ Write.gives a (now (records .exit)) (now (slots .exit))
-        ≡ Write.write c object slot word (now (records .entry)) (now (slots .entry)) ⌝ }
+    ensures { λ a. ⌜ Write.gives a (now (records .exit)) (now (slots .exit)) (now (sets .exit))
+        ≡ Write.write c object slot word (now (records .entry)) (now (slots .entry)) (now (sinks .entry)) (now (sets .entry)) ⌝ }
 {
-    writes::write::write(c, object, slot, word, records, slots)
+    writes::write::write(c, object, slot, word, records, slots, sinks, sets)
 }
 
 #[no_mangle]
@@ -105,11 +109,13 @@ pub extern "C" fn pakzid_declare_sink(
     records: &mut [u32],
     slots: &[u32],
     roots: &[u32],
+    sinks: &mut [u32],
+    sets: &mut [u64],
 ) -> Done
-    ensures { λ a. ⌜ DeclareSink.gives a (now (records .exit))
-        ≡ DeclareSink.declareSink c object (now (records .entry)) (now (slots .entry)) (now (roots .entry)) ⌝ }
+    ensures { λ a. ⌜ DeclareSink.gives a (now (records .exit)) (now (sinks .exit)) (now (sets .exit))
+        ≡ DeclareSink.declareSink c object (now (records .entry)) (now (slots .entry)) (now (roots .entry)) (now (sinks .entry)) (now (sets .entry)) ⌝ }
 {
-    sinks::declare_sink(c, object, records, slots, roots)
+    sinks::declare_sink(c, object, records, slots, roots, sinks, sets)
 }
 
 #[no_mangle]
@@ -118,12 +124,14 @@ pub extern "C" fn pakzid_analyse(
     records: &mut [u32],
     slots: &[u32],
     roots: &[u32],
+    sinks: &[u32],
+    sets: &mut [u64],
     work: &mut [u32],
 ) -> Analysed
-    ensures { λ a. ⌜ Analyse.gives a (now (records .exit)) (now (work .exit))
-        ≡ Analyse.analyse c (now (records .entry)) (now (slots .entry)) (now (roots .entry)) (now (work .entry)) ⌝ }
+    ensures { λ a. ⌜ Analyse.gives a (now (records .exit)) (now (sets .exit)) (now (work .exit))
+        ≡ Analyse.analyse c (now (records .entry)) (now (slots .entry)) (now (roots .entry)) (now (sinks .entry)) (now (sets .entry)) (now (work .entry)) ⌝ }
 {
-    analyse::analyse(c, records, slots, roots, work)
+    analyse::analyse(c, records, slots, roots, sinks, sets, work)
 }
 
 #[no_mangle]
@@ -132,13 +140,15 @@ pub extern "C" fn pakzid_collect_plain(
     records: &mut [u32],
     slots: &mut [u32],
     roots: &[u32],
+    sinks: &mut [u32],
+    sets: &mut [u64],
     work: &mut [u32],
     map: &mut [u64],
 ) -> Collected
-    ensures { λ a. ⌜ Collect.gives a (now (records .exit)) (now (slots .exit)) (now (work .exit)) (now (map .exit))
-        ≡ Collect.collect Collect.plainly c (now (records .entry)) (now (slots .entry)) (now (roots .entry)) (now (work .entry)) (now (map .entry)) ⌝ }
+    ensures { λ a. ⌜ Collect.gives a (now (records .exit)) (now (slots .exit)) (now (sinks .exit)) (now (sets .exit)) (now (work .exit)) (now (map .exit))
+        ≡ Collect.collect Collect.plainly c (now (records .entry)) (now (slots .entry)) (now (roots .entry)) (now (sinks .entry)) (now (sets .entry)) (now (work .entry)) (now (map .entry)) ⌝ }
 {
-    collect::collect(false, c, records, slots, roots, work, map)
+    collect::collect(false, c, records, slots, roots, sinks, sets, work, map)
 }
 
 #[no_mangle]
@@ -147,13 +157,15 @@ pub extern "C" fn pakzid_collect_clusters(
     records: &mut [u32],
     slots: &mut [u32],
     roots: &[u32],
+    sinks: &mut [u32],
+    sets: &mut [u64],
     work: &mut [u32],
     map: &mut [u64],
 ) -> Collected
-    ensures { λ a. ⌜ Collect.gives a (now (records .exit)) (now (slots .exit)) (now (work .exit)) (now (map .exit))
-        ≡ Collect.collect Collect.byClusters c (now (records .entry)) (now (slots .entry)) (now (roots .entry)) (now (work .entry)) (now (map .entry)) ⌝ }
+    ensures { λ a. ⌜ Collect.gives a (now (records .exit)) (now (slots .exit)) (now (sinks .exit)) (now (sets .exit)) (now (work .exit)) (now (map .exit))
+        ≡ Collect.collect Collect.byClusters c (now (records .entry)) (now (slots .entry)) (now (roots .entry)) (now (sinks .entry)) (now (sets .entry)) (now (work .entry)) (now (map .entry)) ⌝ }
 {
-    collect::collect(true, c, records, slots, roots, work, map)
+    collect::collect(true, c, records, slots, roots, sinks, sets, work, map)
 }
 
 #[no_mangle]
@@ -162,12 +174,14 @@ pub extern "C" fn pakzid_save(
     records: &[u32],
     slots: &[u32],
     roots: &[u32],
+    sinks: &[u32],
+    sets: &[u64],
     image: &mut [u8],
 ) -> Saved
     ensures { λ a. ⌜ Save.gives a (now (image .exit))
-        ≡ Save.save c (now (records .entry)) (now (slots .entry)) (now (roots .entry)) (now (image .entry)) ⌝ }
+        ≡ Save.save c (now (records .entry)) (now (slots .entry)) (now (roots .entry)) (now (sinks .entry)) (now (sets .entry)) (now (image .entry)) ⌝ }
 {
-    saves::save(c, records, slots, roots, image)
+    saves::save(c, records, slots, roots, sinks, sets, image)
 }
 
 #[no_mangle]
@@ -176,9 +190,11 @@ pub extern "C" fn pakzid_load(
     records: &mut [u32],
     slots: &mut [u32],
     roots: &mut [u32],
+    sinks: &mut [u32],
+    sets: &mut [u64],
 ) -> Done
-    ensures { λ a. ⌜ Load.gives a (now (records .exit)) (now (slots .exit)) (now (roots .exit))
-        ≡ Load.load (now (image .entry)) (now (records .entry)) (now (slots .entry)) (now (roots .entry)) ⌝ }
+    ensures { λ a. ⌜ Load.gives a (now (records .exit)) (now (slots .exit)) (now (roots .exit)) (now (sinks .exit)) (now (sets .exit))
+        ≡ Load.load (now (image .entry)) (now (records .entry)) (now (slots .entry)) (now (roots .entry)) (now (sinks .entry)) (now (sets .entry)) ⌝ }
 {
-    loads::load(image, records, slots, roots)
+    loads::load(image, records, slots, roots, sinks, sets)
 }

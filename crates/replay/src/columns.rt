@@ -72,6 +72,8 @@ fn next(
     records: &mut Records,
     slots: &mut Slots,
     roots: &mut Roots,
+    sinks: &mut Sinks,
+    sets: &mut Sets,
     work: &mut Work,
     map: &mut Map,
     images: &mut Images,
@@ -94,6 +96,8 @@ fn next(
         &mut records[side],
         &mut slots[side],
         &mut roots[side],
+        &mut sinks[side],
+        &mut sets[side],
         &mut work[side],
         &mut map[side],
         &mut images[side],
@@ -114,6 +118,8 @@ pub(crate) fn step(
     records: &mut Records,
     slots: &mut Slots,
     roots: &mut Roots,
+    sinks: &mut Sinks,
+    sets: &mut Sets,
     work: &mut Work,
     map: &mut Map,
     images: &mut Images,
@@ -122,9 +128,33 @@ pub(crate) fn step(
     let mut right = b.right;
     let verdict = b.verdict;
     if left.state == READING {
-        left = next(left, 0, input, records, slots, roots, work, map, images);
+        left = next(
+            left,
+            0,
+            input,
+            records,
+            slots,
+            roots,
+            sinks,
+            sets,
+            work,
+            map,
+            images,
+        );
     } else {
-        right = next(right, 1, input, records, slots, roots, work, map, images);
+        right = next(
+            right,
+            1,
+            input,
+            records,
+            slots,
+            roots,
+            sinks,
+            sets,
+            work,
+            map,
+            images,
+        );
     }
     Both {
         left,

@@ -55,6 +55,8 @@ fn play(
     records: &mut Records,
     slots: &mut Slots,
     roots: &mut Roots,
+    sinks: &mut Sinks,
+    sets: &mut Sets,
     work: &mut Work,
     map: &mut Map,
     images: &mut Images,
@@ -63,7 +65,18 @@ fn play(
     let mut turns = u64::MAX;
     while 0 < turns && !b.over {
         if is_reading(b) {
-            b = step(b, input, records, slots, roots, work, map, images);
+            b = step(
+                b,
+                input,
+                records,
+                slots,
+                roots,
+                sinks,
+                sets,
+                work,
+                map,
+                images,
+            );
         } else {
             b = turn(b, page, hands, records, slots, roots, map);
         }
@@ -79,9 +92,11 @@ fn report(a: Check, c: Check, one: bool, page: &mut Text, at: usize) {
     let mut recs = [[0u32; 4095]; 2];
     let mut slots = [[0u32; 32760]; 2];
     let mut roots = [[0u32; 64]; 2];
+    let mut sinks = [[0u32; 64]; 2];
+    let mut sets = [[0u64; 4095]; 2];
     let mut work = [[0u32; 41014]; 2];
     let mut map = [[0u64; 64]; 2];
-    let mut images = [[0u8; 147702]; 2];
+    let mut images = [[0u8; 147836]; 2];
     let b = play(
         begin(a.source.fd, c.source.fd, one, at),
         page,
@@ -90,6 +105,8 @@ fn report(a: Check, c: Check, one: bool, page: &mut Text, at: usize) {
         &mut recs,
         &mut slots,
         &mut roots,
+        &mut sinks,
+        &mut sets,
         &mut work,
         &mut map,
         &mut images,

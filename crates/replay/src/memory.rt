@@ -12,11 +12,17 @@ pub(crate) type Slots = [[u32; 32760]; 2];
 
 pub(crate) type Roots = [[u32; 64]; 2];
 
+// The list of sinks.
+pub(crate) type Sinks = [[u32; 64]; 2];
+
+// The sets of sinks, one for each head.
+pub(crate) type Sets = [[u64; 4095]; 2];
+
 pub(crate) type Work = [[u32; 41014]; 2];
 
 pub(crate) type Map = [[u64; 64]; 2];
 
-// What was saved last, of the longest image: 26 bytes, 36 for each object and 4 for each root.
-pub(crate) type Images = [[u8; 147702]; 2];
+// What was saved last, of the longest image: 160 bytes, 36 for each object and 4 for each root.
+pub(crate) type Images = [[u8; 147836]; 2];
 
 pub(crate) type Hands = [u64; 8192];

@@ -13,7 +13,7 @@ use lines::words::next_word;
 use std::num::wrapping_add_usize;
 
 // The words for refusals: those of arguments, up to 7, then those of a heap's state and of an image, from 20 on.
-const REASONS: [u8; 317] = *b"
+const REASONS: [u8; 337] = *b"
 sizes out of range
 a buffer is too short
 width above 8
@@ -30,6 +30,7 @@ the write loss is too large
 the image is cut
 the image is not a heap
 a chunk of unknown kind
+64 sinks are listed
 ";
 
 // The answers of accepted calls.

@@ -1,27 +1,32 @@
 -- What an accepted image is: three chunks in their places with bodies that are right, and the heap in them.
 -- Assumes nothing.
 use Prim.Native.Nat.{ℕ, zero, suc, _+_, _-_, _*_, _≤_, _<_}
-use mathlib.Core.Path.{_≡_, refl, sym, ap, _∙_}
-use mathlib.Core.Bool.{Bool, true, false, not, cond, _&&_, _||_, true≢false}
+use mathlib.Core.Path.{_≡_, refl, sym, ap, _∙_, subst}
+use mathlib.Core.Bool.{Bool, true, false, not, cond, _&&_, _||_, false≢true, true≢false}
 use mathlib.Core.List.{List, [], _∷_, map, List·Memᴰ}
 use mathlib.Core.Logic.{_⊎_, inl, inr}
 use native.Mathlib.Omega.{arith}
 use lib.Dec.{eqb, leb, ltb}
 use lib.ListN.{length, length-drop}
 use borrow.Author.Tests.{ltb-false, leb-true, eqb-true, not-true, not-false, lt-ltb, ne-eqb}
+use Rattle.layout.specs.Limits.{sinkMax}
 use Rattle.layout.specs.ControlRecord.{badSizes}
 use Rattle.layout.specs.Refusal.{first}
 use Rattle.layout.specs.Word.{isNil, isImmediate}
 use Rattle.layout.proofs.BoolLaws.{or-split, and-split}
 use Rattle.layout.proofs.LimitLaws.{within-true}
 use Rattle.layout.proofs.RefusalLaws.{first-passed}
-use Rattle.endian.specs.Bytes.{numberAt}
+use Rattle.endian.specs.Bytes.{number, numberAt}
+use Rattle.graph.specs.Numbers.{Obj, has, count, gather}
+use Rattle.graph.proofs.NumberLaws.{count-ext}
 use Rattle.rules.specs.Buffers.{numbers, allTo}
-use Rattle.rules.specs.Image.{bodyLen, kindOf, past, cut, savedN, savedR, savedLast, sizesOk, objectLen, left, listed, from, savedWidth, savedSink, savedWords, shaped, namesListed, wordsOk, objectsOk, savedRoot, rootsOk}
-use Rattle.rules.specs.Load.{known, passed, misplaced, sizes, objects, rootWords, imageN, imageR, badBody, chunkTests, imageTests}
-use Rattle.rules.specs.Plain.{vacant, isFree, cellAt, plainSize, cellFrom, plainLoaded}
+use Rattle.rules.specs.WellFormed.{lists}
+use Rattle.rules.specs.Image.{sinksKind, bodyLen, kindOf, bodyOf, past, cut, savedN, savedR, savedLast, sizesOk, objectLen, left, listed, from, savedWidth, savedSink, savedAsSink, savedWords, shaped, namesListed, wordsOk, objectsOk, savedRoot, rootsOk, savedList, sinksOk}
+use Rattle.rules.specs.Load.{known, passed, misplaced, sizes, objects, rootWords, imageN, imageR, badBody, sinksBefore, badSinks, chunkTests, imageTests, loadedSinks}
+use Rattle.rules.specs.Plain.{vacant, object, isFree, isSink, cellAt, plainSize, plainSink, cellFrom, plainLoaded}
 use Rattle.rules.proofs.ListLaws.{allOf-at, length-numbers, get-numbers}
-use Rattle.rules.proofs.ImageLaws.{past-suc}
+use Rattle.rules.proofs.ListedLaws.{Lists, lists-facts, listed-count, pointers-same, gather-lists, gather-nonzero}
+use Rattle.rules.proofs.ImageLaws.{past-suc, past-nil, past-add, length-none}
 
 -- ---- a chunk that ends in the input
 
@@ -40,6 +45,7 @@ module _ (b : List ℕ) (c : cut b ≡ false) where
 pub record Sound (b : List ℕ) (t : ℕ) : Type 0 where
   pub whole : cut (past t b) ≡ false
   pub placed : (misplaced t (kindOf (past t b)) || (known (kindOf (past t b)) && badBody b t)) ≡ false
+  pub listed : (eqb (kindOf (past t b)) sinksKind && badSinks b t) ≡ false
   pub named : (not (known (kindOf (past t b))) && not (passed (kindOf (past t b)))) ≡ false
 
 -- the image ends before chunk t, or chunk t is sound and those behind it pass
@@ -66,7 +72,8 @@ module _ (b : List ℕ) where
     where
       go : (u : Bool) → eqb (length (past t b)) 0 ≡ u
           → first (cond u ((26, ltb t 3) ∷ [])
-          ((26, cut (past t b)) ∷ (27, misplaced t (kindOf (past t b)) || (known (kindOf (past t b)) && badBody b t))
+          ((26, cut (past t b))
+          ∷ (27, misplaced t (kindOf (past t b)) || (known (kindOf (past t b)) && badBody b t) || (eqb (kindOf (past t b)) sinksKind && badSinks b t))
           ∷ (28, not (known (kindOf (past t b))) && not (passed (kindOf (past t b)))) ∷ chunkTests b f (suc t))) ≡ 0
           → Next b f t
       go true z q = inl (eqb-true (length (past t b)) 0 z, first-passed 25 (ltb t 3) [] q .0)
@@ -74,7 +81,8 @@ module _ (b : List ℕ) where
           let x = first-passed 25 _ _ q in
           let y = first-passed 26 _ _ (x .1) in
           let v = first-passed 27 _ _ (y .1) in
-          inr (record { whole = x .0; placed = y .0; named = v .0 }, v .1)
+          let p = or-split (misplaced t (kindOf (past t b)) || (known (kindOf (past t b)) && badBody b t)) _ (y .0) in
+          inr (record { whole = x .0; placed = p .0; listed = p .1; named = v .0 }, v .1)
 
   -- one of the first three has the kind of its place, and its body is right
   early : (t : ℕ) → t < 3 → Sound b t → (kindOf (past t b) ≡ suc t) × (badBody b t ≡ false)
@@ -143,11 +151,88 @@ module _ (b : List ℕ) (e : first (imageTests b) ≡ 0) where
   pub sizes-right : sizesOk (sizes b) ≡ true
   sizes-right = not-false _ (unfold badBody past in accepted-places b e .one .right)
 
+  second-right : (not (objectsOk (objects b) (imageN b)) || ltb sinkMax (count (imageN b) (savedAsSink (objects b)))) ≡ false
+  second-right = unfold badBody in accepted-places b e .two .right
+
   pub objects-right : objectsOk (objects b) (imageN b) ≡ true
-  objects-right = not-false _ (unfold badBody in accepted-places b e .two .right)
+  objects-right = not-false _ (or-split (not (objectsOk (objects b) (imageN b))) _ second-right .0)
+
+  -- at most 64 of them are sinks
+  pub few-sinks : count (imageN b) (savedAsSink (objects b)) ≤ sinkMax
+  few-sinks = ltb-false _ _ (or-split (not (objectsOk (objects b) (imageN b))) _ second-right .1)
 
   pub roots-right : rootsOk (imageN b) (imageR b) (objects b) (rootWords b) ≡ true
   roots-right = not-false _ (unfold badBody in accepted-places b e .three .right)
+
+-- ---- its sinks
+
+module _ (b : List ℕ) where
+  -- chunk t passes, or the image ends before it
+  abbrev Within : ℕ → Type 0
+  Within t = Sound b t ⊎ (past t b ≡ [])
+
+  ends : (t k : ℕ) → length (past t b) ≡ 0 → past (k + t) b ≡ []
+  ends t k e = past-add k t b ∙ ap (past k) (length-none (past t b) e) ∙ past-nil k
+
+  later : (f t : ℕ) → length (past t b) < f → first (chunkTests b f t) ≡ 0 → (k : ℕ) → Within (k + t)
+  later zero t p e k = absurd (omega arith)
+  later (suc f) t p e k = go k (next b f t e) (λ s r. later f (suc t) (enough-behind b f t p s) r)
+    where
+      go : (k : ℕ) → Next b f t → (Sound b t → first (chunkTests b f (suc t)) ≡ 0 → (k : ℕ) → Within (k + suc t)) → Within (k + t)
+      go k (inl z) r = inr (ends t k (z .0))
+      go zero (inr q) r = subst Within (let e : t ≡ 0 + t = omega arith in e) (inl (q .0))
+      go (suc k) (inr q) r = subst Within (let e : k + suc t ≡ suc k + t = omega arith in e) (r (q .0) (q .1) k)
+
+  -- what is read of the chunks up to t: no bytes, or a body that is right
+  abbrev Right : List ℕ → Type 0
+  Right body = (body ≡ []) ⊎ (sinksOk (imageN b) (savedAsSink (objects b)) body ≡ true)
+
+  module _ (e : first (imageTests b) ≡ 0) where
+    behind : (t : ℕ) → 3 ≤ t → Within t
+    behind t l =
+        let a = accepted-places b e .behind in
+        subst Within (let q : t - 3 + 3 ≡ t = omega arith in q) (later (a .fuel) 3 (a .enough) (a .none) (t - 3))
+
+    read-right : (t : ℕ) → Right (sinksBefore b t)
+    unfolding sinksBefore badSinks kindOf numberAt number
+    read-right zero = inl refl
+    read-right (suc t) = go (leb 3 t && eqb (kindOf (past t b)) sinksKind) refl (read-right t)
+      where
+        its : leb 3 t ≡ true → eqb (kindOf (past t b)) sinksKind ≡ true → Within t → Right (bodyOf (past t b))
+        its p k (inr z) = absurd (false≢true (rw z at k))
+        its p k (inl s) =
+            let q = or-split (not (eqb (length (sinksBefore b t)) 0)) _ (rw k at (s .listed)) in
+            inr (not-false _ (q .1))
+
+        go : (c : Bool) → (leb 3 t && eqb (kindOf (past t b)) sinksKind) ≡ c → Right (sinksBefore b t)
+            → Right (cond c (bodyOf (past t b)) (sinksBefore b t))
+        go true c r = let s = and-split (leb 3 t) _ c in its (s .0) (s .1) (behind t (leb-true 3 t (s .0)))
+        go false c r = r
+
+    -- the sinks of the heap, each once and without empty places
+    pub loaded-lists : Lists (imageN b) (savedAsSink (objects b)) (loadedSinks b) × (has 0 (loadedSinks b) ≡ false)
+    unfolding loadedSinks
+    loaded-lists = go (sinksBefore b (suc (length b))) (read-right (suc (length b)))
+      where
+        -- a list by number, or that of the chunk
+        its : List ℕ → List ℕ
+        its body = cond (eqb (length body) 0) (gather (imageN b) (savedAsSink (objects b)) (λ x. x ∷ [])) (savedList body)
+
+        go : (body : List ℕ) → Right body → Lists (imageN b) (savedAsSink (objects b)) (its body) × (has 0 (its body) ≡ false)
+        go body (inl z) =
+            subst (λ (m : List ℕ). Lists (imageN b) (savedAsSink (objects b)) (its m) × (has 0 (its m) ≡ false)) (sym z)
+            (gather-lists (imageN b) (savedAsSink (objects b)), gather-nonzero (imageN b) (savedAsSink (objects b)))
+        go body (inr q) = unfold sinksOk in
+            (let s = and-split _ (lists (imageN b) (savedAsSink (objects b)) (savedList body)) q in
+            let u = and-split _ (not (has 0 (savedList body))) (s .0) in
+            let v = and-split (not (eqb (length body) 0)) _ (u .0) in
+            rw (not-true (eqb (length body) 0) (v .0)) (lists-facts (imageN b) (savedAsSink (objects b)) (savedList body) (s .1), not-true _ (u .1)))
+
+    -- they are at most 64
+    pub loaded-short : length (loadedSinks b) ≤ sinkMax
+    loaded-short =
+        let l = loaded-lists in
+        omega (arith, ap length (pointers-same (loadedSinks b) (l .1)), listed-count (imageN b) (savedAsSink (objects b)) (loadedSinks b) (l .0), few-sinks b e)
 
 -- what a body of kind 1 that is right holds
 pub record Held (body : List ℕ) : Type 0 where
@@ -225,3 +310,16 @@ module _ (b : List ℕ) where
 
   abbrev pub usedIn : ℕ → Bool
   usedIn x = not (isFree (cellAt (plainLoaded b .cells) x))
+
+  -- a number is a sink where its object is listed as one
+  pub loaded-sink : (x : ℕ) → Obj (imageN b) x → plainSink (plainLoaded b) x ≡ savedAsSink (objects b) x
+  unfolding plainSink savedAsSink cellFrom
+  loaded-sink x o = ap isSink (loaded-cell x (o .0) (o .1)) ∙ go (listed (objects b) x)
+    where
+      go : (t : Bool) → isSink (cond t (object (savedWords (objects b) x) (eqb (savedSink (objects b) x) 1)) vacant) ≡ (t && eqb (savedSink (objects b) x) 1)
+      go true = unfold isSink in refl
+      go false = unfold isSink in refl
+
+  pub loaded-few : first (imageTests b) ≡ 0 → count (plainSize (plainLoaded b)) (plainSink (plainLoaded b)) ≤ sinkMax
+  loaded-few e =
+      rw loaded-size (omega (arith, count-ext (imageN b) (plainSink (plainLoaded b)) (savedAsSink (objects b)) loaded-sink, few-sinks b e))

@@ -14,7 +14,7 @@ use Rattle.layout.proofs.RefusalLaws.{first-passed}
 use Rattle.records.specs.Record as R
 use Rattle.layout.specs.ControlRecord.{withLast}
 use Rattle.layout.specs.Field.{field, flag}
-use Rattle.layout.specs.Limits.{slotsLen, widthMax}
+use Rattle.layout.specs.Limits.{slotsLen, sinkMax, widthMax}
 use Rattle.records.specs.Record.{width, cluster, newRecord}
 use Rattle.layout.specs.Refusal.{first}
 use Rattle.layout.specs.Word.{isNil, isImmediate, isPointer}
@@ -27,7 +27,7 @@ use Rattle.graph.proofs.Lifecycle as Lifecycle
 use Rattle.graph.proofs.NumberLaws.{upd-same, upd-other}
 use Rattle.graph.proofs.State.{Good}
 use Rattle.rules.specs.Buffers.{recOf, eachRecord, eachSlot, eight, usedWords, otherWords, allOf}
-use Rattle.rules.specs.View.{view, target}
+use Rattle.rules.specs.View.{view, heapIn, setWord, target}
 use Rattle.rules.specs.WellFormed.{names}
 use Rattle.rules.specs.Calls.{allocate, allocateInPlace, gave}
 use Rattle.rules.specs.Allocate.{candidates, firstOf, given}
@@ -38,13 +38,15 @@ use Rattle.rules.specs.Demands.{heapOf, recordIn, rootsOf, wordsOf}
 use Rattle.rules.specs.PlainOf.{plainOf, cellOf, cellsOf}
 use Rattle.rules.proofs.ListLaws.{length-each, length-eight, set-numbers, recOf-range}
 use Rattle.rules.proofs.BufferLaws.{record-given, record-kept, words-given, words-kept}
+use Rattle.rules.proofs.SetLaws.{setWord-same}
 use Rattle.rules.proofs.SearchLaws.{candidates-found, candidates-lowest}
 use Rattle.rules.proofs.BoolLaws.{or-last, cond-same}
 use Rattle.rules.proofs.Invariant.{Inv, SlotWord, inv-control, enough}
 use Rattle.rules.proofs.Abstraction.{cells-size, at-free}
 use Rattle.rules.proofs.Simulation.{Same, same-by, all-by}
 use Rattle.rules.proofs.PointerLaws.{named-used}
-use Rattle.rules.proofs.CreateLaws.{mem-replicate, nil-map}
+use Rattle.rules.proofs.CreateLaws.{nil-map}
+use Rattle.rules.proofs.ListedLaws.{mem-replicate}
 
 -- ---- the first that passes
 
@@ -79,7 +81,7 @@ module _ (s : State) (I : Inv s) (i v : ℕ) (low : 1 ≤ i) (high : i ≤ s .co
   slots′ = eachSlot (s .control .n) (λ x w. cond (eqb x i) 0 w) (s .slots)
 
   abbrev state′ : State
-  state′ = record { control = withLast i (s .control); records = recs′; slots = slots′; roots = s .roots }
+  state′ = record { control = withLast i (s .control); records = recs′; slots = slots′; roots = s .roots; sinks = s .sinks; sets = s .sets }
 
   rec-at : recOf n recs′ i ≡ newRecord v
   rec-at = record-given n i low high (newRecord v) (s .records) (I .recs-long)
@@ -145,12 +147,13 @@ module _ (s : State) (I : Inv s) (i v : ℕ) (low : 1 ≤ i) (high : i ≤ s .co
       go (no e) = or-last (isNil w || isImmediate w) _ _ (I .named x w (rw (used-other x e) at m)) (names′ w)
 
   -- the heap after it: the object has its new words, and nothing else changes
-  view′ : view n recs′ slots′ ≡ Lifecycle.given H i (replicate v 0)
+  view′ : heapIn n recs′ slots′ (s .sinks) ≡ Lifecycle.given H i (replicate v 0)
   unfolding Lifecycle.given view flag field
   view′ = λ j. record {
     n = n;
     kids = fun-ext kids j;
     sink = fun-ext (bits R.isSink (new-sink v)) j;
+    listed = take sinkMax (s .sinks);
     written = fun-ext (bits R.isWritten (new-written v)) j;
     cluster = fun-ext (bits R.cluster (new-cluster v)) j;
     out = fun-ext (bits R.isOut (new-out v)) j;
@@ -174,10 +177,22 @@ module _ (s : State) (I : Inv s) (i v : ℕ) (low : 1 ≤ i) (high : i ≤ s .co
               ap (map (target n)) (used-other x e)
               ∙ sym (upd-other (λ y. map (target n) (wordsOf s y)) i x (replicate v 0) e)
 
-  good′ : Good (view n recs′ slots′) (s .control .«write_loss»)
+  good′ : Good (heapIn n recs′ slots′ (s .sinks)) (s .control .«write_loss»)
   good′ =
       subst (λ (K : Heap). Good K (s .control .«write_loss»)) (sym view′)
       (given-good H (s .control .«write_loss») i (replicate v 0) (I .good) (unfold view flag field in (rw blank refl)) (λ k m. unfold view in (rw (mem-replicate v 0 k m) (omega arith))))
+
+  -- the new object is in no cluster, so no set changes
+  exact′ : (h : ℕ) → 1 ≤ h → h ≤ n → recOf n (s .sets) h ≡ setWord (heapIn n recs′ slots′ (s .sinks)) h
+  exact′ h p q = I .sets-exact h p q ∙ same ∙ ap (λ (K : Heap). setWord K h) (sym view′)
+    where
+      same : setWord H h ≡ setWord (Lifecycle.given H i (replicate v 0)) h
+      same = unfold Lifecycle.given in
+          (setWord-same H (Lifecycle.given H i (replicate v 0)) h refl refl (λ x b. (λ e. e, λ e. e))
+          (λ x b e. sym (upd-other (H .kids) i x (replicate v 0) (λ j. absurd (omega (arith, p, sym e ∙ ap (H .cluster) j ∙ none))))))
+        where
+          none : H .cluster i ≡ 0
+          none = unfold view field in (rw blank refl)
 
   pub given-inv : Inv state′
   unfolding withLast
@@ -186,10 +201,14 @@ module _ (s : State) (I : Inv s) (i v : ℕ) (low : 1 ≤ i) (high : i ≤ s .co
     recs-long = unfold eachRecord in (rw (length-each 1 n (λ x r. cond (eqb x i) (newRecord v) r) (s .records)) (I .recs-long));
     slots-long = unfold eachSlot slotsLen in (rw (length-each 0 (8 * n) (λ j w. cond (eqb (j / 8 + 1) i) 0 w) (s .slots)) (I .slots-long));
     roots-long = I .roots-long;
+    sinks-long = I .sinks-long;
+    sets-long = I .sets-long;
     legal = legal′;
     empty = empty′;
     named = named′;
     rooted = λ w m. or-last (isNil w) _ _ (I .rooted w m) (names′ w);
+    single = I .single;
+    sets-exact = exact′;
     good = good′;
   }
 
@@ -240,7 +259,7 @@ module _ (s : State) (I : Inv s) (v : ℕ) where
       unfold given R.free in (record { low = f .0 .0; high = f .0 .1; blank = eqb-true _ _ (f .1); narrow = ltb-false _ _ (t3 .0) })
 
   abbrev stateOf : Allocate.Outcome → State
-  stateOf o = record { control = o .answer .control; records = o .records; slots = o .slots; roots = s .roots }
+  stateOf o = record { control = o .answer .control; records = o .records; slots = o .slots; roots = s .roots; sinks = s .sinks; sets = s .sets }
 
   pub allocate-inv : Inv (step (allocate v) s .after)
   unfolding step Allocate.allocate answer

@@ -9,7 +9,7 @@ use native.Mathlib.Nat.{suc-ne-zero}
 use lib.Dec.{eqb, ltb}
 use lib.ListN.{length}
 use borrow.Author.Tests.{eq-eqb, ne-eqb, lt-ltb, le-ltb}
-use Rattle.layout.specs.Limits.{slotsLen, workLen}
+use Rattle.layout.specs.Limits.{workLen}
 use Rattle.layout.specs.Refusal.{first}
 use Rattle.layout.proofs.RefusalLaws.{outcome-zero}
 use Rattle.layout.specs.ControlRecord.{withAnalysis}
@@ -32,7 +32,7 @@ use Rattle.rules.specs.Calls.{analyse}
 use Rattle.rules.specs.Steps.{State, step}
 use Rattle.rules.specs.Demands.{recordIn, refusalOf, Analyses, Adjusts, heapOf, rootsOf, limitIn, walkedIn, membersIn, outsIn}
 use Rattle.rules.proofs.BoolLaws.{cond-not}
-use Rattle.rules.proofs.Invariant.{Inv, inv-control, inv-formed, enough}
+use Rattle.rules.proofs.Invariant.{Inv, inv-control, inv-long, inv-formed, enough}
 use Rattle.rules.proofs.Simulation.{all-by}
 use Rattle.rules.proofs.PointerLaws.{roots-low}
 use Rattle.rules.proofs.Refused.{answered}
@@ -76,7 +76,7 @@ module _ (s : State) (I : Inv s) (work : List ℕ) (accepted : refusalOf (analys
     formed = λ x r z w k.
         let p : walked H limit roots x ≢ 0
         =
-        placed H limit roots ready low (roots-low s I) x (seen-reach H limit roots ready low (roots-low s I) (I .good .exact) x r)
+        placed H limit roots ready low (roots-low s I) x (seen-reach H limit roots ready low (roots-low s I) (I .good .exact) (I .good .listed-all) x r)
         (unbarred x w k) z in
         (p, fresh x z p);
     sizes = λ c nz z. small c nz z;
@@ -88,9 +88,9 @@ module _ (s : State) (I : Inv s) (work : List ℕ) (accepted : refusalOf (analys
     members = answers .1 ∙ count-ext (s .control .n) _ _ (λ x b. ap (λ (c : ℕ). eqb (H .cluster x) 0 && not (eqb c 0)) (sym (left x)));
   }
     where
-      answers : (Analyse.analyse (s .control) (s .records) (s .slots) (s .roots) work .answer .clusters
+      answers : (Analyse.analyse (s .control) (s .records) (s .slots) (s .roots) (s .sinks) (s .sets) work .answer .clusters
           ≡ count (s .control .n) (λ h. eqb (H .cluster h) 0 && eqb (leftClusters rule H limit roots h) h))
-          × (Analyse.analyse (s .control) (s .records) (s .slots) (s .roots) work .answer .members
+          × (Analyse.analyse (s .control) (s .records) (s .slots) (s .roots) (s .sinks) (s .sets) work .answer .members
           ≡ count (s .control .n) (λ x. eqb (H .cluster x) 0 && not (eqb (leftClusters rule H limit roots x) 0)))
       answers = unfold Analyse.analyse Analyse.analysed Graph.analyse withAnalysis in
           (all-by
@@ -130,11 +130,11 @@ module _ (s : State) (work : List ℕ) (accepted : refusalOf (analyse work) s �
   abbrev lossIn : ℕ → ℕ
   lossIn limit = outLossOf rule (heapOf s) (walked (heapOf s) limit (rootsOf s))
 
-  passed : first (Analyse.analyseTests before (s .records) (s .slots) (s .roots) work) ≡ 0
+  passed : first (Analyse.analyseTests before (s .records) (s .slots) (s .roots) (s .sinks) (s .sets) work) ≡ 0
   unfolding Analyse.analyse
   passed = sym (answered _ _ _ (λ (o : Analyse.Outcome). o .answer .refusal) refl (λ k. refl)) ∙ accepted
 
-  control-left : Analyse.analyse before (s .records) (s .slots) (s .roots) work .answer .control
+  control-left : Analyse.analyse before (s .records) (s .slots) (s .roots) (s .sinks) (s .sets) work .answer .control
       ≡ withAnalysis (nextLimit before used) (lossIn (nextLimit before used)) before
   unfolding Analyse.analyse Analyse.analysed Analyse.limitAfter Graph.analyse usedCount
   control-left = ap (λ (o : Analyse.Outcome). o .answer .control) (outcome-zero _ _ _ passed)
@@ -172,13 +172,11 @@ pub analyse-accepts : (s : State) → Inv s → (work : List ℕ) → workLen (s
 unfolding Analyse.analyse
 analyse-accepts s I work long = answered _ _ _ (λ (o : Analyse.Outcome). o .answer .refusal) refl (λ k. refl) ∙ tests
   where
-    tests : first (Analyse.analyseTests (s .control) (s .records) (s .slots) (s .roots) work) ≡ 0
-    tests = unfold Analyse.analyseTests first slotsLen in
+    tests : first (Analyse.analyseTests (s .control) (s .records) (s .slots) (s .roots) (s .sinks) (s .sets) work) ≡ 0
+    tests = unfold Analyse.analyseTests first in
         (rw (
           inv-control s I,
-          enough (s .control .n) (s .records) (I .recs-long),
-          enough (8 * s .control .n) (s .slots) (I .slots-long),
-          enough (s .control .r) (s .roots) (I .roots-long),
+          inv-long s I,
           enough (workLen (s .control .n)) work long,
           inv-formed s I,
         ) refl)

@@ -17,9 +17,10 @@ use Rattle.graph.specs.Clusters.{outBit}
 use Rattle.graph.specs.Heap.{Heap}
 use Rattle.graph.proofs.AnalysisLaws.{analyse-good, outLoss-le, walked-met}
 use Rattle.graph.proofs.Paths.{keep-zero}
+use Rattle.graph.proofs.SinkLaws.{sinks-from}
 use Rattle.graph.proofs.State.{Good, good-ready}
 use Rattle.rules.specs.Analyse.{rule, clamped, nextLimit, usedCount, analysed}
-use Rattle.rules.specs.View.{view, target, encoded}
+use Rattle.rules.specs.View.{view, heapIn, exactSets, target, encoded}
 use Rattle.rules.specs.Calls.{analyse}
 use Rattle.rules.specs.Analyse as Analyse
 use Rattle.rules.specs.Plain.{Cell, plainStep}
@@ -28,11 +29,12 @@ use Rattle.rules.specs.Demands.{heapOf, wordsOf, recordIn, rootsOf, limi
 use Rattle.rules.specs.PlainOf.{plainOf, cellOf, cellsOf}
 use Rattle.rules.proofs.ListLaws.{same-numbers}
 use Rattle.rules.proofs.ViewLaws.{view-used}
+use Rattle.rules.proofs.SetLaws.{length-exact, exact-at}
 use Rattle.rules.proofs.Invariant.{Inv}
 use Rattle.rules.proofs.Simulation.{Same, all-by}
 use Rattle.rules.proofs.EncodedState.{good-fits, encoded-inv, encoded-cell, encoded-view}
 use Rattle.rules.proofs.EncodedLaws.{Fits}
-use Rattle.rules.proofs.PointerLaws.{kids-in-use, roots-in-use, roots-low, sinks-in-use}
+use Rattle.rules.proofs.PointerLaws.{kids-in-use, roots-in-use, roots-low}
 
 -- ---- the call
 
@@ -70,7 +72,8 @@ module _ (s : State) (I : Inv s) (work : List ℕ) where
       go
       (walked-met H limit (good-ready (I .good)) low Used (λ x y u m nz. used y nz (kids-in-use s I x y m))
       (λ o y u nz j b. view-used (s .control .n) (s .records) (s .slots) y (λ z. nz (sym j ∙ z)))
-      roots (roots-low s I) (λ y m nz. used y nz (roots-in-use s I y m)) (λ y b q. sinks-in-use s I y q) x)
+      (λ o y u nz m. let t = sinks-from H (H .cluster o) y m in used y (t .1) (kids-in-use s I (t .2 .0) y (t .2 .3)))
+      roots (roots-low s I) (λ y m nz. used y nz (roots-in-use s I y m)) x)
     where
       used : (y : ℕ) → y ≢ 0 → (y ≡ 0) ⊎ Used y → Used y
       used y nz (inl z) = absurd (nz z)
@@ -97,15 +100,18 @@ module _ (s : State) (I : Inv s) (work : List ℕ) where
     records = encoded (Graph.analyse rule H limit roots .heap) (s .records);
     slots = s .slots;
     roots = s .roots;
+    sinks = s .sinks;
+    sets = exactSets (Graph.analyse rule H limit roots .heap) (s .sets);
   }
 
   after-inv : Inv after
   unfolding Graph.analyse view withAnalysis
   after-inv =
       let l = limit-range (s .control) (usedCount (s .control .n) (s .records)) in
-      encoded-inv s I (H .kids) fits (s .slots) same-kids (s .control .last) limit 0 (outLossOf rule H (walked H limit roots)) G
+      encoded-inv s I (H .kids) (H .listed) fits (s .slots) same-kids (s .sinks) (after .sets) (s .control .last) limit 0 (outLossOf rule H (walked H limit roots)) G
       (analysis-sound (s .control) (I .sound) limit _ (l .0) (l .1) (outLoss-le rule H (walked H limit roots)))
-      (I .slots-long) (I .empty) (I .named)
+      (I .slots-long) (I .empty) (I .named) (I .sinks-long) refl (I .single) (rw (length-exact _ (s .sets)) (I .sets-long))
+      (λ h p q. exact-at _ (s .sets) h (p, q) (I .sets-long))
 
   after-cells : cellsOf (s .control .n) (after .records) (s .slots) ≡ cellsOf (s .control .n) (s .records) (s .slots)
   unfolding cellsOf
@@ -114,22 +120,22 @@ module _ (s : State) (I : Inv s) (work : List ℕ) where
       cell : (x : ℕ) → cellOf (s .control .n) (after .records) (s .slots) x ≡ cellOf (s .control .n) (s .records) (s .slots) x
       cell x =
           unfold Graph.analyse view in
-          (encoded-cell s I (H .kids) fits (s .slots) x) ∙ unfold cellOf view flag field in refl
+          (encoded-cell s I (H .kids) (H .listed) fits (s .slots) x) ∙ unfold cellOf view flag field in refl
 
   abbrev stateOf : Analyse.Outcome → State
-  stateOf o = record { control = o .answer .control; records = o .records; slots = s .slots; roots = s .roots }
+  stateOf o = record { control = o .answer .control; records = o .records; slots = s .slots; roots = s .roots; sinks = s .sinks; sets = o .sets }
 
-  after-view : view (s .control .n) (after .records) (s .slots) ≡ Graph.analyse rule H limit roots .heap
+  after-view : heapIn (s .control .n) (after .records) (s .slots) (s .sinks) ≡ Graph.analyse rule H limit roots .heap
   unfolding Graph.analyse view
-  after-view = encoded-view s I (H .kids) fits (s .slots) same-kids
+  after-view = encoded-view s I (H .kids) (H .listed) fits (s .slots) same-kids
 
   -- the buffers hold the heap that the rule gives
-  pub analyse-ruled : Analyse.analyse (s .control) (s .records) (s .slots) (s .roots) work .answer .refusal ≡ 0
+  pub analyse-ruled : Analyse.analyse (s .control) (s .records) (s .slots) (s .roots) (s .sinks) (s .sets) work .answer .refusal ≡ 0
       → heapOf (step (analyse work) s .after)
       ≡ Graph.analyse rule (heapOf s) (limitIn s work) (rootsOf s) .heap
   unfolding step Analyse.analyse Analyse.limitAfter analysed withAnalysis
   analyse-ruled =
-      all-by (λ (o : Analyse.Outcome). o .answer .refusal ≡ 0 → view (o .answer .control .n) (o .records) (s .slots) ≡ Graph.analyse rule H (o .answer .control .limit) roots .heap) _ _ _
+      all-by (λ (o : Analyse.Outcome). o .answer .refusal ≡ 0 → heapIn (o .answer .control .n) (o .records) (s .slots) (s .sinks) ≡ Graph.analyse rule H (o .answer .control .limit) roots .heap) _ _ _
       (λ z e. after-view) (λ m e. absurd (suc-ne-zero m e))
 
   pub analyse-inv : Inv (step (analyse work) s .after)
@@ -144,6 +150,6 @@ module _ (s : State) (I : Inv s) (work : List ℕ) where
         (λ z. ap (λ (l : List Cell). record { last = s .control .last; roots = rootsOf s; cells = l }) after-cells) (λ m. refl);
   }
 
-  pub limit-low : Analyse.analyse (s .control) (s .records) (s .slots) (s .roots) work .answer .refusal ≡ 0 → 1 ≤ limitIn s work
+  pub limit-low : Analyse.analyse (s .control) (s .records) (s .slots) (s .roots) (s .sinks) (s .sets) work .answer .refusal ≡ 0 → 1 ≤ limitIn s work
   unfolding Analyse.analyse Analyse.limitAfter withAnalysis
   limit-low = all-by (λ (o : Analyse.Outcome). o .answer .refusal ≡ 0 → 1 ≤ o .answer .control .limit) _ _ _ (λ z e. low) (λ m e. absurd (suc-ne-zero m e))

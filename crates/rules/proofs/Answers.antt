@@ -12,13 +12,13 @@ use lib.ListN.{length, getD, take, drop, replicate}
 use borrow.Author.Tests.{leb-false, ltb-false, eqb-true, eqb-false, eq-eqb}
 use Rattle.layout.specs.ControlRecord.{newControl, withLast, withWriteLoss}
 use Rattle.layout.specs.Field.{put, putFlag, digit}
-use Rattle.layout.specs.Limits.{slotsLen}
+use Rattle.layout.specs.Limits.{sinkMax, slotsLen}
 use Rattle.layout.specs.Refusal.{Test, first, outcome}
 use Rattle.layout.specs.declared.answers.Control.{Control}
 use Rattle.layout.specs.declared.answers.WordRead.{WordRead}
 use Rattle.layout.proofs.ControlLaws.{control-facts}
 use Rattle.layout.proofs.RefusalLaws.{first-passed}
-use Rattle.records.specs.Record.{isWritten, width, cluster, loose, newRecord}
+use Rattle.records.specs.Record.{isWritten, isSink, width, cluster, loose, newRecord}
 use Rattle.records.specs.Record as R
 use Rattle.graph.specs.Numbers.{Obj}
 use Rattle.graph.specs.Heap.{Heap}
@@ -26,8 +26,8 @@ use Rattle.graph.specs.Clusters.{keep}
 use Rattle.graph.specs.Writes.{dissolves, storeBy, store}
 use Rattle.graph.proofs.NumberLaws.{upd-same, upd-other}
 use Rattle.graph.proofs.WritesLaws.{points-clustered}
-use Rattle.rules.specs.Buffers.{short, recOf, eight, usedWords, eachRecord, eachSlot, zeros}
-use Rattle.rules.specs.View.{view, target, encodedRecord, encoded}
+use Rattle.rules.specs.Buffers.{short, shortHeap, recOf, eight, usedWords, eachRecord, eachSlot, zeros}
+use Rattle.rules.specs.View.{view, heapIn, target, encodedRecord, encoded}
 use Rattle.rules.specs.Create as Create
 use Rattle.rules.specs.Allocate as Allocate
 use Rattle.rules.specs.Read as Read
@@ -40,7 +40,7 @@ use Rattle.rules.specs.Collect as Collect
 use Rattle.rules.specs.Demands.{Refuses, here, there, Cleared, Stored, Touches, Gives}
 use Rattle.rules.proofs.BoolLaws.{or-split}
 use Rattle.rules.proofs.BufferLaws.{used-part, used-get, record-given, record-kept, words-given, words-kept}
-use Rattle.rules.proofs.Frames.{clears, Named, named, slot-fits, root-fits}
+use Rattle.rules.proofs.Frames.{clears, named, write-named, slot-fits, root-fits}
 use Rattle.rules.proofs.EncodedRecord.{encoded-written, encoded-same}
 use Rattle.rules.proofs.ListLaws.{length-eight}
 use Rattle.rules.proofs.Refused.{refuses, answered}
@@ -51,25 +51,31 @@ use Rattle.rules.proofs.Simulation.{all-by}
 
 -- ---- create
 
-pub create-new : (n r : ℕ) (recs slots roots : List ℕ)
-    → let o = Create.create n r recs slots roots in
-    o .answer .refusal ≡ 0 → (o .answer .control ≡ newControl n r) × Cleared n (o .records) × Cleared (slotsLen n) (o .slots) × Cleared r (o .roots)
+pub create-new : (n r : ℕ) (recs slots roots list sets : List ℕ)
+    → let o = Create.create n r recs slots roots list sets in
+    o .answer .refusal ≡ 0
+    → (o .answer .control ≡ newControl n r) × Cleared n (o .records) × Cleared (slotsLen n) (o .slots) × Cleared r (o .roots)
+    × Cleared sinkMax (o .sinks) × Cleared n (o .sets)
 unfolding Create.create
-create-new n r recs slots roots =
+create-new n r recs slots roots list sets =
     all-by
     (λ (o : Create.Outcome).
-    o .answer .refusal ≡ 0 → (o .answer .control ≡ newControl n r) × Cleared n (o .records) × Cleared (slotsLen n) (o .slots) × Cleared r (o .roots)) _ _ _
+    o .answer .refusal ≡ 0
+    → (o .answer .control ≡ newControl n r) × Cleared n (o .records) × Cleared (slotsLen n) (o .slots) × Cleared r (o .roots)
+    × Cleared sinkMax (o .sinks) × Cleared n (o .sets)) _ _ _
     (λ z e. new z) (λ m e. absurd (suc-ne-zero m e))
   where
-    new : first (Create.createTests n r recs slots roots) ≡ 0
-        → (newControl n r ≡ newControl n r) × Cleared n (zeros n recs)
-        × Cleared (slotsLen n) (zeros (slotsLen n) slots) × Cleared r (zeros r roots)
-    new z = unfold Create.createTests in
+    new : first (Create.createTests n r recs slots roots list sets) ≡ 0
+        → (newControl n r ≡ newControl n r) × Cleared n (zeros n recs) × Cleared (slotsLen n) (zeros (slotsLen n) slots) × Cleared r (zeros r roots)
+        × Cleared sinkMax (zeros sinkMax list) × Cleared n (zeros n sets)
+    new z = unfold Create.createTests shortHeap in
         (let t1 = first-passed 0 _ _ z in
-        let t2 = first-passed 1 (short n recs || short (slotsLen n) slots || short r roots) _ (t1 .1) in
-        let a = or-split (short n recs || short (slotsLen n) slots) (short r roots) (t2 .0) in
+        let t2 = first-passed 1 (short n recs || short (slotsLen n) slots || short r roots || short sinkMax list || short n sets) _ (t1 .1) in
+        let e = or-split (short n recs || short (slotsLen n) slots || short r roots || short sinkMax list) (short n sets) (t2 .0) in
+        let d = or-split (short n recs || short (slotsLen n) slots || short r roots) (short sinkMax list) (e .0) in
+        let a = or-split (short n recs || short (slotsLen n) slots) (short r roots) (d .0) in
         let b = or-split (short n recs) (short (slotsLen n) slots) (a .0) in
-        (refl, clears n recs (b .0), clears (slotsLen n) slots (b .1), clears r roots (a .1)))
+        (refl, clears n recs (b .0), clears (slotsLen n) slots (b .1), clears r roots (a .1), clears sinkMax list (d .1), clears n sets (e .1)))
 
 -- ---- allocate
 
@@ -156,7 +162,7 @@ read-word c i k recs slots =
     word : first (Read.readTests c i k recs slots) ≡ 0
         → (8 * (i - 1) + k < length slots) × (getD (usedWords (c .n) recs slots i) k 0 ≡ getD slots (8 * (i - 1) + k) 0)
     word z = unfold Read.readTests in
-        (let f = named c i recs slots _ z in
+        (let f = named c i recs slots _ (λ e. e) _ z in
         let l = leb-false (width (recOf (c .n) recs i)) k (first-passed 4 _ _ (f .1) .0) in
         (omega (arith, f .0, l), used-get (c .n) recs slots i (f .0 .low) (f .0 .narrow) k l))
 
@@ -170,17 +176,18 @@ pub show-part : (c : Control) (i : ℕ) (recs slots : List ℕ) → let o = Show
 unfolding Show.show
 show-part c i recs slots =
     all-by (λ (o : Show.Outcome). o .answer .refusal ≡ 0 → Part c i recs slots o) _ _ _
-    (λ z e. let f = named c i recs slots [] (unfold Show.showTests in z) .0 in
+    (λ z e. let f = named c i recs slots _ (λ e. e) [] (unfold Show.showTests in z) .0 in
     (refl, refl, omega (arith, f), used-part (c .n) recs slots i (f .low) (f .narrow))) (λ m e. absurd (suc-ne-zero m e))
 
 -- the records after a store, dissolving or not
-module _ (n : ℕ) (recs slots : List ℕ) (i k t : ℕ) (low : 1 ≤ i) (high : i ≤ n) (long : n ≤ length recs) where
+module _ (n : ℕ) (recs slots list : List ℕ) (i k t : ℕ) (low : 1 ≤ i) (high : i ≤ n) (long : n ≤ length recs) where
   abbrev H : Heap
-  H = view n recs slots
+  H = heapIn n recs slots list
 
   at : (d : Bool) (x : ℕ) → 1 ≤ x → x ≤ n
       → let K = storeBy d H i k t in recOf n (encoded K recs) x ≡ encodedRecord (K .cluster x) (K .out x) (K .sink x) (K .written x) (recOf n recs x)
-  at d = encoded-at n (storeBy d H i k t) (store-size d n recs slots i k t) recs long
+  unfolding view
+  at d = encoded-at n (storeBy d H i k t) (store-size d H i k t) recs long
 
   own : (d : Bool) → isWritten (recOf n (encoded (storeBy d H i k t) recs) i) ≡ true
   own d = ap isWritten (at d i low high) ∙ encoded-written _ _ _ _ (recOf n recs i) ∙ now d
@@ -208,40 +215,35 @@ module _ (n : ℕ) (recs slots : List ℕ) (i k t : ℕ) (low : 1 ≤ i) (high :
   unfolding store
   touches = (own (dissolves H i k t), other (dissolves H i k t) refl)
 
--- what the tests of a write let pass
-pub write-named : (c : Control) (i k w : ℕ) (recs slots : List ℕ) → first (Write.writeTests c i k w recs slots) ≡ 0 → Named c i recs slots
-unfolding Write.writeTests
-write-named c i k w recs slots z = named c i recs slots _ z .0
+-- the last of the tests of a write, 25, passes too
+pub loss-passed : (c : Control) (i k w : ℕ) (recs slots list sets : List ℕ) → first (Write.writeTests c i k w recs slots list sets) ≡ 0
+    → ltb (c .n) (Write.lossAfter c i k w recs slots list sets) ≡ false
+loss-passed c i k w recs slots list sets z =
+    first-passed 24 _ _ (first-passed 22 _ _ (first-passed 5 _ _ (first-passed 4 _ _ (write-named c i k w recs slots list sets z .1) .1) .1) .1) .0
 
--- the last of them, 25, too
-pub loss-passed : (c : Control) (i k w : ℕ) (recs slots : List ℕ) → first (Write.writeTests c i k w recs slots) ≡ 0 → ltb (c .n) (Write.lossAfter c i k w recs slots) ≡ false
-unfolding Write.writeTests
-loss-passed c i k w recs slots z =
-    first-passed 24 _ _ (first-passed 22 _ _ (first-passed 5 _ _ (first-passed 4 _ _ (named c i recs slots _ z .1) .1) .1) .1) .0
-
-pub write-stores : (c : Control) (i k w : ℕ) (recs slots : List ℕ)
-    → let o = Write.write c i k w recs slots in
+pub write-stores : (c : Control) (i k w : ℕ) (recs slots list sets : List ℕ)
+    → let o = Write.write c i k w recs slots list sets in
     o .answer .refusal ≡ 0 → Stored (8 * (i - 1) + k) w slots (o .slots) × Touches (c .n) i (recOf (c .n) recs) (recOf (c .n) (o .records))
 unfolding Write.write
-write-stores c i k w recs slots =
+write-stores c i k w recs slots list sets =
     all-by
     (λ (o : Write.Outcome). o .answer .refusal ≡ 0 → Stored (8 * (i - 1) + k) w slots (o .slots) × Touches (c .n) i (recOf (c .n) recs) (recOf (c .n) (o .records))) _ _ _
     (λ z e.
-    let f = write-named c i k w recs slots z in
-    ((within z, refl), touches (c .n) recs slots i k (target (c .n) w) (f .low) (f .high) (f .wide)))
+    let f = write-named c i k w recs slots list sets z .0 in
+    ((within z, refl), touches (c .n) recs slots list i k (target (c .n) w) (f .low) (f .high) (f .wide)))
     (λ m e. absurd (suc-ne-zero m e))
   where
-    within : first (Write.writeTests c i k w recs slots) ≡ 0 → 8 * (i - 1) + k < length slots
+    within : first (Write.writeTests c i k w recs slots list sets) ≡ 0 → 8 * (i - 1) + k < length slots
     within z =
-        let a = write-named c i k w recs slots z .long in
-        let b : 8 * (i - 1) + k < 8 * c .n = unfold slotsLen in (slot-fits c i k w recs slots z) in
+        let a = write-named c i k w recs slots list sets z .0 .long in
+        let b : 8 * (i - 1) + k < 8 * c .n = unfold slotsLen in (slot-fits c i k w recs slots list sets z) in
         omega arith
 
-pub write-in-place : (c : Control) (i k w : ℕ) (recs slots : List ℕ)
-    → let o = Write.write c i k w recs slots in
-    Write.writeInPlace c i k w recs slots ≡ Write.givesInPlace (o .answer .refusal) (o .answer .control) (o .records) (o .slots)
+pub write-in-place : (c : Control) (i k w : ℕ) (recs slots list sets : List ℕ)
+    → let o = Write.write c i k w recs slots list sets in
+    Write.writeInPlace c i k w recs slots list sets ≡ Write.givesInPlace (o .answer .refusal) (o .answer .control) (o .records) (o .slots) (o .sets)
 unfolding Write.writeInPlace
-write-in-place c i k w recs slots = refl
+write-in-place c i k w recs slots list sets = refl
 
 pub root-stores : (c : Control) (j w : ℕ) (recs roots : List ℕ)
     → let o = SetRoot.setRoot c j w recs roots in o .answer .refusal ≡ 0 → Stored j w roots (o .roots)
@@ -265,21 +267,29 @@ pub show-control : (c : Control) (i : ℕ) (recs slots : List ℕ) → Show.show
 unfolding Show.show
 show-control c i recs slots = handed-back (λ (o : Show.Outcome). o .answer .control) c (Show.show c i recs slots) _ _ _ refl refl (λ m. refl)
 
-pub write-control : (c : Control) (i k w : ℕ) (recs slots : List ℕ)
-    → let o = Write.write c i k w recs slots in o .answer .control ≡ withWriteLoss (o .answer .control .«write_loss») c
+pub write-control : (c : Control) (i k w : ℕ) (recs slots list sets : List ℕ)
+    → let o = Write.write c i k w recs slots list sets in o .answer .control ≡ withWriteLoss (o .answer .control .«write_loss») c
 unfolding Write.write withWriteLoss
-write-control c i k w recs slots =
+write-control c i k w recs slots list sets =
     all-by (λ (o : Write.Outcome). o .answer .control ≡ withWriteLoss (o .answer .control .«write_loss») c) _ _ _ (λ z. refl) (λ m. refl)
 
 pub root-control : (c : Control) (j w : ℕ) (recs roots : List ℕ) → SetRoot.setRoot c j w recs roots .answer .control ≡ c
 unfolding SetRoot.setRoot
 root-control c j w recs roots = handed-back (λ (o : SetRoot.Outcome). o .answer .control) c (SetRoot.setRoot c j w recs roots) _ _ _ refl refl (λ m. refl)
 
-pub declare-control : (c : Control) (i : ℕ) (recs slots roots : List ℕ) → DeclareSink.declareSink c i recs slots roots .answer .control ≡ c
+pub declare-control : (c : Control) (i : ℕ) (recs slots roots list sets : List ℕ)
+    → DeclareSink.declareSink c i recs slots roots list sets .answer .control ≡ c
 unfolding DeclareSink.declareSink
-declare-control c i recs slots roots = handed-back (λ (o : DeclareSink.Outcome). o .answer .control) c (DeclareSink.declareSink c i recs slots roots) _ _ _ refl refl (λ m. refl)
+declare-control c i recs slots roots list sets =
+    handed-back (λ (o : DeclareSink.Outcome). o .answer .control) c (DeclareSink.declareSink c i recs slots roots list sets) _ _ _ refl
+    (either _ _ (isSink (recOf (c .n) recs i)) refl refl) (λ m. refl)
+  where
+    either : (a b : DeclareSink.Outcome) (d : Bool) → a .answer .control ≡ c → b .answer .control ≡ c → cond d a b .answer .control ≡ c
+    either a b true p q = p
+    either a b false p q = q
 
-pub collect-control : (kind : Kind) (c : Control) (recs slots roots work map : List ℕ)
-    → Collect.collect kind c recs slots roots work map .answer .control ≡ c
+pub collect-control : (kind : Kind) (c : Control) (recs slots roots list sets work map : List ℕ)
+    → Collect.collect kind c recs slots roots list sets work map .answer .control ≡ c
 unfolding Collect.collect
-collect-control kind c recs slots roots work map = handed-back (λ (o : Collect.Outcome). o .answer .control) c (Collect.collect kind c recs slots roots work map) _ _ _ refl refl (λ m. refl)
+collect-control kind c recs slots roots list sets work map =
+    handed-back (λ (o : Collect.Outcome). o .answer .control) c (Collect.collect kind c recs slots roots list sets work map) _ _ _ refl refl (λ m. refl)

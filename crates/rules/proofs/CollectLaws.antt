@@ -1,6 +1,6 @@
 -- Collect, of either kind, of the buffers and of the plain heap.
 -- Assumes nothing.
-use Prim.Native.Nat.{ℕ, _*_, _≤_}
+use Prim.Native.Nat.{ℕ, _≤_}
 use mathlib.Core.Path.{_≡_, refl, sym, ap, _∙_, subst}
 use mathlib.Core.Logic.{_≢_, _↔_}
 use mathlib.Core.List.{List, [], _∷_}
@@ -11,23 +11,23 @@ use Rattle.records.specs.Record.{cluster}
 use Rattle.layout.specs.Refusal.{first, by, outcome}
 use Rattle.graph.specs.Numbers.{Obj, has}
 use Rattle.rules.specs.View.{view}
-use Rattle.rules.specs.Buffers.{short}
+use Rattle.rules.specs.Buffers.{short, shortHeap}
 use Rattle.rules.specs.Calls.{collect, swept}
 use Rattle.rules.specs.Sweep.{Swept, sweep}
 use Rattle.rules.specs.Collect.{Kind, plainly, byClusters, Outcome, Marking, trace, collectTests, afterWalk}
 use Rattle.rules.specs.Collect as Collect
 use Rattle.rules.specs.Plain.{Cell, keptNumbers, answer, plainStep}
 use Rattle.rules.specs.Steps.{State, step}
-use Rattle.rules.specs.Demands.{recordIn, KeptBy, Scans, Sweeps, Collects, SameEnd, heapOf, rootsOf, startsOf, collected, Reachable}
+use Rattle.rules.specs.Demands.{recordIn, KeptBy, Scans, Sweeps, Collects, SameEnd, heapOf, rootsOf, collected, Reachable}
 use Rattle.rules.specs.PlainOf.{plainOf}
 use Rattle.layout.proofs.ControlLaws.{control-facts}
 use Rattle.layout.proofs.RefusalLaws.{first-passed, outcome-zero}
 use Rattle.rules.proofs.BoolLaws.{or-split}
 use Rattle.rules.proofs.Refused.{answered}
-use Rattle.rules.proofs.Invariant.{Inv, inv-control, inv-formed, enough}
+use Rattle.rules.proofs.Invariant.{Inv, inv-control, inv-long, inv-formed, enough}
 use Rattle.rules.proofs.Simulation.{Same, all-by}
 use Rattle.rules.proofs.TraceLaws.{Fit, inv-fit, Facts, trace-facts, trace-few, plain-few, head-obj, kept-led}
-use Rattle.rules.proofs.SweepLaws.{sweep-alike, state′, swept-formed, freed-is, swept-maps, swept-freed, swept-kept, cluster-stays, cluster-goes, kept-leaves}
+use Rattle.rules.proofs.SweepLaws.{sweep-alike, state′, swept-formed, swept-places, freed-is, swept-maps, swept-freed, swept-kept, cluster-stays, cluster-goes, kept-leaves}
 use Rattle.rules.proofs.SweepLaws.{swept-inv, swept-cells, same-kept, same-count, same-free, same-map, whole-stays}
 
 -- ---- every accepted collection
@@ -35,7 +35,7 @@ use Rattle.rules.proofs.SweepLaws.{swept-inv, swept-cells, same-kept, s
 module _ (s : State) (kind : Kind) where
   -- what the walk tells
   abbrev told : Marking
-  told = trace kind (heapOf s) (startsOf s)
+  told = trace kind (heapOf s) (rootsOf s)
 
   facts : (C : Fit s) → Facts s C (told .kept) (told .heads) (KeptBy kind s)
   facts C = trace-facts s C kind
@@ -46,7 +46,7 @@ module _ (s : State) (kind : Kind) where
 
   module _ (work map₀ : List ℕ) where
     abbrev done : Outcome
-    done = afterWalk (s .control) (s .records) (s .slots) work map₀ told
+    done = afterWalk (s .control) (s .records) (s .slots) (s .sinks) (s .sets) work map₀ told
 
     done-scans : Fit s → (k : Kind) → kind ≡ k → Scans s kind (done .answer)
     done-scans C plainly e = rw e (unfold sweep in (plain-few s C))
@@ -62,29 +62,34 @@ module _ (s : State) (kind : Kind) where
       leaves = kept-leaves s C _ _ (KeptBy kind s) (facts C);
       stays = cluster-stays s C _ _ (KeptBy kind s) (facts C);
       goes = cluster-goes s C _ _ (KeptBy kind s) (facts C);
+      places = swept-places s C _ _ (KeptBy kind s) (facts C);
       formed = swept-formed s C _ _ (KeptBy kind s) (facts C);
     }
 
     module _ (accepted : collected s kind work map₀ .answer .refusal ≡ 0) where
-      none : first (collectTests (s .control) (s .records) (s .slots) (s .roots) work map₀) ≡ 0
+      none : first (collectTests (s .control) (s .records) (s .slots) (s .roots) (s .sinks) (s .sets) work map₀) ≡ 0
       unfolding Collect.collect
       none = sym (answered _ _ _ (λ (o : Outcome). o .answer .refusal) refl (λ k. refl)) ∙ accepted
 
       passed : Fit s × (mapLen (s .control .n) ≤ length map₀)
-      unfolding collectTests short slotsLen
+      unfolding collectTests short shortHeap slotsLen
       passed =
           let t1 = first-passed 19 _ _ none in
           let t2 = first-passed 1 _ _ (t1 .1) in
           let t3 = first-passed 20 _ _ (t2 .1) in
           let e = or-split _ _ (t2 .0) in
           let d = or-split _ _ (e .0) in
-          let c = or-split _ _ (d .0) in
+          let h = or-split _ _ (d .0) in
+          let g = or-split _ _ (h .0) in
+          let c = or-split _ _ (g .0) in
           let b = or-split _ _ (c .0) in (
             record {
               size = control-facts (s .control) (t1 .0) .sizes .most;
               recs-long = ltb-false _ _ (b .0);
               slots-long = ltb-false _ _ (b .1);
               roots-long = ltb-false _ _ (c .1);
+              sinks-long = ltb-false _ _ (g .1);
+              sets-long = ltb-false _ _ (h .1);
               formed = not-false _ (t3 .0);
             },
             ltb-false _ _ (e .1),
@@ -97,7 +102,7 @@ module _ (s : State) (kind : Kind) where
       collected-after : step (collect kind work map₀) s .after ≡ left
       unfolding step answer
       collected-after =
-          ap (λ (o : Outcome). record { control = o .answer .control; records = o .records; slots = o .slots; roots = s .roots }) collected-is ∙ (unfold sweep in refl)
+          ap (λ (o : Outcome). record { control = o .answer .control; records = o .records; slots = o .slots; roots = s .roots; sinks = o .sinks; sets = o .sets }) collected-is ∙ (unfold sweep in refl)
 
       pub collect-sweeps : Sweeps s (step (collect kind work map₀) s .after) kind (collected s kind work map₀)
       collect-sweeps =
@@ -117,7 +122,7 @@ module _ (s : State) (I : Inv s) (kind : Kind) (work map₀ : List ℕ) where
   led = kept-led s I kind
 
   abbrev stateOf : Outcome → State
-  stateOf o = record { control = o .answer .control; records = o .records; slots = o .slots; roots = s .roots }
+  stateOf o = record { control = o .answer .control; records = o .records; slots = o .slots; roots = s .roots; sinks = o .sinks; sets = o .sets }
 
   pub collect-inv : Inv (step (collect kind work map₀) s .after)
   unfolding step Collect.collect answer sweep
@@ -125,14 +130,12 @@ module _ (s : State) (I : Inv s) (kind : Kind) (work map₀ : List ℕ) where
 
   -- with enough work and map it is accepted
   module _ (work-long : workLen (s .control .n) ≤ length work) (map-long : mapLen (s .control .n) ≤ length map₀) where
-    collect-tests : first (collectTests (s .control) (s .records) (s .slots) (s .roots) work map₀) ≡ 0
-    unfolding collectTests first slotsLen
+    collect-tests : first (collectTests (s .control) (s .records) (s .slots) (s .roots) (s .sinks) (s .sets) work map₀) ≡ 0
+    unfolding collectTests first
     collect-tests =
         rw (
           inv-control s I,
-          enough (s .control .n) (s .records) (I .recs-long),
-          enough (8 * s .control .n) (s .slots) (I .slots-long),
-          enough (s .control .r) (s .roots) (I .roots-long),
+          inv-long s I,
           enough (workLen (s .control .n)) work work-long,
           enough (mapLen (s .control .n)) map₀ map-long,
           inv-formed s I,
@@ -142,7 +145,7 @@ module _ (s : State) (I : Inv s) (kind : Kind) (work map₀ : List ℕ) where
     abbrev end : Outcome
     end = done s kind work map₀
 
-    pub collect-is : Collect.collect kind (s .control) (s .records) (s .slots) (s .roots) work map₀ ≡ end
+    pub collect-is : Collect.collect kind (s .control) (s .records) (s .slots) (s .roots) (s .sinks) (s .sets) work map₀ ≡ end
     unfolding Collect.collect outcome by
     collect-is = rw collect-tests refl
 
@@ -191,7 +194,7 @@ module _ (s : State) (I : Inv s) (work map₀ : List ℕ) (work-long : workLen (
   tells kind = told s kind
 
   abbrev sweeps : Kind → Swept
-  sweeps kind = sweep (s .control .n) (s .records) (s .slots) map₀ (tells kind .kept) (tells kind .heads)
+  sweeps kind = sweep (s .control .n) (s .records) (s .slots) (s .sinks) (s .sets) map₀ (tells kind .kept) (tells kind .heads)
 
   -- an object is kept by both walks or by none
   kept-alike : (x : ℕ) → Obj (s .control .n) x → tells plainly .kept x ≡ tells byClusters .kept x
@@ -208,7 +211,7 @@ module _ (s : State) (I : Inv s) (work map₀ : List ℕ) (work-long : workLen (
       ∙ sym (facts s byClusters (inv-fit s I) .heads-is x nz)
 
   swept-alike : sweeps plainly ≡ sweeps byClusters
-  swept-alike = sweep-alike _ _ _ _ _ _ _ _ kept-alike (λ x o nz. heads-alike x nz)
+  swept-alike = sweep-alike _ _ _ _ _ _ _ _ _ _ kept-alike (λ x o nz. heads-alike x nz)
 
   pub same-end : SameEnd s work map₀
   same-end =
@@ -217,5 +220,7 @@ module _ (s : State) (I : Inv s) (work map₀ : List ℕ) (work-long : workLen (
       record {
         records = ap (λ (o : Outcome). o .records) p ∙ ap (λ (e : Swept). e .records) swept-alike ∙ sym (ap (λ (o : Outcome). o .records) c);
         slots = ap (λ (o : Outcome). o .slots) p ∙ ap (λ (e : Swept). e .slots) swept-alike ∙ sym (ap (λ (o : Outcome). o .slots) c);
+        sinks = ap (λ (o : Outcome). o .sinks) p ∙ ap (λ (e : Swept). e .sinks) swept-alike ∙ sym (ap (λ (o : Outcome). o .sinks) c);
+        sets = ap (λ (o : Outcome). o .sets) p ∙ ap (λ (e : Swept). e .sets) swept-alike ∙ sym (ap (λ (o : Outcome). o .sets) c);
         maps = ap (λ (o : Outcome). o .map) p ∙ ap (λ (e : Swept). e .map) swept-alike ∙ sym (ap (λ (o : Outcome). o .map) c);
       }

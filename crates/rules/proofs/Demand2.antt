@@ -8,6 +8,7 @@ use Rattle.rules.proofs.DeclareLaws.{declare-ruled, declare-does, decla
 use Rattle.rules.proofs.AnalyseLaws.{analyse-ruled}
 use Rattle.rules.proofs.AnalyseFacts.{analyse-does, analyse-accepts, analyse-adjusts}
 use Rattle.rules.proofs.CollectLaws.{collect-sweeps, collect-does, same-end}
+use Rattle.rules.proofs.SinkFacts.{list-facts, declare-full}
 use Rattle.rules.proofs.Calls.{made-inv}
 use Rattle.rules.proofs.Unmet.{unmet}
 
@@ -24,6 +25,8 @@ demand2 = record {
   declares = λ s i e. declare-does s i e;
   again = λ s i e. declare-twice s i e;
   accepts = λ s m work l. analyse-accepts s (made-inv m) work l;
-  long = λ s m. let I = made-inv m in (I .recs-long, (unfold slotsLen in (I .slots-long)), I .roots-long);
+  full = λ s m i u e. declare-full s (made-inv m) i u e;
+  lists = λ s m. list-facts s (made-inv m);
+  long = λ s m. let I = made-inv m in (I .recs-long, (unfold slotsLen in (I .slots-long)), I .roots-long, I .sinks-long, I .sets-long);
   unmet = λ s m call. unmet s (made-inv m) call;
 }

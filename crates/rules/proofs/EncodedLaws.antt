@@ -16,7 +16,7 @@ use Rattle.layout.proofs.FieldLaws.{flags-comm, put-flag-comm, flag-put-put, pu
 use Rattle.records.proofs.RecordLaws.{Legal, legal-nonzero, nonzero-free}
 use Rattle.graph.specs.Heap.{Heap}
 use Rattle.rules.specs.Buffers.{recOf, eachRecord, usedWords, eight}
-use Rattle.rules.specs.View.{target, view, encodedRecord, encoded}
+use Rattle.rules.specs.View.{target, view, listing, encodedRecord, encoded}
 use Rattle.rules.proofs.ListLaws.{recOf-above, recOf-range, recOf-each, each-each, each-same}
 use Rattle.rules.proofs.EncodedRecord.{encoded-width, encoded-used, encoded-sink, encoded-out, encoded-written, encoded-cluster, encoded-free, encoded-legal}
 
@@ -91,10 +91,11 @@ pub record Fits (n : ℕ) (recs : List ℕ) (sink written out : ℕ → Bool) (c
   pub alone : (x : ℕ) → sink x ≡ true → cl x ≡ 0
   pub member : (x : ℕ) → out x ≡ true → cl x ≢ 0
 
-module _ {n : ℕ} {recs : List ℕ} (long : n ≤ length recs) (most : n < 2 ^ 12) (kids : ℕ → List ℕ) {sink written out : ℕ → Bool} {cl : ℕ → ℕ}
+module _ {n : ℕ} {recs : List ℕ} (long : n ≤ length recs) (most : n < 2 ^ 12) (kids : ℕ → List ℕ) (listed : List ℕ)
+    {sink written out : ℕ → Bool} {cl : ℕ → ℕ}
     (F : Fits n recs sink written out cl) where
   abbrev heap : Heap
-  heap = record { n = n; kids = kids; sink = sink; written = written; cluster = cl; out = out }
+  heap = record { n = n; kids = kids; sink = sink; listed = listed; written = written; cluster = cl; out = out }
 
   abbrev was : ℕ → ℕ
   was x = recOf n recs x
@@ -138,12 +139,14 @@ module _ {n : ℕ} {recs : List ℕ} (long : n ≤ length recs) (most : n < 2 ^ 
   words-stay slots x = ap (λ (k : ℕ). take k (eight slots x)) (width-stays x)
 
   -- the buffers then hold the heap
-  pub view-back : (slots : List ℕ) → ((x : ℕ) → map (target n) (usedWords n recs slots x) ≡ kids x) → view n (encoded heap recs) slots ≡ heap
+  pub view-back : (slots : List ℕ) → ((x : ℕ) → map (target n) (usedWords n recs slots x) ≡ kids x)
+      → listing listed (view n (encoded heap recs) slots) ≡ heap
   unfolding view flag field
   view-back slots same-kids = λ i. record {
     n = n;
     kids = fun-ext (λ x. ap (map (target n)) (words-stay slots x) ∙ same-kids x) i;
     sink = fun-ext sink-back i;
+    listed = listed;
     written = fun-ext (read-at n heap refl recs long isWritten written (λ x e. sym (F .blank x e .1)) (λ x. encoded-written _ _ _ _ _)) i;
     cluster = fun-ext (read-at n heap refl recs long cluster cl (λ x e. sym (F .blank x e .2)) (λ x. encoded-cluster _ _ _ _ _ (small x))) i;
     out = fun-ext (read-at n heap refl recs long isOut out (λ x e. sym (F .blank x e .3)) (λ x. encoded-out _ _ _ _ _)) i;

@@ -1,10 +1,9 @@
--- An image that is accepted is the image of the heap that it holds, followed by chunks that are passed over.
+-- An image that is accepted begins with the three chunks of the heap that it holds.
 -- Assumes nothing.
-use Prim.Native.Nat.{ℕ, zero, suc, _+_, _*_, _^_, _≤_, _<_}
-use mathlib.Core.Path.{_≡_, refl, sym, ap, ap₂, subst, _∙_}
+use Prim.Native.Nat.{ℕ, zero, suc, _+_, _*_, _^_, _/_, _%_, _≤_, _<_}
+use mathlib.Core.Path.{_≡_, refl, sym, ap, ap₂, _∙_}
 use mathlib.Core.Bool.{Bool, true, false, not, cond}
 use mathlib.Core.List.{List, [], _∷_, _++_, map, append-assoc, append-nil}
-use mathlib.Core.Logic.{inl, inr}
 use native.Mathlib.Omega.{arith}
 use lib.Dec.{eqb, leb}
 use lib.ListN.{length, getD, take, drop, length-drop, take-append-drop}
@@ -13,17 +12,16 @@ use borrow.Author.Tests.{leb-true, eqb-true}
 use Rattle.layout.specs.Field.{digit}
 use Rattle.layout.specs.Refusal.{first}
 use Rattle.layout.proofs.BoolLaws.{and-split}
-use Rattle.endian.specs.Bytes.{Octets, bytes, numberAt, wordBytes}
+use Rattle.endian.specs.Bytes.{Octets, bytes, numberAt, bytesOf, wordBytes}
 use Rattle.endian.proofs.BytesLaws.{octets-take, octets-drop, bytes-at, number-below}
 use Rattle.graph.specs.Numbers.{gather}
 use Rattle.rules.specs.Buffers.{numbers, allTo}
-use Rattle.rules.specs.Image.{chunk, sizesBody, objectBytes, objectsBody, image, bodyLen, kindOf, bodyOf, past, cut, savedN, savedR, savedLast, sizesOk, leads, objectLen, left, listed, from, savedWidth, savedSink, savedWord, savedWords, shaped, objectsOk, savedRoot, rootsOk}
-use Rattle.rules.specs.Load.{sizes, objects, rootWords, imageN, imageR, chunkTests, imageTests}
-use Rattle.rules.specs.Plain.{vacant, object, isFree, wordsIn, isSink, cellAt, plainSize, plainWords, plainImage, cellFrom, plainLoaded}
+use Rattle.rules.specs.Image.{chunk, sizesBody, objectBytes, objectsBody, image, bodyLen, kindOf, bodyOf, past, cut, savedN, savedR, savedLast, sizesOk, leads, objectLen, left, listed, from, savedWidth, savedSink, savedWord, savedWords, shaped, objectsOk, savedRoot, rootsOk, savedList}
+use Rattle.rules.specs.Load.{sizes, objects, rootWords, imageN, imageR, imageTests}
+use Rattle.rules.specs.Plain.{vacant, object, isFree, wordsIn, isSink, cellAt, plainSize, plainWords, plainSink, plainChunks, cellFrom, plainLoaded}
 use Rattle.rules.proofs.ListLaws.{allTo-at, length-numbers}
-use Rattle.rules.proofs.ImageLaws.{past-suc}
-use Rattle.rules.specs.Demands.{Passed, none, more}
-use Rattle.rules.proofs.AcceptedLaws.{Sound, Next, next, late, enough-behind, Placed, Places, accepted-places, fronted, sizes-held, shape-facts, objects-held, sizes-right, objects-right, roots-right, loaded-size, loaded-roots, loaded-cell, usedIn}
+use Rattle.rules.proofs.ImageLaws.{past-suc, length-none, gather-same}
+use Rattle.rules.proofs.AcceptedLaws.{Placed, Places, accepted-places, fronted, sizes-held, shape-facts, objects-held, sizes-right, objects-right, roots-right, loaded-size, loaded-roots, loaded-cell, usedIn}
 
 -- ---- a chunk
 
@@ -75,24 +73,6 @@ module _ (b : List ℕ) (h : Octets b) where
   pub place-octets : (t : ℕ) → Placed b t → Octets (bodyOf (past t b))
   place-octets t p = body-octets (past t b) (octets-past t b h) (p .whole)
 
-  nothing : (l : List ℕ) → length l ≡ 0 → Passed l
-  nothing [] e = none
-  nothing (x ∷ l) e = absurd (omega arith)
-
-  -- all behind them
-  others : (f t : ℕ) → 3 ≤ t → length (past t b) < f → first (chunkTests b f t) ≡ 0 → Passed (past t b)
-  others zero t l p e = absurd (omega arith)
-  others (suc f) t l p e = go (next b f t e) (λ s r. others f (suc t) (omega arith) (enough-behind b f t p s) r)
-    where
-      go : Next b f t → (Sound b t → first (chunkTests b f (suc t)) ≡ 0 → Passed (past (suc t) b)) → Passed (past t b)
-      go (inl z) r = nothing (past t b) (z .0)
-      go (inr q) r =
-          let c = q .0 .whole in
-          let k = octets-past t b h in
-          subst Passed (sym (chunk-again (past t b) k c))
-          (more (kindOf (past t b)) (bodyOf (past t b)) (late b t l (q .0)) (kind-room (past t b) k c) (body-room (past t b) k c)
-          (subst Passed (past-suc t b) (r (q .0) (q .1))))
-
 -- ---- the body of kind 1
 
 sizes-again : (body : List ℕ) → Octets body → sizesOk body ≡ true → sizesBody (savedN body) (savedR body) (savedLast body) ≡ body
@@ -110,26 +90,35 @@ sizes-again body h e =
     ∙ sym (take-add 6 2 body)
     ∙ take-all 8 body (omega arith)
 
--- ---- words
+-- ---- numbers of k bytes
 
-module _ (l : List ℕ) (h : Octets l) (o : ℕ) (f : ℕ → ℕ) (e : (j : ℕ) → f j ≡ numberAt 4 (o + 4 * j) l) where
-  -- the words from place o on, written again
-  words-again : (a k : ℕ) → o + 4 * (a + k) ≤ length l → wordBytes (map f (numbers a k)) ≡ take (4 * k) (drop (o + 4 * a) l)
-  unfolding wordBytes numbers
-  words-again a zero p = refl
-  words-again a (suc k) p =
-      let s : 4 + 4 * k ≡ 4 * suc k = omega arith in
-      let t : o + 4 * suc a ≡ o + 4 * a + 4 = omega arith in
-      ap₂ (λ (r t : List ℕ). r ++ t) (ap (bytes 4) (e a) ∙ bytes-at 4 (o + 4 * a) l h (omega arith))
-      (words-again (suc a) k (omega arith) ∙ ap (take (4 * k)) (ap (λ (m : ℕ). drop m l) t ∙ sym (drop-drop 4 (o + 4 * a) l)))
-      ∙ sym (take-add 4 (4 * k) (drop (o + 4 * a) l))
-      ∙ ap (λ (m : ℕ). take m (drop (o + 4 * a) l)) s
+module _ (k : ℕ) (l : List ℕ) (h : Octets l) (o : ℕ) (f : ℕ → ℕ) (e : (j : ℕ) → f j ≡ numberAt k (o + k * j) l) where
+  -- those from place o on, written again
+  numbers-again : (a m : ℕ) → o + k * (a + m) ≤ length l → bytesOf k (map f (numbers a m)) ≡ take (k * m) (drop (o + k * a) l)
+  unfolding bytesOf numbers
+  numbers-again a zero p = ap (λ (i : ℕ). take i (drop (o + k * a) l)) (let q : 0 ≡ k * 0 = omega arith in q)
+  numbers-again a (suc m) p =
+      let s : k + k * m ≡ k * suc m = omega arith in
+      let t : o + k * suc a ≡ o + k * a + k = omega arith in
+      ap₂ (λ (r t : List ℕ). r ++ t) (ap (bytes k) (e a) ∙ bytes-at k (o + k * a) l h (omega arith))
+      (numbers-again (suc a) m (omega arith) ∙ ap (take (k * m)) (ap (λ (i : ℕ). drop i l) t ∙ sym (drop-drop k (o + k * a) l)))
+      ∙ sym (take-add k (k * m) (drop (o + k * a) l))
+      ∙ ap (λ (i : ℕ). take i (drop (o + k * a) l)) s
 
 pub roots-again : (r : ℕ) (body : List ℕ) → Octets body → length body ≡ 4 * r → wordBytes (map (savedRoot body) (numbers 0 r)) ≡ body
 unfolding savedRoot
 roots-again r body h e =
-    words-again body h 0 (savedRoot body) (λ j. ap (λ (m : ℕ). numberAt 4 m body) (let q : 4 * j ≡ 0 + 4 * j = omega arith in q)) 0 r (omega arith)
+    numbers-again 4 body h 0 (savedRoot body) (λ j. ap (λ (m : ℕ). numberAt 4 m body) (let q : 4 * j ≡ 0 + 4 * j = omega arith in q)) 0 r (omega arith)
     ∙ take-all (4 * r) body (omega arith)
+
+-- ---- the body of sinks
+
+pub list-again : (body : List ℕ) → Octets body → length body % 2 ≡ 0 → bytesOf 2 (savedList body) ≡ body
+unfolding savedList
+list-again body h e =
+    let half : 2 * (length body / 2) ≡ length body = omega arith in
+    numbers-again 2 body h 0 (λ k. numberAt 2 (2 * k) body) (λ j. ap (λ (m : ℕ). numberAt 2 m body) (let q : 2 * j ≡ 0 + 2 * j = omega arith in q)) 0 (length body / 2) (omega arith)
+    ∙ take-all (2 * (length body / 2)) body (omega arith)
 
 -- ---- the body of kind 2
 
@@ -180,7 +169,7 @@ module _ (body : List ℕ) (h : Octets body) where
       (ap (bytes 2) (sym (eqb-true (numberAt 2 0 l) (suc x) (i .1))) ∙ bytes-at 2 0 l (left-octets x) (omega arith))
       (ap₂ (λ (a : ℕ) (r : List ℕ). a ∷ r) (length-numbers (savedWord body (suc x)) 0 k)
       (ap₂ (λ (a : ℕ) (r : List ℕ). a ∷ r) (digit-again (getD l 3 0) (s .sunk))
-      (words-again l (left-octets x) 4 (savedWord body (suc x)) (λ j. refl) 0 k (omega arith))))
+      (numbers-again 4 l (left-octets x) 4 (savedWord body (suc x)) (λ j. refl) 0 k (omega arith))))
       ∙ four l (take (4 * k) (drop 4 l)) long
       ∙ sym (take-add 4 (4 * k) l)
 
@@ -205,20 +194,8 @@ module _ (body : List ℕ) (h : Octets body) where
   objects-again n e =
       let s = objects-held body n e in
       sym (append-nil _)
-      ∙ ap (λ (r : List ℕ). gather n (listed body) (entryRead body) ++ r) (sym (empty (left body n) (s .end)))
+      ∙ ap (λ (r : List ℕ). gather n (listed body) (entryRead body) ++ r) (sym (length-none (left body n) (s .end)))
       ∙ objects-so-far n n (s .shape) (omega arith)
-    where
-      empty : (l : List ℕ) → length l ≡ 0 → l ≡ []
-      empty [] e = refl
-      empty (a ∷ l) e = absurd (omega arith)
-
--- lists gathered of the same parts
-gather-same : (n : ℕ) (t u : ℕ → Bool) (f g : ℕ → List ℕ) → ((x : ℕ) → 1 ≤ x → x ≤ n → cond (t x) (f x) [] ≡ cond (u x) (g x) [])
-    → gather n t f ≡ gather n u g
-unfolding gather
-gather-same zero t u f g h = refl
-gather-same (suc n) t u f g h =
-    ap₂ (λ (r s : List ℕ). r ++ s) (gather-same n t u f g (λ x p q. h x p (omega arith))) (h (suc n) (omega arith) (omega arith))
 
 -- ---- the image
 
@@ -239,9 +216,9 @@ module _ (b : List ℕ) (h : Octets b) (e : first (imageTests b) ≡ 0) where
       (eqb-true (length (rootWords b)) (4 * imageR b) (and-split (eqb (length (rootWords b)) (4 * imageR b)) _ (roots-right b e) .0))
 
   entry-same : (x : ℕ) → 1 ≤ x → x ≤ imageN b
-      → cond (not (isFree (cellAt (plainLoaded b .cells) x))) (objectBytes x (isSink (cellAt (plainLoaded b .cells) x)) (plainWords (plainLoaded b) x)) []
+      → cond (not (isFree (cellAt (plainLoaded b .cells) x))) (objectBytes x (plainSink (plainLoaded b) x) (plainWords (plainLoaded b) x)) []
       ≡ cond (listed (objects b) x) (objectBytes x (sinkRead (objects b) x) (savedWords (objects b) x)) []
-  unfolding plainWords cellFrom
+  unfolding plainWords plainSink cellFrom
   entry-same x p q = rw (loaded-cell b x p q) (go (listed (objects b) x))
     where
       go : (t : Bool)
@@ -251,16 +228,16 @@ module _ (b : List ℕ) (h : Octets b) (e : first (imageTests b) ≡ 0) where
       go true = unfold isFree isSink wordsIn in refl
       go false = unfold isFree in refl
 
-  objects-same : objectsBody (plainSize (plainLoaded b)) (usedIn b) (λ x. isSink (cellAt (plainLoaded b .cells) x)) (plainWords (plainLoaded b)) ≡ objects b
+  objects-same : objectsBody (plainSize (plainLoaded b)) (usedIn b) (plainSink (plainLoaded b)) (plainWords (plainLoaded b)) ≡ objects b
   unfolding objectsBody
   objects-same =
-      ap (λ (n : ℕ). objectsBody n (usedIn b) (λ x. isSink (cellAt (plainLoaded b .cells) x)) (plainWords (plainLoaded b))) (loaded-size b)
+      ap (λ (n : ℕ). objectsBody n (usedIn b) (plainSink (plainLoaded b)) (plainWords (plainLoaded b))) (loaded-size b)
       ∙ gather-same (imageN b) (usedIn b) (listed (objects b))
-      (λ x. objectBytes x (isSink (cellAt (plainLoaded b .cells) x)) (plainWords (plainLoaded b) x)) (entryRead (objects b)) entry-same
+      (λ x. objectBytes x (plainSink (plainLoaded b) x) (plainWords (plainLoaded b) x)) (entryRead (objects b)) entry-same
       ∙ objects-again (objects b) (place-octets b h 1 (places .two)) (imageN b) (objects-right b e)
 
-  pub image-again : b ≡ plainImage (plainLoaded b) ++ past 3 b
-  unfolding plainImage image past
+  pub image-again : b ≡ plainChunks (plainLoaded b) ++ past 3 b
+  unfolding plainChunks image past
   image-again =
       place-again b h 0 (places .one)
       ∙ ap (λ (r : List ℕ). chunk 1 (sizes b) ++ r) (place-again b h 1 (places .two) ∙ ap (λ (r : List ℕ). chunk 2 (objects b) ++ r) (place-again b h 2 (places .three)))
@@ -269,7 +246,3 @@ module _ (b : List ℕ) (h : Octets b) (e : first (imageTests b) ≡ 0) where
       ∙ ap₂ (λ (r s : List ℕ). r ++ chunk 3 s ++ past 3 b)
       (ap₂ (λ (r s : List ℕ). chunk 1 r ++ chunk 2 s) (sym sizes-same) (sym objects-same))
       (sym roots-same)
-
-  -- an accepted image is the image of the heap that it holds, and chunks that are passed over
-  pub accepted-exact : (z : List ℕ) × Passed z × (b ≡ plainImage (plainLoaded b) ++ z)
-  accepted-exact = (past 3 b, others b h (places .behind .fuel) 3 (omega arith) (places .behind .enough) (places .behind .none), image-again)

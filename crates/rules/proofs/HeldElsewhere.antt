@@ -21,10 +21,10 @@ unfolding step answer
 spares s i k w h = (λ x. clusters x (ℕ-discrete (refusalOf (write i k w) s) 0), losses (ℕ-discrete (refusalOf (write i k w) s) 0), λ e. h (demand2 .overflows s i k w e .0))
   where
     o : Write.Outcome
-    o = Write.write (s .control) i k w (s .records) (s .slots)
+    o = Write.write (s .control) i k w (s .records) (s .slots) (s .sinks) (s .sets)
 
-    unchanged : refusalOf (write i k w) s ≢ 0 → o ≡ Write.gives (record { refusal = o .answer .refusal; control = s .control }) (s .records) (s .slots)
-    unchanged d = demand1 .written (s .control) i k w (s .records) (s .slots) .0 .unchanged d
+    unchanged : refusalOf (write i k w) s ≢ 0 → o ≡ Write.gives (record { refusal = o .answer .refusal; control = s .control }) (s .records) (s .slots) (s .sets)
+    unchanged d = demand1 .written (s .control) i k w (s .records) (s .slots) (s .sinks) (s .sets) .0 .unchanged d
 
     clusters : (x : ℕ) → Dec (refusalOf (write i k w) s ≡ 0) → cluster (recordIn (step (write i k w) s .after) x) ≡ cluster (recordIn s x)
     clusters x (yes e) = demand2 .writes s i k w e .kept h x

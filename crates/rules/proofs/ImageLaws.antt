@@ -2,18 +2,19 @@
 -- Assumes nothing.
 use Prim.Native.Nat.{ℕ, zero, suc, _+_, _-_, _*_, _/_, _%_, _^_, _≤_, _<_}
 use mathlib.Core.Path.{_≡_, refl, sym, ap, ap₂, _∙_}
-use mathlib.Core.Bool.{Bool, true, false, cond}
+use mathlib.Core.Bool.{Bool, true, false, cond, _&&_}
 use mathlib.Core.List.{List, [], _∷_, _++_, map, append-assoc, append-nil, List·Memᴰ}
 use native.Mathlib.Omega.{arith}
 use lib.ListN.{length, getD, take, drop, length-append}
-use lib.Seq.{take-at, drop-at, drop-drop}
+use lib.Seq.{take-at, drop-at, drop-drop, drop-nil}
+use lib.Dec.{eqb}
 use borrow.Author.Tests.{eq-eqb, ne-eqb, le-leb, le-ltb}
 use Rattle.layout.specs.Field.{digit}
 use Rattle.graph.specs.Numbers.{gather}
-use Rattle.endian.specs.Bytes.{bytes, numberAt, wordBytes}
-use Rattle.endian.proofs.BytesLaws.{length-bytes, number-front, number-behind, length-words, word-at}
+use Rattle.endian.specs.Bytes.{bytes, numberAt, bytesOf, wordBytes}
+use Rattle.endian.proofs.BytesLaws.{length-bytes, number-front, number-behind, length-numbers, number-at}
 use Rattle.rules.specs.Buffers.{numbers}
-use Rattle.rules.specs.Image.{chunk, objectBytes, objectsBody, bodyLen, kindOf, bodyOf, past, cut, leads, objectLen, left, listed, from, savedWidth, savedSink, savedWord, savedWords}
+use Rattle.rules.specs.Image.{chunk, objectBytes, objectsBody, bodyLen, kindOf, bodyOf, past, cut, leads, objectLen, left, listed, from, savedWidth, savedSink, savedAsSink, savedWord, savedWords, savedList}
 
 -- ---- a chunk in front of other bytes
 
@@ -69,9 +70,24 @@ unfolding past
 past-suc zero b = refl
 past-suc (suc t) b = past-suc t (drop (6 + bodyLen b) b)
 
+pub past-nil : (t : ℕ) → past t [] ≡ []
+unfolding past
+past-nil zero = refl
+past-nil (suc t) = ap (past t) (drop-nil (6 + bodyLen [])) ∙ past-nil t
+
+pub past-add : (k t : ℕ) (b : List ℕ) → past (k + t) b ≡ past k (past t b)
+past-add zero t b = unfold past in (ap (λ (m : ℕ). past m b) (let e : 0 + t ≡ t = omega arith in e))
+past-add (suc k) t b =
+    let e : suc k + t ≡ suc (k + t) = omega arith in
+    ap (λ (m : ℕ). past m b) e ∙ past-suc (k + t) b ∙ ap (past 1) (past-add k t b) ∙ sym (past-suc k (past t b))
+
 pub chunk-length : (kind : ℕ) (body : List ℕ) → length (chunk kind body) ≡ 6 + length body
 unfolding chunk bytes
 chunk-length kind body = omega arith
+
+pub length-none : (l : List ℕ) → length l ≡ 0 → l ≡ []
+length-none [] e = refl
+length-none (a ∷ l) e = absurd (omega arith)
 
 -- a list read again by number
 pub numbered : {A : Type 0} (f : ℕ → A) (a : ℕ) (l : List A) (d : A) → ((i : ℕ) → i < length l → f (a + i) ≡ getD l i d) → map f (numbers a (length l)) ≡ l
@@ -80,6 +96,22 @@ numbered f a [] d h = refl
 numbered f a (w ∷ l) d h =
     ap₂ (λ x r. x ∷ r) (ap f (let e : a ≡ a + 0 = omega arith in e) ∙ h 0 (omega arith))
     (numbered f (suc a) l d (λ i p. ap f (let e : suc a + i ≡ a + suc i = omega arith in e) ∙ h (suc i) (omega arith)))
+
+-- numbers of two bytes
+pub list-read : (l : List ℕ) → ((v : ℕ) → List·Memᴰ v l → v < 256 ^ 2) → savedList (bytesOf 2 l) ≡ l
+unfolding savedList
+list-read l h =
+    let e : length (bytesOf 2 l) / 2 ≡ length l = omega (arith, length-numbers 2 l) in
+    ap (λ (k : ℕ). map (λ (i : ℕ). numberAt 2 (2 * i) (bytesOf 2 l)) (numbers 0 k)) e
+    ∙ numbered (λ (i : ℕ). numberAt 2 (2 * i) (bytesOf 2 l)) 0 l 0 (λ i p.
+    let e : 0 + i ≡ i = omega arith in
+    rw e (ap (numberAt 2 (2 * i)) (sym (append-nil (bytesOf 2 l))) ∙ number-at 2 l [] i h p))
+
+-- a sink byte
+pub digit-one : (t : Bool) → eqb (digit t) 1 ≡ t
+unfolding digit
+digit-one true = refl
+digit-one false = refl
 
 -- ---- the objects, met by number
 
@@ -104,13 +136,21 @@ gather-above t f (suc n) =
     ap (λ (l : List ℕ). l ++ cond (t (suc n)) (f (suc n)) []) (gather-above t f n)
     ∙ ap (λ (y : ℕ). above t f 0 n ++ cond (t (suc y)) (f (suc y)) []) (sym e) ∙ sym (above-snoc t f 0 n)
 
+-- lists gathered of the same parts
+pub gather-same : (n : ℕ) (t u : ℕ → Bool) (f g : ℕ → List ℕ) → ((x : ℕ) → 1 ≤ x → x ≤ n → cond (t x) (f x) [] ≡ cond (u x) (g x) [])
+    → gather n t f ≡ gather n u g
+unfolding gather
+gather-same zero t u f g h = refl
+gather-same (suc n) t u f g h =
+    ap₂ (λ (r s : List ℕ). r ++ s) (gather-same n t u f g (λ x p q. h x p (omega arith))) (h (suc n) (omega arith) (omega arith))
+
 module _ (sink : ℕ → Bool) (words : ℕ → List ℕ) where
   abbrev pub entry : ℕ → List ℕ
   entry x = objectBytes x (sink x) (words x)
 
   pub entry-length : (x : ℕ) → length (entry x) ≡ 4 + 4 * length (words x)
   unfolding objectBytes
-  entry-length x = length-append (bytes 2 x) _ ∙ omega (arith, length-bytes 2 x, length-words (words x))
+  entry-length x = length-append (bytes 2 x) _ ∙ omega (arith, length-bytes 2 x, length-numbers 4 (words x))
 
   -- an object in front
   number-of : (x : ℕ) (z : List ℕ) → x < 256 ^ 2 → numberAt 2 0 (entry x ++ z) ≡ x
@@ -129,7 +169,7 @@ module _ (sink : ℕ → Bool) (words : ℕ → List ℕ) where
       → numberAt 4 (4 + 4 * k) (entry x ++ z) ≡ getD (words x) k 0
   unfolding objectBytes bytes
   word-of x z k h p =
-      number-behind 4 (4 * k) (x % 256 ∷ x / 256 % 256 ∷ length (words x) ∷ digit (sink x) ∷ []) (wordBytes (words x) ++ z) ∙ word-at (words x) z k h p
+      number-behind 4 (4 * k) (x % 256 ∷ x / 256 % 256 ∷ length (words x) ∷ digit (sink x) ∷ []) (wordBytes (words x) ++ z) ∙ number-at 4 (words x) z k h p
 
   takes : (x : ℕ) (z : List ℕ) → objectLen (entry x ++ z) ≤ length (entry x ++ z)
   unfolding objectLen
@@ -235,3 +275,12 @@ module _ (n : ℕ) (used sink : ℕ → Bool) (words : ℕ → List ℕ) (small 
         ∙ numbered (savedWord body x) 0 (words x) 0 (λ i l.
         let e : 0 + i ≡ i = omega arith in
         rw e (ap (numberAt 4 (4 + 4 * i)) (from-is x p q u) ∙ word-of sink words x _ i h l))
+
+  -- a sink in use is listed as one
+  pub as-sink-is : (x : ℕ) → 1 ≤ x → x ≤ n → savedAsSink body x ≡ (used x && sink x)
+  unfolding savedAsSink
+  as-sink-is x p q = rw (listed-is x p q) (go (used x) refl)
+    where
+      go : (u : Bool) → used x ≡ u → (u && eqb (savedSink body x) 1) ≡ (u && sink x)
+      go true u = ap (λ (k : ℕ). eqb k 1) (sink-is x p q u) ∙ digit-one (sink x)
+      go false u = refl

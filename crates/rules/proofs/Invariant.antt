@@ -6,11 +6,13 @@ use mathlib.Core.Bool.{Bool, true, false, not, _||_, false≢true, true≢false,
 use mathlib.Core.List.{List, List·Memᴰ}
 use mathlib.Core.Logic.{_⊎_, inl, inr}
 use native.Mathlib.Decide.{ℕ-discrete}
+use native.Mathlib.Omega.{arith}
 use lib.Dec.{eqb}
 use lib.ListN.{length, take}
 use borrow.Author.Tests.{le-ltb, eq-eqb, ne-eqb}
 use Rattle.records.specs.Record as R
 use Rattle.layout.specs.ControlRecord.{badControl}
+use Rattle.layout.specs.Limits.{sinkMax, slotsLen}
 use Rattle.layout.specs.Field.{field, flag}
 use Rattle.records.specs.Record.{cluster, clear, damaged}
 use Rattle.layout.specs.Word.{isNil, isImmediate}
@@ -19,13 +21,15 @@ use Rattle.layout.proofs.ControlLaws.{Sound, facts-control}
 use Rattle.graph.specs.Invariant.{Heads}
 use Rattle.graph.proofs.Paths.{connected-head}
 use Rattle.graph.proofs.State.{Good}
-use Rattle.rules.specs.Buffers.{recOf, short, usedWords, otherWords, allOf}
-use Rattle.rules.specs.View.{view, exactOut}
-use Rattle.rules.specs.WellFormed.{names, legalAt, emptyAt, wordsAt, headAt, outAt, rootsNamed, formed, wellFormed}
+use Rattle.rules.specs.Buffers.{recOf, short, shortHeap, usedWords, otherWords, allOf}
+use Rattle.rules.specs.View.{view, setWord, exactOut}
+use Rattle.rules.specs.WellFormed.{names, legalAt, emptyAt, wordsAt, headAt, outAt, rootsNamed, once, formed, wellFormed}
 use Rattle.rules.specs.Steps.{State}
 use Rattle.rules.specs.Demands.{heapOf, wordsOf, recordIn, rootsOf}
 use Rattle.rules.proofs.BoolLaws.{or-true}
+use Rattle.rules.proofs.ListedLaws.{Lists}
 use Rattle.rules.proofs.ListLaws.{allOf-all, allTo-all}
+use Rattle.rules.proofs.WellFormedLaws.{facts-list, facts-sets}
 
 -- ---- the invariant
 
@@ -41,12 +45,17 @@ pub record Inv (s : State) : Type 0 where
   pub recs-long : s .control .n ≤ length (s .records)
   pub slots-long : 8 * s .control .n ≤ length (s .slots)
   pub roots-long : s .control .r ≤ length (s .roots)
+  pub sinks-long : sinkMax ≤ length (s .sinks)
+  pub sets-long : s .control .n ≤ length (s .sets)
   -- the heap is well formed, but for what `good` says
   pub legal : (x : ℕ) → (recordIn s x ≡ 0) ⊎ Legal (s .control .n) (recordIn s x)
   pub empty : (x : ℕ) → 1 ≤ x → x ≤ s .control .n → allOf isNil (otherWords (s .control .n) (s .records) (s .slots) x) ≡ true
   pub named : (x w : ℕ) → List·Memᴰ w (wordsOf s x) → SlotWord (s .control .n) (s .records) w
   pub rooted : (w : ℕ) → List·Memᴰ w (rootsOf s) → RootWord (s .control .n) (s .records) w
-  -- clusters are connected, sinks have none, out bits are exact, and losses and members are together at most n
+  -- no sink has two places, and the sets are exact
+  pub single : once (take sinkMax (s .sinks)) ≡ true
+  pub sets-exact : (h : ℕ) → 1 ≤ h → h ≤ s .control .n → recOf (s .control .n) (s .sets) h ≡ setWord (heapOf s) h
+  -- clusters are connected, sinks have none and are listed, out bits are exact, and losses and members are together at most n
   pub good : Good (heapOf s) (s .control .«write_loss»)
 
 beq-same : (a b : Bool) → a ≡ b → Bool·beq a b ≡ true
@@ -94,11 +103,28 @@ module _ (n r : ℕ) (recs slots roots : List ℕ) where
       )
       (allOf-all _ _ rooted)
 
+pub enough : (k : ℕ) (l : List ℕ) → k ≤ length l → short k l ≡ false
+unfolding short
+enough k l p = le-ltb (length l) k p
+
 module _ (s : State) (I : Inv s) where
-  pub inv-formed : wellFormed (s .control) (s .records) (s .slots) (s .roots) ≡ true
+  pub inv-lists : Lists (s .control .n) (λ x. R.isSink (recordIn s x)) (take sinkMax (s .sinks))
+  unfolding view
+  inv-lists = record {
+    from = λ y m nz. let t = I .good .listed-in y m nz in ((omega (arith, nz), t .0), t .1);
+    all = λ x b e. I .good .listed-all x e;
+    single = I .single;
+  }
+
+  pub inv-formed : wellFormed (s .control) (s .records) (s .slots) (s .roots) (s .sinks) (s .sets) ≡ true
   unfolding wellFormed
   inv-formed =
-      formed-by _ _ _ _ _ (I .legal) (I .empty) (I .named) (connected-head _ _ (I .good .conn)) (λ x. unfold exactOut in (I .good .exact x)) (I .rooted)
+      rw (
+        formed-by (s .control .n) (s .control .r) (s .records) (s .slots) (s .roots) (I .legal) (I .empty) (I .named) (connected-head _ _ (I .good .conn))
+            (λ x. unfold exactOut in (I .good .exact x)) (I .rooted),
+        facts-list (s .control .n) (s .records) (s .slots) (s .sinks) (s .sets) inv-lists,
+      )
+      (facts-sets (s .control .n) (s .records) (s .slots) (s .sinks) (s .sets) (I .sets-exact))
 
   pub inv-control : badControl (s .control) ≡ false
   inv-control = facts-control (s .control) (I .sound)
@@ -111,6 +137,15 @@ module _ (s : State) (I : Inv s) where
   pub inv-illegal : (x : ℕ) → not (R.legal (s .control .n) (recordIn s x)) ≡ R.free (recordIn s x)
   inv-illegal x = illegal (s .control .n) (recordIn s x) (I .legal x)
 
-pub enough : (k : ℕ) (l : List ℕ) → k ≤ length l → short k l ≡ false
-unfolding short
-enough k l p = le-ltb (length l) k p
+  -- no slice is too short
+  pub inv-long : shortHeap (s .control .n) (s .control .r) (s .records) (s .slots) (s .roots) (s .sinks) (s .sets) ≡ false
+  unfolding shortHeap slotsLen
+  inv-long =
+      rw (
+        enough (s .control .n) (s .records) (I .recs-long),
+        enough (8 * s .control .n) (s .slots) (I .slots-long),
+        enough (s .control .r) (s .roots) (I .roots-long),
+        enough sinkMax (s .sinks) (I .sinks-long),
+        enough (s .control .n) (s .sets) (I .sets-long),
+      )
+      refl

@@ -1,12 +1,15 @@
 -- ---- tests, lists, records, the invariant, the plain heap of a state
 pub mod BoolLaws
 pub mod ListLaws
+pub mod ListedLaws
+pub mod PlacedLaws
 pub mod PassLaws
 pub mod BufferLaws
 pub mod PlaceLaws
 pub mod SearchLaws
 pub mod EncodedRecord
 pub mod EncodedLaws
+pub mod SetLaws
 pub mod StoreLaws
 pub mod WellFormedLaws
 pub mod SaneLaws
@@ -32,9 +35,11 @@ pub mod AnalyseFacts
 pub mod CreateLaws
 pub mod ImageLaws
 pub mod WrittenLaws
+pub mod WrittenSinks
 pub mod ReloadedLaws
 pub mod AcceptedLaws
 pub mod ExactLaws
+pub mod BehindLaws
 pub mod SaveLaws
 pub mod LoadTests
 pub mod LoadLaws
@@ -44,6 +49,7 @@ pub mod TraceLaws
 pub mod SweepLaws
 pub mod MapLaws
 pub mod CollectLaws
+pub mod SinkFacts
 pub mod Unmet
 -- ---- the demands
 pub mod Calls

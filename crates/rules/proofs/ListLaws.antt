@@ -241,6 +241,12 @@ pub map-of : (f : ℕ → ℕ) (l : List ℕ) (y : ℕ) → List·Memᴰ y (map 
 map-of f (x ∷ l) y (List·Memᴰ·head e) = (x, List·Memᴰ·head refl, e)
 map-of f (x ∷ l) y (List·Memᴰ·tail m) = let a = map-of f l y m in (a .0, List·Memᴰ·tail (a .1), a .2)
 
+-- what stands in a place
+pub mem-get : (l : List ℕ) (k : ℕ) → k < length l → List·Memᴰ (getD l k 0) l
+mem-get [] k p = absurd (omega arith)
+mem-get (x ∷ l) zero p = List·Memᴰ·head refl
+mem-get (x ∷ l) (suc k) p = List·Memᴰ·tail (mem-get l k (omega arith))
+
 -- ---- tests on all
 
 pub allOf-at : (t : ℕ → Bool) (l : List ℕ) (w : ℕ) → allOf t l ≡ true → List·Memᴰ w l → t w ≡ true

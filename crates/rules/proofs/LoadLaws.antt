@@ -2,17 +2,17 @@
 -- Assumes nothing.
 use Prim.Native.Nat.{ℕ, zero, suc, _+_, _-_, _*_, _/_, _%_, _≤_, _<_}
 use mathlib.Core.Path.{_≡_, refl, sym, ap, ap₂, _∙_, subst}
-use mathlib.Core.Bool.{Bool, true, false, _||_, false≢true}
-use mathlib.Core.List.{List, [], _∷_, map, List·Memᴰ, List·Memᴰ·not-nil}
+use mathlib.Core.Bool.{Bool, true, false, _&&_, _||_, false≢true}
+use mathlib.Core.List.{List, [], _∷_, _++_, map, List·Memᴰ, List·Memᴰ·not-nil}
 use mathlib.Core.Logic.{_≢_, _⊎_, inl, inr}
 use native.Mathlib.Decide.{decLe}
 use native.Mathlib.Omega.{arith}
 use lib.Dec.{eqb}
-use lib.ListN.{length, take, drop, length-drop}
+use lib.ListN.{length, getD, take, drop, replicate, length-drop}
 use borrow.Author.Tests.{lt-ltb, le-ltb, eqb-false}
 use Rattle.layout.specs.ControlRecord.{newControl, withLast}
 use Rattle.layout.specs.Field.{field, flag}
-use Rattle.layout.specs.Limits.{slotsLen}
+use Rattle.layout.specs.Limits.{sinkMax, slotsLen}
 use Rattle.layout.specs.Refusal.{first, by, outcome}
 use Rattle.layout.specs.Word.{isNil, isImmediate}
 use Rattle.layout.proofs.ControlLaws.{new-sound, last-sound}
@@ -22,19 +22,21 @@ use Rattle.records.specs.Record.{newRecord, withSink, width, cluster, isSink, i
 use Rattle.records.proofs.RecordLaws.{Legal, legal-nonzero, nonzero-free, clear-same, width-put-flag, cluster-put-flag, new-width, new-cluster, new-out, new-written, new-used, new-legal}
 use Rattle.graph.specs.Numbers.{Obj}
 use Rattle.graph.proofs.Lifecycle.{unclustered-good}
-use Rattle.rules.specs.Buffers.{recOf, eachFrom, eachRecord, eight, usedWords, otherWords, allOf, numbers}
+use Rattle.rules.specs.Buffers.{recOf, eachFrom, eachRecord, zeros, eight, usedWords, otherWords, allOf, numbers}
 use Rattle.rules.specs.View.{view}
 use Rattle.rules.specs.WellFormed.{names}
 use Rattle.rules.specs.Calls.{load, did}
-use Rattle.rules.specs.Image.{listed, savedWidth, savedSink, savedWord, savedWords, savedRoot, savedLast, namesListed}
-use Rattle.rules.specs.Load.{sizes, objects, rootWords, imageN, imageR, imageTests, loadedRecord, loadedWord, loadTests}
+use Rattle.rules.specs.Image.{listed, savedWidth, savedSink, savedAsSink, savedWord, savedWords, savedRoot, savedLast, namesListed}
+use Rattle.rules.specs.Load.{sizes, objects, rootWords, imageN, imageR, imageTests, loadedRecord, loadedWord, loadedSinks, loadTests}
 use Rattle.rules.specs.Load as Load
 use Rattle.rules.specs.Plain.{cellFrom, plainLoaded, answer, plainStep}
 use Rattle.rules.specs.Steps.{State, loaded, step}
 use Rattle.rules.specs.PlainOf.{plainOf, cellOf, cellsOf}
 use Rattle.rules.specs.Demands.{Fresh, Long, Within, wordsOf, heapOf}
 use Rattle.rules.proofs.BoolLaws.{and-split, or-last}
-use Rattle.rules.proofs.ListLaws.{length-each, drop-each, drop-past, recOf-each, recOf-above, same-numbers}
+use Rattle.rules.proofs.ListLaws.{length-each, drop-each, drop-past, recOf-each, recOf-above, recOf-range, same-numbers}
+use Rattle.rules.proofs.ListedLaws.{Lists, lists-same, padded-lists, places-filled, recOf-zeros}
+use Rattle.rules.proofs.SetLaws.{setWord-none}
 use Rattle.rules.proofs.Invariant.{Inv, SlotWord}
 use Rattle.rules.proofs.Simulation.{Same, all-by, pointer-facts}
 use Rattle.rules.proofs.ViewLaws.{targets-low}
@@ -113,13 +115,15 @@ module _ (s : Bool) (v : ℕ) where
 
 -- ---- the heap that an accepted load leaves
 
-module _ (b recs slots roots : List ℕ) where
+module _ (b recs slots roots list sets : List ℕ) where
   abbrev pub laid : State
   laid = record {
     control = withLast (savedLast (sizes b)) (newControl (imageN b) (imageR b));
     records = eachRecord (imageN b) (λ x r. loadedRecord b x) recs;
     slots = eachFrom 0 (slotsLen (imageN b)) (λ j w. loadedWord b (j / 8 + 1) (j % 8)) slots;
     roots = eachFrom 0 (imageR b) (λ j w. savedRoot (rootWords b) j) roots;
+    sinks = eachFrom 0 sinkMax (λ k y. getD (loadedSinks b) k 0) list;
+    sets = zeros (imageN b) sets;
   }
 
   abbrev n : ℕ
@@ -132,7 +136,7 @@ module _ (b recs slots roots : List ℕ) where
   abbrev record-of : ℕ → ℕ
   record-of x = made (eqb (savedSink objs x) 1) (savedWidth objs x)
 
-  module _ (A : Holds b) (L : Long (imageN b) (imageR b) recs slots roots) where
+  module _ (A : Holds b) (L : Long (imageN b) (imageR b) recs slots roots list sets) where
     -- ---- its records
 
     listed-record : (x : ℕ) → Obj n x → listed objs x ≡ true → recOf n (laid .records) x ≡ record-of x
@@ -216,6 +220,26 @@ module _ (b recs slots roots : List ℕ) where
     root-words : take (imageR b) (laid .roots) ≡ map (savedRoot (rootWords b)) (numbers 0 (imageR b))
     root-words = fill 0 (imageR b) (imageR b) (savedRoot (rootWords b)) roots (omega arith) (L .2)
 
+    -- ---- its sinks
+
+    pub laid-sinks : take sinkMax (laid .sinks) ≡ loadedSinks b ++ replicate (sinkMax - length (loadedSinks b)) 0
+    laid-sinks =
+        places-filled 0 sinkMax (λ k. getD (loadedSinks b) k 0) (loadedSinks b) list (A .few) (L .3) (λ j. ap (λ (k : ℕ). getD (loadedSinks b) k 0) (omega arith))
+
+    sink-record : (x : ℕ) → Obj n x → savedAsSink objs x ≡ isSink (recOf n (laid .records) x)
+    unfolding savedAsSink
+    sink-record x o = go (listed objs x) refl
+      where
+        go : (c : Bool) → listed objs x ≡ c → (c && eqb (savedSink objs x) 1) ≡ isSink (recOf n (laid .records) x)
+        go true l = sym (ap isSink (listed-record x o l) ∙ made-sink (eqb (savedSink objs x) 1) (savedWidth objs x))
+        go false l = rw (other-record x o l) (unfold flag field in refl)
+
+    laid-lists : Lists n (λ x. isSink (recOf n (laid .records) x)) (take sinkMax (laid .sinks))
+    laid-lists =
+        subst (Lists n (λ x. isSink (recOf n (laid .records) x))) (sym laid-sinks)
+        (padded-lists (loadedSinks b) (sinkMax - length (loadedSinks b)) n (λ x. isSink (recOf n (laid .records) x))
+        (lists-same n (savedAsSink objs) (λ x. isSink (recOf n (laid .records) x)) (loadedSinks b) sink-record (A .sinks)))
+
     -- ---- no limit, no losses, no clusters
 
     pub laid-fresh : Fresh (laid .control) (laid .records)
@@ -227,20 +251,31 @@ module _ (b recs slots roots : List ℕ) where
         go x (inr o) = rw (listed-record x (o .0) (o .1)) (made-cluster _ _, made-out _ _, made-written _ _)
 
     pub laid-inv : Inv laid
-    unfolding withLast newControl
+    unfolding withLast newControl view
     laid-inv = record {
       sound = last-sound (newControl n (imageR b)) (new-sound n (imageR b) (A .ranges)) (savedLast (sizes b)) (A .last);
       recs-long = unfold eachRecord in (rw (length-each 1 n (λ x r. loadedRecord b x) recs) (L .0));
       slots-long = unfold slotsLen in (rw (length-each 0 (8 * n) (λ j w. loadedWord b (j / 8 + 1) (j % 8)) slots) (L .1));
       roots-long = rw (length-each 0 (imageR b) (λ j w. savedRoot (rootWords b) j) roots) (L .2);
+      sinks-long = rw (length-each 0 sinkMax (λ k y. getD (loadedSinks b) k 0) list) (L .3);
+      sets-long = unfold zeros in (rw (length-each 0 n (λ _ w. 0) sets) (L .4));
       legal = λ x. legal x (either x);
       empty = empty;
       named = named;
       rooted = λ w m. or-last (isNil w) _ _ (A .roots w (rw root-words at m)) (names-used w);
-      good = unclustered-good (heapOf laid) (λ x. unfold view in (laid-fresh .plain x .0)) (λ x. unfold view in (laid-fresh .plain x .1))
-          (λ x y m. unfold view in (targets-low n (wordsOf laid x) y m));
+      single = laid-lists .single;
+      sets-exact = λ h p q. recOf-zeros n sets h ∙ sym (setWord-none (heapOf laid) h (λ x o e. absurd (omega (arith, p, e, free x))));
+      good = unclustered-good (heapOf laid) free (λ x. laid-fresh .plain x .1) (λ x y m. targets-low n (wordsOf laid x) y m)
+          (λ y m p. let r = laid-lists .from y m p in (r .0 .1, r .1)) (λ y e. laid-lists .all y (sink-object y e) e)
+          (λ e. false≢true (unfold recOf flag field in e));
     }
       where
+        free : (x : ℕ) → heapOf laid .cluster x ≡ 0
+        free x = laid-fresh .plain x .0
+
+        sink-object : (y : ℕ) → isSink (recOf n (laid .records) y) ≡ true → Obj n y
+        sink-object y e = recOf-range n (laid .records) y (λ z. false≢true (unfold flag field in (rw z at e)))
+
         legal : (x : ℕ) → Either x → (recOf n (laid .records) x ≡ 0) ⊎ Legal n (recOf n (laid .records) x)
         legal x (inl e) = inl e
         legal x (inr o) = inr (rw (listed-record x (o .0) (o .1)) (made-legal _ _ (A .narrow x (o .0) (o .1)) n))
@@ -265,81 +300,90 @@ module _ (b recs slots roots : List ℕ) where
 
 -- ---- the call, of every input
 
-module _ (b recs slots roots : List ℕ) where
+module _ (b recs slots roots list sets : List ℕ) where
   -- the refusal of this load
   abbrev refusal : ℕ
-  refusal = Load.load b recs slots roots .answer .refusal
+  refusal = Load.load b recs slots roots list sets .answer .refusal
 
-  pub load-answered : refusal ≡ first (loadTests b recs slots roots)
+  pub load-answered : refusal ≡ first (loadTests b recs slots roots list sets)
   unfolding Load.load
   load-answered = answered _ _ _ (λ (o : Load.Outcome). o .answer .refusal) refl (λ k. refl)
 
   pub load-unmet : (refusal ≢ 20) × (refusal ≢ 21) × (refusal ≢ 25)
-  load-unmet = subst Never (sym load-answered) (tests-unmet b recs slots roots)
+  load-unmet = subst Never (sym load-answered) (tests-unmet b recs slots roots list sets)
 
-  pub load-within : let o = Load.load b recs slots roots in
+  pub load-within : let o = Load.load b recs slots roots list sets in
       Within (imageN b) recs (o .records) × Within (slotsLen (imageN b)) slots (o .slots) × Within (imageR b) roots (o .roots)
-  unfolding Load.load eachRecord
+      × Within sinkMax list (o .sinks) × Within (imageN b) sets (o .sets)
+  unfolding Load.load eachRecord zeros
   load-within =
       all-by
       (λ (o : Load.Outcome).
-      Within (imageN b) recs (o .records) × Within (slotsLen (imageN b)) slots (o .slots) × Within (imageR b) roots (o .roots)) _ _ _
-      (λ z. (each 1 (imageN b) _ recs, each 0 (slotsLen (imageN b)) _ slots, each 0 (imageR b) _ roots))
-      (λ m. ((refl, refl), (refl, refl), (refl, refl)))
+      Within (imageN b) recs (o .records) × Within (slotsLen (imageN b)) slots (o .slots) × Within (imageR b) roots (o .roots)
+      × Within sinkMax list (o .sinks) × Within (imageN b) sets (o .sets)) _ _ _
+      (λ z. (each 1 (imageN b) _ recs, each 0 (slotsLen (imageN b)) _ slots, each 0 (imageR b) _ roots, each 0 sinkMax _ list, each 0 (imageN b) _ sets))
+      (λ m. ((refl, refl), (refl, refl), (refl, refl), (refl, refl), (refl, refl)))
     where
       each : (i k : ℕ) (f : ℕ → ℕ → ℕ) (l : List ℕ) → Within k l (eachFrom i k f l)
       each i k f l = (length-each i k f l, drop-past i k f l)
 
   -- accepted: the tests pass, and the state is the one laid
   pub accepted : refusal ≡ 0
-      → (first (imageTests b) ≡ 0) × Long (imageN b) (imageR b) recs slots roots × (loaded b recs slots roots ≡ laid b recs slots roots)
+      → (first (imageTests b) ≡ 0) × Long (imageN b) (imageR b) recs slots roots list sets × (loaded b recs slots roots list sets ≡ laid b recs slots roots list sets)
   unfolding loaded Load.load
   accepted e =
       let z = sym load-answered ∙ e in
-      let t = load-passed b recs slots roots z in (
+      let t = load-passed b recs slots roots list sets z in (
         t .0,
         t .1,
-        ap (λ (o : Load.Outcome). record { control = o .answer .control; records = o .records; slots = o .slots; roots = o .roots })
-            (outcome-zero _ _ (loadTests b recs slots roots) z),
+        ap (λ (o : Load.Outcome). record { control = o .answer .control; records = o .records; slots = o .slots; roots = o .roots; sinks = o .sinks; sets = o .sets })
+            (outcome-zero _ _ (loadTests b recs slots roots list sets) z),
       )
 
-  pub load-fresh : let o = Load.load b recs slots roots in o .answer .refusal ≡ 0 → Fresh (o .answer .control) (o .records)
+  pub load-fresh : let o = Load.load b recs slots roots list sets in o .answer .refusal ≡ 0 → Fresh (o .answer .control) (o .records)
   unfolding loaded
   load-fresh e =
       let a = accepted e in
-      subst (λ (s : State). Fresh (s .control) (s .records)) (sym (a .2)) (laid-fresh b recs slots roots (holds b (a .0)) (a .1))
+      subst (λ (s : State). Fresh (s .control) (s .records)) (sym (a .2)) (laid-fresh b recs slots roots list sets (holds b (a .0)) (a .1))
 
-  pub load-inv : refusal ≡ 0 → Inv (loaded b recs slots roots)
-  load-inv e = let a = accepted e in subst Inv (sym (a .2)) (laid-inv b recs slots roots (holds b (a .0)) (a .1))
+  pub load-inv : refusal ≡ 0 → Inv (loaded b recs slots roots list sets)
+  load-inv e = let a = accepted e in subst Inv (sym (a .2)) (laid-inv b recs slots roots list sets (holds b (a .0)) (a .1))
 
-  pub load-plain : refusal ≡ 0 → plainOf (loaded b recs slots roots) ≡ plainLoaded b
-  load-plain e = let a = accepted e in ap plainOf (a .2) ∙ laid-plain b recs slots roots (holds b (a .0)) (a .1)
+  pub load-plain : refusal ≡ 0 → plainOf (loaded b recs slots roots list sets) ≡ plainLoaded b
+  load-plain e = let a = accepted e in ap plainOf (a .2) ∙ laid-plain b recs slots roots list sets (holds b (a .0)) (a .1)
+
+  -- the sinks are in the first places
+  pub load-sinks : refusal ≡ 0
+      → take sinkMax (loaded b recs slots roots list sets .sinks) ≡ loadedSinks b ++ replicate (sinkMax - length (loadedSinks b)) 0
+  load-sinks e =
+      let a = accepted e in
+      ap (λ (s : State). take sinkMax (s .sinks)) (a .2) ∙ laid-sinks b recs slots roots list sets (holds b (a .0)) (a .1)
 
   -- ---- in a heap: accepted, it leaves the one laid, and refused, the one that was
 
-  pub load-step-inv : (s : State) → Inv s → Inv (step (load b recs slots roots) s .after)
+  pub load-step-inv : (s : State) → Inv s → Inv (step (load b recs slots roots list sets) s .after)
   unfolding step answer
   load-step-inv s I = go refusal refl
     where
-      go : (m : ℕ) → refusal ≡ m → Inv (by m (loaded b recs slots roots) (λ k. s))
+      go : (m : ℕ) → refusal ≡ m → Inv (by m (loaded b recs slots roots list sets) (λ k. s))
       go zero e = unfold by in (load-inv e)
       go (suc m) e = unfold by in I
 
-  pub load-same : (s : State) → (first (imageTests b) ≡ 0 → Long (imageN b) (imageR b) recs slots roots) → Same (load b recs slots roots) s
+  pub load-same : (s : State) → (first (imageTests b) ≡ 0 → Long (imageN b) (imageR b) recs slots roots list sets) → Same (load b recs slots roots list sets) s
   unfolding step answer plainStep outcome
   load-same s long = record {
     answers = ap (λ (m : ℕ). did m ∷ []) same ∙ told (first (imageTests b));
-    after = ap (λ (m : ℕ). plainOf (by m (loaded b recs slots roots) (λ k. s))) same ∙ left (first (imageTests b)) same;
+    after = ap (λ (m : ℕ). plainOf (by m (loaded b recs slots roots list sets) (λ k. s))) same ∙ left (first (imageTests b)) same;
   }
     where
       same : refusal ≡ first (imageTests b)
-      same = load-answered ∙ load-tests b recs slots roots long
+      same = load-answered ∙ load-tests b recs slots roots list sets long
 
       told : (m : ℕ) → (did m ∷ []) ≡ by m (answer (did 0) (plainLoaded b)) (λ k. answer (did k) (plainOf s)) .answers
       told zero = unfold by in refl
       told (suc m) = unfold by in refl
 
       left : (m : ℕ) → refusal ≡ m
-          → plainOf (by m (loaded b recs slots roots) (λ k. s)) ≡ by m (answer (did 0) (plainLoaded b)) (λ k. answer (did k) (plainOf s)) .after
+          → plainOf (by m (loaded b recs slots roots list sets) (λ k. s)) ≡ by m (answer (did 0) (plainLoaded b)) (λ k. answer (did k) (plainOf s)) .after
       left zero e = unfold by in (load-plain e)
       left (suc m) e = unfold by in refl

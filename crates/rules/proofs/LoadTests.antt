@@ -1,6 +1,6 @@
 -- The tests of load: they are in order, and an image that passes them is a heap.
 -- Assumes nothing.
-use Prim.Native.Nat.{ℕ, zero, suc, _-_, _≤_}
+use Prim.Native.Nat.{ℕ, zero, suc, _≤_}
 use mathlib.Core.Path.{_≡_, refl, sym, _∙_}
 use mathlib.Core.Bool.{Bool, true, false, cond, _||_}
 use mathlib.Core.List.{List, [], _∷_, _++_, map, List·Memᴰ}
@@ -10,22 +10,29 @@ use native.Mathlib.Omega.{arith}
 use lib.Dec.{eqb, ltb}
 use lib.ListN.{length}
 use borrow.Author.Tests.{ltb-false, eqb-false}
-use Rattle.layout.specs.Limits.{slotsLen, widthMax}
+use Rattle.layout.specs.Limits.{slotsLen, widthMax, sinkMax}
 use Rattle.layout.specs.Refusal.{Test, first}
 use Rattle.layout.specs.Word.{isNil, isImmediate}
 use Rattle.layout.proofs.ControlLaws.{Sizes, sizes-facts}
-use Rattle.layout.proofs.RefusalLaws.{Numbered, nil, cons, first-passed, first-front, first-skip, first-zero}
+use Rattle.layout.proofs.RefusalLaws.{Numbered, nil, cons, first-passed, first-fails, first-front, first-skip, first-zero}
 use Rattle.graph.specs.Numbers.{Obj}
-use Rattle.rules.specs.Buffers.{short, numbers}
-use Rattle.rules.specs.Image.{past, savedLast, listed, savedWidth, savedSink, savedWords, shaped, namesListed, wordsOk, savedRoot}
-use Rattle.rules.specs.Load.{sizes, objects, rootWords, imageN, imageR, chunkTests, imageTests, loadTests}
+use Rattle.rules.specs.Buffers.{short, shortHeap, numbers}
+use Rattle.rules.specs.Image.{past, savedLast, listed, savedWidth, savedSink, savedAsSink, savedWords, shaped, namesListed, wordsOk, savedRoot}
+use Rattle.rules.specs.Load.{sizes, objects, rootWords, imageN, imageR, chunkTests, imageTests, loadedSinks, loadTests}
 use Rattle.rules.specs.Demands.{Long, inOrder, loadOrder}
 use Rattle.rules.proofs.BoolLaws.{or-split}
 use Rattle.rules.proofs.ListLaws.{allTo-at}
+use Rattle.rules.proofs.ListedLaws.{Lists}
 use Rattle.rules.proofs.Invariant.{enough}
-use Rattle.rules.proofs.AcceptedLaws.{sizes-right, objects-right, roots-right, sizes-held, objects-held, shape-facts, words-held, roots-held}
+use Rattle.rules.proofs.AcceptedLaws.{sizes-right, objects-right, roots-right, sizes-held, objects-held, shape-facts, words-held, roots-held, loaded-lists, loaded-short}
 
 -- ---- every image
+
+-- buffers that are long enough are not too short
+pub long-enough : (n r : ℕ) (recs slots roots list sets : List ℕ) → Long n r recs slots roots list sets → shortHeap n r recs slots roots list sets ≡ false
+unfolding shortHeap
+long-enough n r recs slots roots list sets l =
+    rw (enough n recs (l .0), enough (slotsLen n) slots (l .1), enough r roots (l .2), enough sinkMax list (l .3), enough n sets (l .4)) refl
 
 -- a number that refuses no call in a heap that the calls made
 abbrev pub Never : ℕ → Type 0
@@ -49,12 +56,12 @@ module _ (b : List ℕ) where
       by-chunks (λ f l. Numbered l) nil (λ f c. cons (omega arith) nil)
       (λ f c d e l h. cons (omega arith) (cons (omega arith) (cons (omega arith) h))) (suc (length b)) 0
 
-  module _ (recs slots roots : List ℕ) where
+  module _ (recs slots roots list sets : List ℕ) where
     -- the last test
     abbrev lacks : Bool
-    lacks = short (imageN b) recs || short (slotsLen (imageN b)) slots || short (imageR b) roots
+    lacks = shortHeap (imageN b) (imageR b) recs slots roots list sets
 
-    pub load-ordered : inOrder (loadOrder (suc (length b))) (loadTests b recs slots roots) ≡ true
+    pub load-ordered : inOrder (loadOrder (suc (length b))) (loadTests b recs slots roots list sets) ≡ true
     unfolding loadTests imageTests inOrder loadOrder
     load-ordered =
         by-chunks (λ f l. inOrder (loadOrder f) (l ++ ((2, lacks) ∷ [])) ≡ true) refl (λ f c. last f) (λ f c d e l h. h) (suc (length b)) 0
@@ -64,7 +71,7 @@ module _ (b : List ℕ) where
         last (suc f) = last f
 
     -- no load meets 20, 21 or 25
-    pub tests-unmet : Never (first (loadTests b recs slots roots))
+    pub tests-unmet : Never (first (loadTests b recs slots roots list sets))
     unfolding loadTests imageTests first
     tests-unmet =
         by-chunks (λ f l. Never (first (l ++ ((2, lacks) ∷ [])))) last (λ f c. else 26 c _ (other 26 refl refl refl) last)
@@ -82,8 +89,8 @@ module _ (b : List ℕ) where
         last = else 2 lacks 0 (other 2 refl refl refl) (other 0 refl refl refl)
 
     -- buffers that are long enough for the heap of the image: the image alone decides
-    pub load-tests : (first (imageTests b) ≡ 0 → Long (imageN b) (imageR b) recs slots roots)
-        → first (loadTests b recs slots roots) ≡ first (imageTests b)
+    pub load-tests : (first (imageTests b) ≡ 0 → Long (imageN b) (imageR b) recs slots roots list sets)
+        → first (loadTests b recs slots roots list sets) ≡ first (imageTests b)
     unfolding loadTests
     load-tests long = go (ℕ-discrete (first (imageTests b)) 0)
       where
@@ -91,21 +98,23 @@ module _ (b : List ℕ) where
         go (yes z) =
             let l = long z in
             first-skip (imageTests b) _ (first-zero (imageTests b) numbered z)
-            ∙ (unfold first in (rw (enough _ _ (l .0), enough _ _ (l .1), enough _ _ (l .2)) (sym z)))
+            ∙ first-fails 2 [] lacks (long-enough (imageN b) (imageR b) recs slots roots list sets l) ∙ (unfold first in (sym z))
         go (no z) = first-front (imageTests b) _ z
 
     -- and back: what an accepted load has passed
-    pub load-passed : first (loadTests b recs slots roots) ≡ 0 → (first (imageTests b) ≡ 0) × Long (imageN b) (imageR b) recs slots roots
-    unfolding loadTests short
+    pub load-passed : first (loadTests b recs slots roots list sets) ≡ 0 → (first (imageTests b) ≡ 0) × Long (imageN b) (imageR b) recs slots roots list sets
+    unfolding loadTests shortHeap short
     load-passed h = go (ℕ-discrete (first (imageTests b)) 0)
       where
-        go : Dec (first (imageTests b) ≡ 0) → (first (imageTests b) ≡ 0) × Long (imageN b) (imageR b) recs slots roots
+        go : Dec (first (imageTests b) ≡ 0) → (first (imageTests b) ≡ 0) × Long (imageN b) (imageR b) recs slots roots list sets
         go (no z) = absurd (z (sym (first-front (imageTests b) _ z) ∙ h))
         go (yes z) =
             let t = first-passed 1 _ _ (sym (first-skip (imageTests b) _ (first-zero (imageTests b) numbered z)) ∙ h) in
-            let d = or-split _ _ (t .0) in
+            let a = or-split _ _ (t .0) in
+            let c = or-split _ _ (a .0) in
+            let d = or-split _ _ (c .0) in
             let e = or-split _ _ (d .0) in
-            (z, (ltb-false _ _ (e .0), ltb-false _ _ (e .1), ltb-false _ _ (d .1)))
+            (z, (ltb-false _ _ (e .0), ltb-false _ _ (e .1), ltb-false _ _ (d .1), ltb-false _ _ (c .1), ltb-false _ _ (a .1)))
 
 -- ---- an image that passes
 
@@ -120,6 +129,8 @@ module _ (b : List ℕ) where
         → (isNil w || isImmediate w || namesListed (objects b) (imageN b) w) ≡ true
     pub roots : (w : ℕ) → List·Memᴰ w (map (savedRoot (rootWords b)) (numbers 0 (imageR b)))
         → (isNil w || namesListed (objects b) (imageN b) w) ≡ true
+    pub sinks : Lists (imageN b) (savedAsSink (objects b)) (loadedSinks b)
+    pub few : length (loadedSinks b) ≤ sinkMax
 
   pub holds : first (imageTests b) ≡ 0 → Holds
   holds z =
@@ -132,4 +143,6 @@ module _ (b : List ℕ) where
         sink = λ x i l. shape-facts (objects b) x l (allTo-at (imageN b) (shaped (objects b)) (o .shape) x (i .0) (i .1)) .sunk;
         words = λ x i l. words-held (objects b) (imageN b) x l (allTo-at (imageN b) (wordsOk (objects b) (imageN b)) (o .words) x (i .0) (i .1));
         roots = roots-held (imageN b) (imageR b) (objects b) (rootWords b) (roots-right b z);
+        sinks = loaded-lists b z .0;
+        few = loaded-short b z;
       }

@@ -22,7 +22,7 @@ take-by h a (suc k) [] p = absurd (omega arith)
 take-by h a (suc k) (w ∷ l) p = ap (λ r. h a ∷ r) (take-by h (suc a) k l (omega arith))
 
 -- a count over more numbers, none of which passes
-count-past : (t : ℕ → Bool) (n d : ℕ) → ((x : ℕ) → n < x → t x ≡ false) → count (d + n) t ≡ count n t
+pub count-past : (t : ℕ → Bool) (n d : ℕ) → ((x : ℕ) → n < x → t x ≡ false) → count (d + n) t ≡ count n t
 unfolding count sum
 count-past t n zero h = let e : 0 + n ≡ n = omega arith in rw e refl
 count-past t n (suc d) h =
@@ -30,7 +30,7 @@ count-past t n (suc d) h =
     let r = count-past t n d h in
     rw (e, h (suc (d + n)) (omega arith)) (omega arith)
 
-length-passers : (t : ℕ → Bool) (m : ℕ) → length (passers t 0 (suc m)) ≡ bit (t 0) + count m t
+pub length-passers : (t : ℕ → Bool) (m : ℕ) → length (passers t 0 (suc m)) ≡ bit (t 0) + count m t
 unfolding passers count sum
 length-passers t zero = go (t 0)
   where

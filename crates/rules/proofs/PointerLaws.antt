@@ -1,4 +1,4 @@
--- What pointers, roots and sinks name: objects in use.
+-- What pointers and roots name: objects in use.
 -- Assumes nothing.
 use Prim.Native.Nat.{ℕ, _≤_}
 use mathlib.Core.Path.{_≡_, refl, sym, ap, _∙_}
@@ -71,7 +71,3 @@ module _ (s : State) (I : Inv s) where
       go : (eqb y 0 ≡ true) ⊎ (names (s .control .n) (s .records) y ≡ true) → y ≤ s .control .n
       go (inl e) = omega (arith, eqb-true y 0 e)
       go (inr e) = named-used y e .1
-
-  pub sinks-in-use : (x : ℕ) → heapOf s .sink x ≡ true → Used x
-  unfolding view flag field
-  sinks-in-use x e z = false≢true (rw z at e)

@@ -22,13 +22,13 @@ use Rattle.rules.proofs.Simulation.{Same, same-by, all-by, used-length}
 pub read-stays : (s : State) (i k : ℕ) → step (read i k) s .after ≡ s
 unfolding step Read.read answer
 read-stays s i k =
-    ap (λ (c : Control). record { control = c; records = s .records; slots = s .slots; roots = s .roots })
+    ap (λ (c : Control). record { control = c; records = s .records; slots = s .slots; roots = s .roots; sinks = s .sinks; sets = s .sets })
     (all-by (λ (a : WordRead). a .control ≡ s .control) _ _ _ (λ z. refl) (λ m. refl))
 
 pub show-stays : (s : State) (i : ℕ) → step (show i) s .after ≡ s
 unfolding step Show.show answer
 show-stays s i =
-    ap (λ (c : Control). record { control = c; records = s .records; slots = s .slots; roots = s .roots })
+    ap (λ (c : Control). record { control = c; records = s .records; slots = s .slots; roots = s .roots; sinks = s .sinks; sets = s .sets })
     (all-by (λ (o : Show.Outcome). o .answer .control ≡ s .control) _ _ _ (λ z. refl) (λ m. refl))
 
 module _ (s : State) (I : Inv s) where

@@ -74,9 +74,9 @@ module _ {A : Type 0} (T : List Test) (a : A) (r : ℕ → A) (refusal : A → �
 
 -- ---- the tests of each call are in order
 
-pub create-ordered : (n r : ℕ) (recs slots roots : List ℕ) → inOrder order (Create.createTests n r recs slots roots) ≡ true
+pub create-ordered : (n r : ℕ) (recs slots roots list sets : List ℕ) → inOrder order (Create.createTests n r recs slots roots list sets) ≡ true
 unfolding inOrder Create.createTests
-create-ordered n r recs slots roots = refl
+create-ordered n r recs slots roots list sets = refl
 
 pub allocate-ordered : (c : Control) (width : ℕ) (recs slots : List ℕ) → inOrder order (Allocate.allocateTests c width recs slots) ≡ true
 unfolding inOrder Allocate.allocateTests
@@ -90,22 +90,23 @@ pub show-ordered : (c : Control) (i : ℕ) (recs slots : List ℕ) → inOrder o
 unfolding inOrder Show.showTests
 show-ordered c i recs slots = refl
 
-pub write-ordered : (c : Control) (i k w : ℕ) (recs slots : List ℕ) → inOrder order (Write.writeTests c i k w recs slots) ≡ true
+pub write-ordered : (c : Control) (i k w : ℕ) (recs slots list sets : List ℕ) → inOrder order (Write.writeTests c i k w recs slots list sets) ≡ true
 unfolding inOrder Write.writeTests
-write-ordered c i k w recs slots = refl
+write-ordered c i k w recs slots list sets = refl
 
 pub root-ordered : (c : Control) (j w : ℕ) (recs roots : List ℕ) → inOrder order (SetRoot.setRootTests c j w recs roots) ≡ true
 unfolding inOrder SetRoot.setRootTests
 root-ordered c j w recs roots = refl
 
-pub declare-ordered : (c : Control) (i : ℕ) (recs slots roots : List ℕ) → inOrder order (DeclareSink.declareTests c i recs slots roots) ≡ true
+pub declare-ordered : (c : Control) (i : ℕ) (recs slots roots list sets : List ℕ) → inOrder order (DeclareSink.declareTests c i recs slots roots list sets) ≡ true
 unfolding inOrder DeclareSink.declareTests
-declare-ordered c i recs slots roots = refl
+declare-ordered c i recs slots roots list sets = refl
 
-pub analyse-ordered : (c : Control) (recs slots roots work : List ℕ) → inOrder order (Analyse.analyseTests c recs slots roots work) ≡ true
+pub analyse-ordered : (c : Control) (recs slots roots list sets work : List ℕ) → inOrder order (Analyse.analyseTests c recs slots roots list sets work) ≡ true
 unfolding inOrder Analyse.analyseTests
-analyse-ordered c recs slots roots work = refl
+analyse-ordered c recs slots roots list sets work = refl
 
-pub collect-ordered : (c : Control) (recs slots roots work map : List ℕ) → inOrder order (Collect.collectTests c recs slots roots work map) ≡ true
+pub collect-ordered : (c : Control) (recs slots roots list sets work map : List ℕ)
+    → inOrder order (Collect.collectTests c recs slots roots list sets work map) ≡ true
 unfolding inOrder Collect.collectTests
-collect-ordered c recs slots roots work map = refl
+collect-ordered c recs slots roots list sets work map = refl

@@ -11,12 +11,12 @@ use lib.ListN.{length, getD, List·getD-eq-default}
 use Rattle.graph.specs.Heap.{Reach}
 use Rattle.graph.specs.Numbers.{Obj, has}
 use Rattle.graph.proofs.RoundLaws.{rounds-reach}
-use Rattle.rules.specs.Plain.{Plain, vacant, wordsIn, cellAt, plainSize, plainWords, plainStarts, keptNumbers}
+use Rattle.rules.specs.Plain.{Plain, vacant, wordsIn, cellAt, plainSize, plainWords, keptNumbers}
 
--- what the plain heap keeps is what pointers reach from its roots and sinks
-pub plain-reach : (P : Plain) (x : ℕ) → Obj (plainSize P) x → (has x (keptNumbers P) ≡ true) ↔ Reach (plainWords P) (plainStarts P) x
+-- what the plain heap keeps is what pointers reach from its roots
+pub plain-reach : (P : Plain) (x : ℕ) → Obj (plainSize P) x → (has x (keptNumbers P) ≡ true) ↔ Reach (plainWords P) (P .roots) x
 unfolding keptNumbers plainWords cellAt wordsIn
-plain-reach P x b = rounds-reach (plainSize P) (plainWords P) (plainStarts P) only x b
+plain-reach P x b = rounds-reach (plainSize P) (plainWords P) (P .roots) only x b
   where
     only : (y z : ℕ) → List·Memᴰ z (plainWords P y) → Obj (plainSize P) y
     only zero z m = absurd (List·Memᴰ·not-nil m)

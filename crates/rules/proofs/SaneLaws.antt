@@ -1,28 +1,29 @@
 -- What the walks need of the heap that well-formed buffers hold.
 -- Assumes nothing.
 use Prim.Native.Nat.{ℕ, _≤_}
-use mathlib.Core.Path.{_≡_, refl, sym, _∙_, subst}
-use mathlib.Core.Bool.{true}
+use mathlib.Core.Path.{_≡_, refl, sym, ap, _∙_, subst}
+use mathlib.Core.Bool.{true, false≢true}
 use mathlib.Core.List.{List, map, List·Memᴰ}
 use mathlib.Core.Logic.{_≢_, _⊎_, inl, inr}
 use native.Mathlib.Omega.{arith}
 use lib.ListN.{take}
-use Rattle.layout.specs.Limits.{objectMax, widthMax}
+use Rattle.layout.specs.Limits.{objectMax, sinkMax, widthMax}
 use Rattle.layout.specs.Field.{field, flag}
 use Rattle.layout.specs.Word.{isImmediate}
 use Rattle.layout.proofs.WordLaws.{immediate-bounds}
 use Rattle.records.specs.Record.{isSink, width, cluster}
 use Rattle.records.proofs.RecordLaws.{Legal}
-use Rattle.graph.specs.Heap.{targets, starts}
+use Rattle.graph.specs.Heap.{targets}
 use Rattle.graph.specs.Clusters.{outBit}
-use Rattle.graph.specs.Invariant.{Ready}
+use Rattle.graph.specs.Invariant.{Listed, Ready}
 use Rattle.graph.proofs.MemberLaws.{pointer-word, pointer-nonzero}
 use Rattle.graph.proofs.ReachLaws.{starts-ranged}
-use Rattle.graph.proofs.TraceSafe.{StartsIn}
+use Rattle.graph.proofs.TraceSafe.{Ranged, StartsIn}
 use Rattle.rules.specs.Buffers.{recOf, usedWords}
-use Rattle.rules.specs.View.{target, view, exactOut}
-use Rattle.rules.proofs.ListLaws.{map-of}
-use Rattle.rules.proofs.ViewLaws.{target-word, targets-low, view-ready}
+use Rattle.rules.specs.View.{target, view, heapIn, exactOut}
+use Rattle.rules.proofs.ListedLaws.{Lists}
+use Rattle.rules.proofs.ListLaws.{recOf-range, map-of}
+use Rattle.rules.proofs.ViewLaws.{target-word, targets-low, view-ranged, view-ready}
 use Rattle.rules.proofs.WellFormedLaws.{Names, Sane}
 
 module _ {n r : ℕ} {recs slots roots : List ℕ} (S : Sane n r recs slots roots) where
@@ -50,9 +51,6 @@ module _ {n r : ℕ} {recs slots roots : List ℕ} (S : Sane n r recs slots root
   unfolding view exactOut
   sane-exact x = S .exact x
 
-  pub sane-ready : Ready (view n recs slots)
-  sane-ready = view-ready n recs slots (unfold view in (S .heads))
-
   -- a pointer leads to an object in use
   pub sane-targets : n ≤ objectMax → (x y : ℕ) → List·Memᴰ y (targets (view n recs slots) x) → Names n recs y
   unfolding view
@@ -76,5 +74,25 @@ module _ {n r : ℕ} {recs slots roots : List ℕ} (S : Sane n r recs slots root
       go (inl e) = omega arith
       go (inr N) = N .high
 
-  pub sane-starts : StartsIn (view n recs slots) (starts (view n recs slots) (take r roots))
+  pub sane-starts : StartsIn (view n recs slots) (take r roots)
   sane-starts = starts-ranged (view n recs slots) (take r roots) (unfold view in sane-roots)
+
+  -- with the list of sinks that the rules ask for
+  module _ (list : List ℕ) (L : Lists n (λ x. isSink (recOf n recs x)) (take sinkMax list)) where
+    pub sane-listed : Listed (heapIn n recs slots list)
+    sane-listed y m nz =
+        let t = L .from y m nz in
+        (unfold view in (t .0 .1), sane-sinks y (unfold view in (t .1)))
+
+    pub sane-ranged : Ranged (heapIn n recs slots list)
+    sane-ranged = view-ranged n recs slots list sane-listed
+
+    pub sane-ready : Ready (heapIn n recs slots list)
+    sane-ready = view-ready n recs slots list sane-listed (unfold view in (S .heads))
+
+    -- every sink of the heap has a place
+    pub sane-every : (y : ℕ) → view n recs slots .sink y ≡ true → List·Memᴰ y (take sinkMax list)
+    unfolding view flag field
+    sane-every y e =
+        let b = recOf-range n recs y (λ z. false≢true (sym (ap isSink z) ∙ e)) in
+        L .all y b e

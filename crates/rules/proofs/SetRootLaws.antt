@@ -63,7 +63,7 @@ module _ (s : State) (I : Inv s) (j w : ℕ) where
   root-same = record {
     answers = same-by _ _ _ _ _ _ (λ (o : SetRoot.Outcome). did (o .answer .refusal) ∷ []) (λ (p : Played Plain). p .answers) root-tests (λ z. refl) (λ m. refl);
     after = same-by _ _ _ _ _ _
-        (λ (o : SetRoot.Outcome). plainOf (record { control = o .answer .control; records = s .records; slots = s .slots; roots = o .roots }))
+        (λ (o : SetRoot.Outcome). plainOf (record { control = o .answer .control; records = s .records; slots = s .slots; roots = o .roots; sinks = s .sinks; sets = s .sets }))
         (λ (p : Played Plain). p .after) root-tests
         (λ z. λ i. record { last = s .control .last; roots = take-set-lt (s .control .r) (s .roots) j w (facts z .0) i; cells = plainOf s .cells })
         (λ m. refl);
@@ -72,16 +72,20 @@ module _ (s : State) (I : Inv s) (j w : ℕ) where
   pub root-inv : Inv (step (setRoot j w) s .after)
   unfolding step SetRoot.setRoot answer
   root-inv =
-      all-by (λ (o : SetRoot.Outcome). Inv (record { control = o .answer .control; records = s .records; slots = s .slots; roots = o .roots })) _ _ _
+      all-by (λ (o : SetRoot.Outcome). Inv (record { control = o .answer .control; records = s .records; slots = s .slots; roots = o .roots; sinks = s .sinks; sets = s .sets })) _ _ _
       (λ z. record {
         sound = I .sound;
         recs-long = I .recs-long;
         slots-long = I .slots-long;
         roots-long = rw (length-set (s .roots) j w) (I .roots-long);
+        sinks-long = I .sinks-long;
+        sets-long = I .sets-long;
         legal = I .legal;
         empty = I .empty;
         named = I .named;
         rooted = λ v m. go z v (mem-of-set (rootsOf s) j w v (rw (take-set-lt (s .control .r) (s .roots) j w (facts z .0)) at m));
+        single = I .single;
+        sets-exact = I .sets-exact;
         good = I .good;
       })
       (λ m. I)

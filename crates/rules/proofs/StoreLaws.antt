@@ -20,11 +20,12 @@ use Rattle.graph.specs.Clusters.{keep, others, outCount, outBit}
 use Rattle.graph.specs.Writes.{dissolves, stored, storeBy}
 use Rattle.graph.proofs.NumberLaws.{upd-same, upd-other}
 use Rattle.rules.specs.Buffers.{recOf, eight, usedWords, eachFrom, eachRecord}
-use Rattle.rules.specs.View.{target, view, exactOut, encodedRecord, encoded}
-use Rattle.rules.proofs.ListLaws.{length-each, get-each, each-set, recOf-above, rec-get, eight-set, map-set}
+use Rattle.rules.specs.View.{target, view, heapIn, setWord, exactOut, encodedRecord, encoded}
+use Rattle.rules.proofs.ListLaws.{length-each, get-each, each-set, recOf-above, rec-get, eight-set, eight-set-other, map-set}
 use Rattle.rules.proofs.ViewLaws.{get-target, rec-target, target-word, target-low, has-targets}
 use Rattle.rules.proofs.PassLaws.{get-past}
 use Rattle.rules.proofs.BufferLaws.{recOf-get}
+use Rattle.rules.proofs.SetLaws.{setWord-same, setWord-none}
 use Rattle.rules.proofs.EncodedRecord.{encoded-same, encoded-loose}
 
 -- ---- the record of an object
@@ -98,10 +99,10 @@ encoded-dissolved r c = go (eqb (cluster r) c)
     go false = encoded-same r
 
 -- a store leaves the number of objects
-pub store-size : (d : Bool) (n : ℕ) (recs slots : List ℕ) (i k t : ℕ) → storeBy d (view n recs slots) i k t .n ≡ n
-unfolding storeBy view
-store-size true n recs slots i k t = refl
-store-size false n recs slots i k t = refl
+pub store-size : (d : Bool) (H : Heap) (i k t : ℕ) → storeBy d H i k t .n ≡ H .n
+unfolding storeBy
+store-size true H i k t = refl
+store-size false H i k t = refl
 
 -- ---- a write that leaves the clusters as they are
 
@@ -177,17 +178,49 @@ module _ (n : ℕ) (recs slots : List ℕ) (i k t : ℕ) (p : 1 ≤ i) (q : i �
       at m a (no e) (no b) =
           get-past 1 n f recs m 0 (omega (arith, b)) ∙ sym (get-past 1 n g new m 0 (omega (arith, b)) ∙ getD-set-other recs (i - 1) m v 0 e)
 
+-- ---- the heap after a store
+
+module _ (n : ℕ) (recs slots : List ℕ) (i k : ℕ) (p : 1 ≤ i) (q : i ≤ n) (l : n ≤ length recs) where
+  -- a record with the old cluster leaves the clusters
+  pub cluster-stored : (v : ℕ) → cluster v ≡ cluster (recOf n recs i) → (x : ℕ) → cluster (recOf n (set recs (i - 1) v) x) ≡ cluster (recOf n recs x)
+  cluster-stored v e = recOf-set-alike n recs i v p q l cluster e
+
+  -- one with the old width, and a word in slot k: the pointers of the rule
+  pub kids-stored : k < width (recOf n recs i) → width (recOf n recs i) ≤ 8 → (v w : ℕ) → width v ≡ width (recOf n recs i) → (x : ℕ)
+      → view n (set recs (i - 1) v) (set slots (8 * (i - 1) + k) w) .kids x ≡ stored (view n recs slots) i k (target n w) x
+  unfolding view stored usedWords
+  kids-stored u b v w e x = rw (recOf-set-alike n recs i v p q l width e x) (go (ℕ-discrete x i))
+    where
+      changed : List ℕ
+      changed = set slots (8 * (i - 1) + k) w
+
+      kids : ℕ → List ℕ
+      kids y = map (target n) (take (width (recOf n recs y)) (eight slots y))
+
+      z : suc (i - 1) ≡ i
+      z = omega arith
+
+      go : Dec (x ≡ i) → map (target n) (take (width (recOf n recs x)) (eight changed x)) ≡ upd kids i (set (kids i) k (target n w)) x
+      go (yes h) =
+          rw (h, upd-same kids i (set (kids i) k (target n w)))
+          (ap (λ (m : List ℕ). map (target n) (take (width (recOf n recs i)) m)) (rw z at (eight-set slots (i - 1) k w (omega arith)))
+          ∙ ap (map (target n)) (take-set-lt (width (recOf n recs i)) (eight slots i) k w u)
+          ∙ map-set (target n) (take (width (recOf n recs i)) (eight slots i)) k w)
+      go (no h) =
+          rw (upd-other kids i x (set (kids i) k (target n w)) h)
+          (ap (λ (m : List ℕ). map (target n) (take (width (recOf n recs x)) m)) (eight-set-other slots (i - 1) k w x (omega arith) (λ y. h (y ∙ z))))
+
 -- ---- the out bit after a store
 
 module _ (n : ℕ) (recs slots : List ℕ) (i k : ℕ) (p : 1 ≤ i) (u : k < width (recOf n recs i)) (b : width (recOf n recs i) ≤ 8) where
   -- one word stored and written set: the out bit is that of the rule
   pub exact-stored : (w : ℕ) → i ≤ n → n ≤ length recs → exactOut (view n (set recs (i - 1) (withWritten true (recOf n recs i))) (set slots (8 * (i - 1) + k) w)) i
       ≡ outBit (stored (view n recs slots) i k (target n w)) (view n recs slots .sink) (view n recs slots .cluster) i
-  unfolding exactOut view outBit stored usedWords
+  unfolding exactOut view outBit
   exact-stored w q l =
-      ap (λ s. made s (cl new) (kids new changed i)) (fun-ext (recOf-set-alike n recs i v p q l isSink (flag-put-other 1 true r 2 (eqb-false 1 2 refl))))
-      ∙ ap (λ d. made (sink recs) d (kids new changed i)) (fun-ext (recOf-set-alike n recs i v p q l cluster (field-put-flag 1 true r 16 12 refl)))
-      ∙ ap (made (sink recs) (cl recs)) (words ∙ sym (upd-same (kids recs slots) i (set (kids recs slots i) k (target n w))))
+      ap (λ s. made s (cl new) (kids i)) (fun-ext (recOf-set-alike n recs i v p q l isSink (flag-put-other 1 true r 2 (eqb-false 1 2 refl))))
+      ∙ ap (λ d. made (sink recs) d (kids i)) (fun-ext (cluster-stored n recs slots i k p q l v (field-put-flag 1 true r 16 12 refl)))
+      ∙ ap (made (sink recs) (cl recs)) (kids-stored n recs slots i k p q l u b v w (field-put-flag 1 true r 8 4 refl) i)
     where
       r : ℕ
       r = recOf n recs i
@@ -198,29 +231,38 @@ module _ (n : ℕ) (recs slots : List ℕ) (i k : ℕ) (p : 1 ≤ i) (u : k < wi
       new : List ℕ
       new = set recs (i - 1) v
 
-      changed : List ℕ
-      changed = set slots (8 * (i - 1) + k) w
-
       sink : List ℕ → ℕ → Bool
       sink rs x = isSink (recOf n rs x)
 
       cl : List ℕ → ℕ → ℕ
       cl rs x = cluster (recOf n rs x)
 
-      kids : List ℕ → List ℕ → ℕ → List ℕ
-      kids rs ss x = map (target n) (take (width (recOf n rs x)) (eight ss x))
+      kids : ℕ → List ℕ
+      kids = view n new (set slots (8 * (i - 1) + k) w) .kids
 
       made : (ℕ → Bool) → (ℕ → ℕ) → List ℕ → Bool
       made s d ks = not (eqb (d i) 0) && ltb 0 (outCount s d (d i) ks)
 
-      words : kids new changed i ≡ set (kids recs slots i) k (target n w)
-      words =
-          let z : suc (i - 1) ≡ i = omega arith in
-          let e : width (recOf n new i) ≡ width r = recOf-set-alike n recs i v p q l width (field-put-flag 1 true r 8 4 refl) i in
-          let t : eight changed i ≡ set (eight slots i) k w = rw z at (eight-set slots (i - 1) k w (omega arith)) in
-          ap₂ (λ (x : ℕ) (y : List ℕ). map (target n) (take x y)) e t
-          ∙ ap (map (target n)) (take-set-lt (width r) (eight slots i) k w u)
-          ∙ map-set (target n) (take (width r) (eight slots i)) k w
+-- ---- the set after a store
+
+-- a dissolved cluster has no member left
+pub dissolved-empty : (H : Heap) (i k t : ℕ) → H .cluster i ≢ 0 → setWord (storeBy true H i k t) (H .cluster i) ≡ 0
+unfolding storeBy keep others
+dissolved-empty H i k t d = setWord-none (storeBy true H i k t) (H .cluster i) (λ x b. gone (H .cluster x) (ℕ-discrete (H .cluster x) (H .cluster i)))
+  where
+    gone : (y : ℕ) → Dec (y ≡ H .cluster i) → cond (not (eqb y (H .cluster i))) y 0 ≢ H .cluster i
+    gone y (yes e) = rw (eq-eqb y (H .cluster i) e) (λ z. d (sym z))
+    gone y (no e) = rw (ne-eqb y (H .cluster i) e) e
+
+-- a word in a slot, and a record with the old width and cluster: the sets of the rule
+pub stored-set : (n : ℕ) (recs slots list : List ℕ) (i k v w : ℕ) → 1 ≤ i → i ≤ n → n ≤ length recs → k < width (recOf n recs i) → width (recOf n recs i) ≤ 8
+    → width v ≡ width (recOf n recs i) → cluster v ≡ cluster (recOf n recs i) → (c : ℕ)
+    → setWord (heapIn n (set recs (i - 1) v) (set slots (8 * (i - 1) + k) w) list) c ≡ setWord (storeBy false (heapIn n recs slots list) i k (target n w)) c
+unfolding storeBy stored view
+stored-set n recs slots list i k v w p q l u b e f c =
+    setWord-same (heapIn n (set recs (i - 1) v) (set slots (8 * (i - 1) + k) w) list) (storeBy false (heapIn n recs slots list) i k (target n w)) c refl refl
+    (λ x o. let s = cluster-stored n recs slots i k p q l v f x in ((λ z. sym s ∙ z), (λ z. s ∙ z)))
+    (λ x o z. kids-stored n recs slots i k p q l u b v w e x)
 
 -- ---- whether a write dissolves a cluster, by the words of the buffers
 

@@ -3,21 +3,22 @@
 use Prim.Native.Nat.{ℕ, zero, suc, _+_, _*_, _≤_, _<_, _/_}
 use mathlib.Core.Path.{_≡_, refl, sym, ap, ap₂, _∙_, subst, fun-ext}
 use mathlib.Core.Bool.{Bool, true, false, not, cond, _&&_, _||_, false≢true, true≢false}
-use mathlib.Core.List.{List, [], map, List·Memᴰ, List·Memᴰ·not-nil}
+use mathlib.Core.List.{List, [], _∷_, map, List·Memᴰ, List·Memᴰ·not-nil, Memᴰ·map}
 use mathlib.Core.Logic.{_≢_, _⊎_, inl, inr, _↔_}
 use native.Mathlib.Decide.{ℕ-discrete, decLe}
 use native.Mathlib.Omega.{arith}
 use lib.Dec.{eqb}
-use lib.ListN.{length, take, drop}
-use borrow.Author.Tests.{ne-eqb, eq-eqb, eqb-true, eqb-false}
+use lib.ListN.{length, getD, take, drop}
+use lib.Seq.{length-take-le, getD-take}
+use borrow.Author.Tests.{ne-eqb, eq-eqb, eqb-true, eqb-false, not-true}
 use Rattle.records.specs.Record as R
 use Rattle.layout.specs.Field.{field, flag}
 use Rattle.records.specs.Record.{width, cluster, inUse, isWritten, isSink, loose}
-use Rattle.layout.specs.Limits.{slotsLen, mapLen}
+use Rattle.layout.specs.Limits.{slotsLen, sinkMax, mapLen}
 use Rattle.layout.specs.Word.{isNil, isImmediate}
 use Rattle.records.proofs.RecordLaws.{Legal, loose-cluster, loose-out, loose-flag, loose-legal, loose-width, legal-nonzero}
 use Rattle.graph.specs.Clusters.{keep, outBit}
-use Rattle.graph.specs.Heap.{Heap, starts}
+use Rattle.graph.specs.Heap.{Heap}
 use Rattle.graph.specs.Numbers.{Obj, has, count}
 use Rattle.graph.proofs.NumberLaws.{count-ext}
 use Rattle.bitmap.specs.Bits.{wordOf, holds, numbersIn}
@@ -27,30 +28,31 @@ use Rattle.graph.proofs.Lifecycle as Lifecycle
 use Rattle.graph.proofs.OutLaws.{outBit-none}
 use Rattle.graph.proofs.Paths.{keep-zero, keep-out, keep-in}
 use Rattle.graph.proofs.MemberLaws.{word-pointer}
-use Rattle.graph.proofs.ReachLaws.{root-start, sink-start}
 use Rattle.graph.proofs.State.{Good}
 use Rattle.graph.proofs.TraceCorrect.{same-test}
 use Rattle.rules.specs.Buffers.{recOf, eachFrom, eachRecord, eachSlot, eight, usedWords, otherWords, allOf, numbers}
-use Rattle.rules.specs.View.{view, target, exactOut}
-use Rattle.rules.specs.WellFormed.{names, wellFormed}
+use Rattle.rules.specs.View.{view, heapIn, target, exactOut, exactSets}
+use Rattle.rules.specs.WellFormed.{names, once, wellFormed}
 use Rattle.rules.specs.Plain.{vacant, object, isFree, cellAt, keptNumbers, plainSwept, plainFreed, plainMap}
-use Rattle.rules.specs.Sweep.{freed, keptRecord, sweptRecord, Swept, sweep}
+use Rattle.rules.specs.Sweep.{freed, keptRecord, sweptRecord, sweptRecords, sweptSlots, sweptSinks, Swept, sweep}
 use Rattle.rules.specs.Steps.{State}
 use Rattle.rules.specs.Demands.{Reachable, heapOf, wordsOf, recordIn, rootsOf}
 use Rattle.rules.specs.PlainOf.{plainOf, cellOf, cellsOf}
-use Rattle.rules.proofs.ListLaws.{recOf-above, allOf-all, map-id, length-each, recOf-each, eight-each, same-numbers, each-numbers, records-alike}
-use Rattle.rules.proofs.BoolLaws.{and-false, or-true, is-false, or-right, cond-same}
+use Rattle.rules.proofs.ListLaws.{recOf-above, allOf-all, mem-get, map-id, map-of, length-each, get-each, take-each, each-map, recOf-each, eight-each, same-numbers, each-numbers, records-alike}
+use Rattle.rules.proofs.BoolLaws.{and-false, and-split, or-true, is-false, or-right, cond-same}
 use Rattle.rules.proofs.Invariant.{Inv, SlotWord, RootWord, formed-by}
 use Rattle.rules.proofs.Abstraction.{cells-size, at-free}
-use Rattle.rules.proofs.WellFormedLaws.{Names, names-used, in-or-out}
+use Rattle.rules.proofs.WellFormedLaws.{Names, names-used, in-or-out, facts-list}
+use Rattle.rules.proofs.ListedLaws.{Lists, has-not, once-more, once-rest, once-other}
+use Rattle.rules.proofs.SetLaws.{length-exact, exact-at, exact-ok}
 use Rattle.rules.proofs.SaneLaws.{sane-exact}
 use Rattle.rules.proofs.MapLaws.{take-by, map-holds, map-ones}
 use Rattle.rules.proofs.CreateLaws.{nil-map}
-use Rattle.rules.proofs.TraceLaws.{Fit, Facts, rules, obj-of, head-own, head-obj, word-target, plain-kept, member-led}
+use Rattle.rules.proofs.TraceLaws.{Fit, Facts, rules, places, obj-of, head-own, head-obj, word-target, plain-kept, member-led}
 
 -- ---- two walks that tell the same of the objects
 
-module _ (n : ℕ) (recs slots map₀ : List ℕ) (kept heads kept′ heads′ : ℕ → Bool) (kept-same : (x : ℕ) → Obj n x → kept x ≡ kept′ x)
+module _ (n : ℕ) (recs slots list sets map₀ : List ℕ) (kept heads kept′ heads′ : ℕ → Bool) (kept-same : (x : ℕ) → Obj n x → kept x ≡ kept′ x)
     (heads-same : (x : ℕ) → Obj n x → cluster (recOf n recs x) ≢ 0 → heads (cluster (recOf n recs x)) ≡ heads′ (cluster (recOf n recs x))) where
   freed-alike : freed n recs kept ≡ freed n recs kept′
   unfolding freed flag field
@@ -71,30 +73,69 @@ module _ (n : ℕ) (recs slots map₀ : List ℕ) (kept heads kept′ heads′ :
       go (yes e) = rw (eq-eqb (cluster r) 0 e) refl
       go (no e) = ap (λ (b : Bool). cond (eqb (cluster r) 0 || b) r (loose r)) (heads-same x o e)
 
+  records-same : sweptRecords n recs kept heads ≡ sweptRecords n recs kept′ heads′
+  unfolding sweptRecords sweptRecord
+  records-same =
+      records-alike n (λ x r. cond (freed n recs kept x) 0 (keptRecord heads r)) (λ x r. cond (freed n recs kept′ x) 0 (keptRecord heads′ r)) recs
+      (λ x p q. λ j. cond (freed-alike j x) 0 (stays-alike x (p, q) j))
+
+  slots-same : sweptSlots n recs kept slots ≡ sweptSlots n recs kept′ slots
+  unfolding sweptSlots
+  slots-same = ap (λ (t : ℕ → Bool). eachSlot n (λ x w. cond (t x) 0 w) slots) freed-alike
+
+  sinks-same : sweptSinks n recs kept list ≡ sweptSinks n recs kept′ list
+  unfolding sweptSinks
+  sinks-same = ap (λ (t : ℕ → Bool). eachFrom 0 sinkMax (λ k y. cond (t y) 0 y) list) freed-alike
+
   -- are swept alike
-  pub sweep-alike : sweep n recs slots map₀ kept heads ≡ sweep n recs slots map₀ kept′ heads′
-  unfolding sweep sweptRecord
+  pub sweep-alike : sweep n recs slots list sets map₀ kept heads ≡ sweep n recs slots list sets map₀ kept′ heads′
+  unfolding sweep
   sweep-alike = λ i. record {
     freed = count n (freed-alike i);
     kept = count-ext n kept kept′ kept-same i;
-    records = records-alike n (λ x r. cond (freed n recs kept x) 0 (keptRecord heads r)) (λ x r. cond (freed n recs kept′ x) 0 (keptRecord heads′ r)) recs
-        (λ x p q. λ j. cond (freed-alike j x) 0 (stays-alike x (p, q) j)) i;
-    slots = eachSlot n (λ x w. cond (freed-alike i x) 0 w) slots;
+    records = records-same i;
+    slots = slots-same i;
+    sinks = sinks-same i;
+    sets = exactSets (heapIn n (records-same i) (slots-same i) (sinks-same i)) sets;
     map = eachFrom 0 (mapLen n) (λ j w. wordOf (freed-alike i) j) map₀;
   }
+
+-- ---- a list with some places cleared
+
+pub once-cleared : (t : ℕ → Bool) (l : List ℕ) → once l ≡ true → once (map (λ y. cond (t y) 0 y) l) ≡ true
+once-cleared t [] e = e
+once-cleared t (y ∷ l) e = go (t y) (once-cleared t l (once-rest y l e))
+  where
+    apart : y ≢ 0 → (w : ℕ) → List·Memᴰ w l → (b : Bool) → y ≡ cond b 0 w → ⊥
+    apart nz w m true q = nz q
+    apart nz w m false q = has-not y l (once-other y l e nz) (rw q m)
+
+    go : (b : Bool) → once (map (λ y. cond (t y) 0 y) l) ≡ true → once (cond b 0 y ∷ map (λ y. cond (t y) 0 y) l) ≡ true
+    go true r = once-more 0 _ (λ nz m. nz refl) r
+    go false r = once-more y _ (λ nz m. let o = map-of (λ y. cond (t y) 0 y) l y m in apart nz (o .0) (o .1) (t (o .0)) (o .2)) r
 
 -- ---- in every well-formed heap
 
 -- what is left
 module _ (s : State) (kept heads : ℕ → Bool) where
   abbrev pub recs′ : List ℕ
-  recs′ = eachRecord (s .control .n) (sweptRecord (s .control .n) (s .records) kept heads) (s .records)
+  recs′ = sweptRecords (s .control .n) (s .records) kept heads
 
   abbrev pub slots′ : List ℕ
-  slots′ = eachSlot (s .control .n) (λ x w. cond (freed (s .control .n) (s .records) kept x) 0 w) (s .slots)
+  slots′ = sweptSlots (s .control .n) (s .records) kept (s .slots)
+
+  abbrev pub sinks′ : List ℕ
+  sinks′ = sweptSinks (s .control .n) (s .records) kept (s .sinks)
 
   abbrev pub state′ : State
-  state′ = record { control = s .control; records = recs′; slots = slots′; roots = s .roots }
+  state′ = record {
+    control = s .control;
+    records = recs′;
+    slots = slots′;
+    roots = s .roots;
+    sinks = sinks′;
+    sets = exactSets (heapIn (s .control .n) recs′ slots′ sinks′) (s .sets);
+  }
 
 module _ (s : State) (C : Fit s) (kept heads : ℕ → Bool) (K : ℕ → Type 0) (F : Facts s C kept heads K) where
   abbrev H : Heap
@@ -112,6 +153,9 @@ module _ (s : State) (C : Fit s) (kept heads : ℕ → Bool) (K : ℕ → Type 0
   abbrev slots₁ : List ℕ
   slots₁ = slots′ s kept heads
 
+  abbrev sinks₁ : List ℕ
+  sinks₁ = sinks′ s kept heads
+
   abbrev now : ℕ → ℕ
   now x = recOf (s .control .n) recs₁ x
 
@@ -126,7 +170,7 @@ module _ (s : State) (C : Fit s) (kept heads : ℕ → Bool) (K : ℕ → Type 0
     left : Legal (s .control .n) (was x) → kept x ≡ true → gone? x ≡ false → now x ≡ cond (stays x) (was x) (loose (was x)) → Case x
 
   at-rec : (x : ℕ) → Obj (s .control .n) x → now x ≡ cond (gone? x) 0 (cond (stays x) (was x) (loose (was x)))
-  unfolding sweptRecord keptRecord
+  unfolding sweptRecords sweptRecord keptRecord
   at-rec x b = recOf-each (s .control .n) _ (s .records) x (b .0) (b .1) (C .recs-long)
 
   dead-legal : (x : ℕ) → Legal (s .control .n) (was x) → gone? x ≡ not (kept x)
@@ -181,6 +225,7 @@ module _ (s : State) (C : Fit s) (kept heads : ℕ → Bool) (K : ℕ → Type 0
   -- ---- the words
 
   eight-at : (x : ℕ) → Obj (s .control .n) x → eight slots₁ x ≡ map (λ w. cond (gone? x) 0 w) (eight (s .slots) x)
+  unfolding sweptSlots
   eight-at x b = eight-each (s .control .n) _ (s .slots) x (b .0) (b .1)
 
   eight-kept : (x : ℕ) → Obj (s .control .n) x → gone? x ≡ false → eight slots₁ x ≡ eight (s .slots) x
@@ -262,7 +307,7 @@ module _ (s : State) (C : Fit s) (kept heads : ℕ → Bool) (K : ℕ → Type 0
           let p : List·Memᴰ w (wordsOf s x) = rw (used-kept x L d z) at m in
           word (F .kept-is x (obj-of s C x (legal-nonzero (s .control .n) (was x) L)) .0 k) p (rules s C .named x w p)
 
-  begun : (x : ℕ) → x ≢ 0 → List·Memᴰ x (starts H (rootsOf s)) → K x
+  begun : (x : ℕ) → x ≢ 0 → List·Memᴰ x (rootsOf s) → K x
   begun x nz m = F .begins x (word-pointer _ x nz m)
 
   rooted′ : (w : ℕ) → List·Memᴰ w (rootsOf s) → RootWord (s .control .n) recs₁ w
@@ -270,7 +315,7 @@ module _ (s : State) (C : Fit s) (kept heads : ℕ → Bool) (K : ℕ → Type 0
     where
       go : (w ≡ 0) ⊎ Names (s .control .n) (s .records) w → RootWord (s .control .n) recs₁ w
       go (inl e) = unfold isNil in (rw (eq-eqb w 0 e) refl)
-      go (inr N) = or-right (isNil w) _ (names′ w (begun w (λ z. absurd (omega (arith, N .low, z))) (root-start H (rootsOf s) w m)))
+      go (inr N) = or-right (isNil w) _ (names′ w (begun w (λ z. absurd (omega (arith, N .low, z))) m))
 
   -- ---- the clusters
 
@@ -281,21 +326,14 @@ module _ (s : State) (C : Fit s) (kept heads : ℕ → Bool) (K : ℕ → Type 0
   abbrev after : Heap
   after = Lifecycle.collected H heads gone?
 
-  sunk : (x : ℕ) → Obj (s .control .n) x → H .sink x ≡ true → K x
-  unfolding view
-  sunk x b e = begun x (λ z. absurd (omega (arith, b .0, z))) (sink-start H (rootsOf s) x b e)
-
-  sink-at : (x : ℕ) → flag 2 (now x) ≡ H .sink x
+  sink-at : (x : ℕ) → flag 2 (now x) ≡ (not (gone? x) && H .sink x)
   unfolding view flag field
   sink-at x = go (case x)
     where
-      go : Case x → flag 2 (now x) ≡ H .sink x
-      go (blank e d z) = rw (z, e) refl
-      go (gone L k d z) = ap (flag 2) z ∙ sym (is-false (H .sink x) unsunk)
-        where
-          unsunk : H .sink x ≡ true → ⊥
-          unsunk e = true≢false (sym (in-kept x (sunk x (obj-of s C x (legal-nonzero (s .control .n) (was x) L)) e) .0) ∙ k)
-      go (left L k d z) = kept-field (flag 2) (λ q. loose-flag q 2 refl (eqb-false 2 3 refl)) x z
+      go : Case x → flag 2 (now x) ≡ (not (gone? x) && H .sink x)
+      go (blank e d z) = rw (z, d, e) refl
+      go (gone L k d z) = rw (z, d) refl
+      go (left L k d z) = rw d (kept-field (flag 2) (λ q. loose-flag q 2 refl (eqb-false 2 3 refl)) x z)
 
   written-at : (x : ℕ) → flag 1 (now x) ≡ (not (gone? x) && H .written x)
   unfolding view flag field
@@ -350,12 +388,20 @@ module _ (s : State) (C : Fit s) (kept heads : ℕ → Bool) (K : ℕ → Type 0
       go (gone L k d z) = ap (map (target (s .control .n))) (used-none x z) ∙ rw d refl
       go (left L k d z) = ap (map (target (s .control .n))) (used-kept x L d z) ∙ rw d refl
 
-  view′ : view (s .control .n) recs₁ slots₁ ≡ after
+  -- the places of freed sinks are empty
+  listed-at : take sinkMax sinks₁ ≡ map (λ y. cond (gone? y) 0 y) (take sinkMax (s .sinks))
+  unfolding sweptSinks
+  listed-at =
+      take-each 0 sinkMax (λ k y. cond (gone? y) 0 y) (s .sinks) sinkMax (omega arith)
+      ∙ each-map 0 sinkMax (λ y. cond (gone? y) 0 y) (take sinkMax (s .sinks)) (let a = length-take-le sinkMax (s .sinks) (C .sinks-long) in omega arith)
+
+  view′ : heapIn (s .control .n) recs₁ slots₁ sinks₁ ≡ after
   unfolding view Lifecycle.collected flag field
   view′ = λ i. record {
     n = s .control .n;
     kids = fun-ext kids-at i;
     sink = fun-ext sink-at i;
+    listed = listed-at i;
     written = fun-ext written-at i;
     cluster = fun-ext cluster-at i;
     out = fun-ext out-at i;
@@ -377,9 +423,9 @@ module _ (s : State) (C : Fit s) (kept heads : ℕ → Bool) (K : ℕ → Type 0
       (collect-heads H heads gone? (head-own s C) (λ x nz h. live (H .cluster x) (λ u. sym (F .heads-is x nz) ∙ h)))
 
   -- a kept object points at no freed one
-  points-live : (x y : ℕ) → gone? x ≡ false → List·Memᴰ y (H .kids x) → gone? y ≡ false
+  points-live : (x y : ℕ) → gone? x ≡ false → List·Memᴰ y (H .kids x) → y ≢ 0 → gone? y ≡ false
   unfolding view
-  points-live x y e m = live y (λ u. go (case x) (λ z. absurd (omega (arith, obj-of s C y u .0, z))))
+  points-live x y e m nz = live y (λ u. go (case x) nz)
     where
       go : Case x → y ≢ 0 → kept y ≡ true
       go (blank q d z) nz = absurd (List·Memᴰ·not-nil (rw (was-none x q) at m))
@@ -391,12 +437,48 @@ module _ (s : State) (C : Fit s) (kept heads : ℕ → Bool) (K : ℕ → Type 0
       ≡ exactOut (view (s .control .n) recs₁ slots₁) x
   unfolding exactOut
   exact′ x = subst (λ (E : Heap). E .out x ≡ outBit (E .kids) (E .sink) (E .cluster) x) (sym view′)
-      (collect-exact H heads gone? (sane-exact (rules s C))
-      (λ y z e m. unfold Lifecycle.collected in (rw (points-live y z e m) refl)) x)
+      (collect-exact H heads gone? (sane-exact (rules s C)) points-live x)
 
-  pub swept-formed : wellFormed (s .control) recs₁ slots₁ (s .roots) ≡ true
+  -- what is left of the list has the sinks that are left, each once
+  sinks-in : (y : ℕ) → List·Memᴰ y (take sinkMax sinks₁) → y ≢ 0 → List·Memᴰ y (take sinkMax (s .sinks)) × (gone? y ≡ false)
+  sinks-in y m nz =
+      let t = map-of (λ y. cond (gone? y) 0 y) (take sinkMax (s .sinks)) y (subst (λ (l : List ℕ). List·Memᴰ y l) listed-at m) in
+      go (t .0) (t .1) (gone? (t .0)) refl (t .2)
+    where
+      go : (w : ℕ) → List·Memᴰ w (take sinkMax (s .sinks)) → (b : Bool) → gone? w ≡ b → y ≡ cond b 0 w
+          → List·Memᴰ y (take sinkMax (s .sinks)) × (gone? y ≡ false)
+      go w i true d e = absurd (nz e)
+      go w i false d e = (rw e i, rw e d)
+
+  sunk-at : (x : ℕ) → isSink (now x) ≡ true → (isSink (was x) ≡ true) × (gone? x ≡ false)
+  unfolding view
+  sunk-at x e =
+      let t = and-split (not (gone? x)) (H .sink x) (sym (sink-at x) ∙ e) in
+      (t .1, not-true (gone? x) (t .0))
+
+  places′ : Lists (s .control .n) (λ x. isSink (now x)) (take sinkMax sinks₁)
+  unfolding view
+  places′ = record {
+    from = λ y m nz.
+        let t = sinks-in y m nz in
+        let r = places s C .from y (t .0) nz in
+        (r .0, sink-at y ∙ rw (t .1) (r .1));
+    all = λ x b e.
+        let t = sunk-at x e in
+        subst (λ (l : List ℕ). List·Memᴰ x l) (sym listed-at)
+        (subst (λ (z : ℕ). List·Memᴰ z (map (λ y. cond (gone? y) 0 y) (take sinkMax (s .sinks)))) (rw (t .1) refl)
+        (Memᴰ·map (λ y. cond (gone? y) 0 y) (places s C .all x b (t .0))));
+    single = ap once listed-at ∙ once-cleared gone? (take sinkMax (s .sinks)) (places s C .single);
+  }
+
+  pub swept-formed : wellFormed (s .control) recs₁ slots₁ (s .roots) sinks₁ (state′ s kept heads .sets) ≡ true
   unfolding wellFormed
-  swept-formed = formed-by _ _ _ _ _ legal′ empty′ named′ heads′ exact′ rooted′
+  swept-formed =
+      rw (
+        formed-by (s .control .n) (s .control .r) recs₁ slots₁ (s .roots) legal′ empty′ named′ heads′ exact′ rooted′,
+        facts-list (s .control .n) recs₁ slots₁ sinks₁ (s .sets) places′,
+      )
+      (exact-ok (s .control .n) recs₁ slots₁ sinks₁ (s .sets) (C .sets-long))
 
   -- ---- freed exactly if not to be kept
 
@@ -433,6 +515,31 @@ module _ (s : State) (C : Fit s) (kept heads : ℕ → Bool) (K : ℕ → Type 0
       go (left L k d z) =
           (λ f. absurd (true≢false (sym f ∙ d)), λ f. absurd (false≢true (sym (kept-now x (f .0) ∙ ap inUse (f .2) ∙ (unfold flag field in refl)) ∙ k)))
 
+  -- the place of a freed sink is empty, and no other place changes
+  pub swept-places : (k : ℕ) → k < sinkMax → let y = getD (s .sinks) k 0 in getD sinks₁ k 0 ≡ cond (eqb (now y) 0) 0 y
+  unfolding sweptSinks
+  swept-places k p = get-each 0 sinkMax (λ k y. cond (gone? y) 0 y) (s .sinks) k 0 p (let a = C .sinks-long in omega arith) ∙ go (case y)
+    where
+      y : ℕ
+      y = getD (s .sinks) k 0
+
+      -- an empty place, since a sink is in use
+      vacant-place : was y ≡ 0 → Dec (y ≡ 0) → y ≡ 0
+      vacant-place e (yes z) = z
+      vacant-place e (no z) = absurd (false≢true (sym (ap isSink e ∙ (unfold flag field in refl)) ∙ places s C .from y inside z .1))
+        where
+          inside : List·Memᴰ y (take sinkMax (s .sinks))
+          inside =
+              subst (λ (z : ℕ). List·Memᴰ z (take sinkMax (s .sinks))) (getD-take sinkMax (s .sinks) k 0 p)
+              (mem-get (take sinkMax (s .sinks)) k (let a = C .sinks-long in let b = length-take-le sinkMax (s .sinks) a in omega arith))
+
+      go : Case y → cond (gone? y) 0 y ≡ cond (eqb (now y) 0) 0 y
+      go (blank e d z) = rw (d, z) (vacant-place e (ℕ-discrete y 0))
+      go (gone L k d z) = rw (d, z) refl
+      go (left L k d z) =
+          let u = still-used y (F .kept-is y (obj-of s C y (legal-nonzero (s .control .n) (was y) L)) .0 k) in
+          rw (d, ne-eqb (now y) 0 (λ e. false≢true (unfold flag field in (sym (ap (λ (r : ℕ). flag 0 r) e)) ∙ u))) refl
+
   -- ---- what is counted, and the map
 
   freed-obj : (x : ℕ) → (Obj (s .control .n) x → ⊥) → gone? x ≡ false
@@ -446,7 +553,7 @@ module _ (s : State) (C : Fit s) (kept heads : ℕ → Bool) (K : ℕ → Type 0
 
   module _ (map₀ : List ℕ) where
     abbrev swept : Swept
-    swept = sweep (s .control .n) (s .records) (s .slots) map₀ kept heads
+    swept = sweep (s .control .n) (s .records) (s .slots) (s .sinks) (s .sets) map₀ kept heads
 
     pub swept-kept : swept .kept ≡ count (s .control .n) (λ x. inUse (now x))
     unfolding sweep
@@ -551,16 +658,21 @@ module _ (s : State) (C : Fit s) (kept heads : ℕ → Bool) (K : ℕ → Type 0
     pub swept-inv : Inv (state′ s kept heads)
     swept-inv = record {
       sound = I .sound;
-      recs-long = unfold eachRecord in
+      recs-long = unfold sweptRecords eachRecord in
           (rw (length-each 1 (s .control .n) (sweptRecord (s .control .n) (s .records) kept heads) (s .records)) (I .recs-long));
-      slots-long = unfold eachSlot slotsLen in
+      slots-long = unfold sweptSlots eachSlot slotsLen in
           (rw (length-each 0 (8 * s .control .n) (λ j w. cond (gone? (j / 8 + 1)) 0 w) (s .slots)) (I .slots-long));
       roots-long = I .roots-long;
+      sinks-long = unfold sweptSinks in (rw (length-each 0 sinkMax (λ k y. cond (gone? y) 0 y) (s .sinks)) (I .sinks-long));
+      sets-long = rw (length-exact (heapIn (s .control .n) recs₁ slots₁ sinks₁) (s .sets)) (I .sets-long);
       legal = legal′;
       empty = empty′;
       named = named′;
       rooted = rooted′;
-      good = subst (λ (E : Heap). Good E (s .control .«write_loss»)) (sym view′) (collect-good H (s .control .«write_loss») heads gone? (I .good) dead-loose);
+      single = places′ .single;
+      sets-exact = λ h p q. unfold view in (exact-at (heapIn (s .control .n) recs₁ slots₁ sinks₁) (s .sets) h (p, q) (I .sets-long));
+      good = subst (λ (E : Heap). Good E (s .control .«write_loss»)) (sym view′)
+          (collect-good H (s .control .«write_loss») heads gone? (I .good) dead-loose points-live);
     }
 
     -- ---- the plain heap

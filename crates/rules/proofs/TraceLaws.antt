@@ -3,35 +3,36 @@
 use Prim.Native.Nat.{ℕ, _*_, _≤_}
 use mathlib.Core.Path.{_≡_, refl, sym, ap, _∙_, fun-ext}
 use mathlib.Core.Bool.{Bool, true, false, cond, false≢true}
-use mathlib.Core.List.{List, [], _∷_, _++_, List·Memᴰ, List·Memᴰ·append-cases, List·Memᴰ·not-nil, Memᴰ·map}
+use mathlib.Core.List.{List, [], _∷_, List·Memᴰ, List·Memᴰ·append-cases, List·Memᴰ·not-nil, Memᴰ·map}
 use mathlib.Core.Logic.{_≢_, _⊎_, inl, inr, _↔_}
 use native.Mathlib.Omega.{arith}
 use lib.Dec.{leb, eqb}
-use lib.ListN.{length}
+use lib.ListN.{length, take}
 use borrow.Author.Tests.{le-leb}
-use Rattle.layout.specs.Limits.{objectMax, widthMax}
+use Rattle.layout.specs.Limits.{objectMax, sinkMax, widthMax}
 use Rattle.layout.specs.Field.{field, flag}
 use Rattle.records.specs.Record.{inUse, isSink}
 use Rattle.graph.specs.Numbers.{Obj, has, gather, count}
-use Rattle.graph.specs.Heap.{Heap, pointers, targets, withMembers, starts, Reach, start, along}
+use Rattle.graph.specs.Heap.{Heap, pointers, targets, withMembers, Reach, start, along}
 use Rattle.graph.specs.Rounds.{rounds}
 use Rattle.graph.proofs.NumberLaws.{in-left}
 use Rattle.graph.proofs.RoundLaws.{rounds-reach}
 use Rattle.graph.proofs.MemberLaws.{word-pointer, pointer-word, pointer-nonzero, member-of, reach-member}
-use Rattle.graph.proofs.ReachLaws.{reach-all, reach-mono, starts-all}
+use Rattle.graph.proofs.ReachLaws.{reach-all, reach-mono}
 use Rattle.graph.proofs.TraceCorrect.{Sound, sound-starts, traced-correct, connected-same, plain-correct, same-test}
 use Rattle.rules.specs.Buffers.{usedWords}
 use Rattle.rules.specs.View.{view, target}
 use Rattle.rules.specs.WellFormed.{wellFormed}
 use Rattle.rules.specs.Collect.{Kind, plainly, byClusters, trace}
-use Rattle.rules.specs.Plain.{plainWords, plainStarts, keptNumbers}
+use Rattle.rules.specs.Plain.{plainWords, keptNumbers}
 use Rattle.rules.specs.Steps.{State}
-use Rattle.rules.specs.Demands.{Reachable, KeptBy, heapOf, wordsOf, recordIn, rootsOf, startsOf}
+use Rattle.rules.specs.Demands.{Reachable, KeptBy, heapOf, wordsOf, recordIn, rootsOf}
 use Rattle.rules.specs.PlainOf.{plainOf}
 use Rattle.rules.proofs.Invariant.{Inv, inv-formed}
-use Rattle.rules.proofs.Abstraction.{cells-size, at-sink, at-words}
-use Rattle.rules.proofs.WellFormedLaws.{Names, Sane, formed-of, sane}
-use Rattle.rules.proofs.SaneLaws.{sane-exact, sane-targets, sane-roots}
+use Rattle.rules.proofs.Abstraction.{cells-size, at-words}
+use Rattle.rules.proofs.WellFormedLaws.{Names, Sane, formed-of, sinks-of, sane}
+use Rattle.rules.proofs.SaneLaws.{sane-exact, sane-targets, sane-roots, sane-listed, sane-every}
+use Rattle.rules.proofs.ListedLaws.{Lists}
 use Rattle.rules.proofs.ListLaws.{map-of, recOf-range}
 use Rattle.rules.proofs.ViewLaws.{view-closed, view-used}
 
@@ -41,21 +42,34 @@ pub record Fit (s : State) : Type 0 where
   pub recs-long : s .control .n ≤ length (s .records)
   pub slots-long : widthMax * s .control .n ≤ length (s .slots)
   pub roots-long : s .control .r ≤ length (s .roots)
-  pub formed : wellFormed (s .control) (s .records) (s .slots) (s .roots) ≡ true
+  pub sinks-long : sinkMax ≤ length (s .sinks)
+  pub sets-long : s .control .n ≤ length (s .sets)
+  pub formed : wellFormed (s .control) (s .records) (s .slots) (s .roots) (s .sinks) (s .sets) ≡ true
 
 pub inv-fit : (s : State) → Inv s → Fit s
 inv-fit s I =
-    record { size = I .sound .sizes .most; recs-long = I .recs-long; slots-long = I .slots-long; roots-long = I .roots-long; formed = inv-formed s I }
+    record {
+      size = I .sound .sizes .most;
+      recs-long = I .recs-long;
+      slots-long = I .slots-long;
+      roots-long = I .roots-long;
+      sinks-long = I .sinks-long;
+      sets-long = I .sets-long;
+      formed = inv-formed s I;
+    }
 
 module _ (s : State) (C : Fit s) where
   abbrev pub H : Heap
   H = heapOf s
 
   abbrev pub from : List ℕ
-  from = starts H (rootsOf s)
+  from = rootsOf s
 
   pub rules : Sane (s .control .n) (s .control .r) (s .records) (s .slots) (s .roots)
-  rules = sane _ _ _ _ _ (formed-of _ _ _ _ (C .formed))
+  rules = sane _ _ _ _ _ (formed-of (s .control) (s .records) (s .slots) (s .roots) (s .sinks) (s .sets) (C .formed))
+
+  pub places : Lists (s .control .n) (λ x. isSink (recordIn s x)) (take sinkMax (s .sinks))
+  places = sinks-of (s .control) (s .records) (s .slots) (s .roots) (s .sinks) (s .sets) (C .formed) .listed
 
   abbrev Used : ℕ → Type 0
   Used y = recordIn s y ≢ 0
@@ -76,10 +90,7 @@ module _ (s : State) (C : Fit s) where
   member-used = view-used (s .control .n) (s .records) (s .slots)
 
   starts-used : (p : ℕ) → List·Memᴰ p (pointers from) → Used p
-  unfolding view flag field
-  starts-used p m =
-      starts-all (λ q. q ≢ 0 → Used q) H (rootsOf s) (λ q i. root q (rules .rooted q i))
-      (λ q b e nz z. false≢true (sym (ap (λ (r : ℕ). isSink r) z) ∙ e)) p (pointer-word from p m) (pointer-nonzero from p m)
+  starts-used p m = root p (rules .rooted p (pointer-word from p m)) (pointer-nonzero from p m)
     where
       root : (q : ℕ) → (q ≡ 0) ⊎ Names (s .control .n) (s .records) q → q ≢ 0 → Used q
       root q (inl e) nz = absurd (nz e)
@@ -101,7 +112,9 @@ module _ (s : State) (C : Fit s) where
 
   pub sound : Sound H from
   unfolding view
-  sound = sound-starts H (rootsOf s) head-own (view-closed (s .control .n) (s .records) (s .slots)) (λ x b. sane-exact rules x) (sane-roots rules)
+  sound =
+      sound-starts H (rootsOf s) head-own (view-closed (s .control .n) (s .records) (s .slots)) (λ x b. sane-exact rules x) (sane-roots rules)
+      (sane-listed rules (s .sinks) places) (sane-every rules (s .sinks) places)
 
   -- ---- what a walk tells
 
@@ -161,11 +174,10 @@ module _ (s : State) (C : Fit s) where
   words x = wordsOf s x
 
   numbers-kept : keptNumbers (plainOf s) ≡ rounds (s .control .n) words (s .control .n) from
-  unfolding keptNumbers plainStarts plainWords starts view
+  unfolding keptNumbers plainWords
   numbers-kept = λ i.
       rounds (cells-size (s .control .n) (s .records) (s .slots) i) (fun-ext (at-words (s .control .n) (s .records) (s .slots)) i)
-      (cells-size (s .control .n) (s .records) (s .slots) i)
-      (rootsOf s ++ gather (cells-size (s .control .n) (s .records) (s .slots) i) (fun-ext (at-sink (s .control .n) (s .records) (s .slots)) i) (λ x. x ∷ []))
+      (cells-size (s .control .n) (s .records) (s .slots) i) (rootsOf s)
 
   -- only an object in use has words
   has-words : (y z : ℕ) → List·Memᴰ z (words y) → Obj (s .control .n) y
@@ -211,7 +223,7 @@ module _ (s : State) (I : Inv s) where
   -- both kinds are to keep what pointers reach
   pub kept-led : (kind : Kind) (x : ℕ) → KeptBy kind s x ↔ Reachable s x
   kept-led plainly x = (λ r. r, λ r. r)
-  kept-led byClusters x = connected-same (heapOf s) (startsOf s) (I .good .zero-none) (I .good .conn) x
+  kept-led byClusters x = connected-same (heapOf s) (rootsOf s) (I .good .zero-none) (I .good .conn) x
 
   pub member-led : (x : ℕ) → heapOf s .cluster x ≢ 0 → Reachable s (heapOf s .cluster x) → Reachable s x
-  member-led x nz r = reach-member (heapOf s) (heapOf s .cluster) (pointers (startsOf s)) (I .good .conn) (I .good .zero-none) x nz r
+  member-led x nz r = reach-member (heapOf s) (heapOf s .cluster) (pointers (rootsOf s)) (I .good .conn) (I .good .zero-none) x nz r

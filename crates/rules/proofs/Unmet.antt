@@ -20,6 +20,7 @@ use Rattle.rules.specs.Steps.{State}
 use Rattle.rules.specs.Demands.{refusalOf}
 use Rattle.rules.proofs.Invariant.{Inv, inv-control, inv-sane, inv-formed}
 use Rattle.rules.proofs.WriteLaws.{no-25}
+use Rattle.rules.proofs.DeclareLaws.{declare-answered}
 use Rattle.rules.proofs.Refused.{meets, unmet-first, answered}
 use Rattle.rules.proofs.LoadTests.{Never}
 use Rattle.rules.proofs.LoadLaws.{load-unmet}
@@ -44,7 +45,7 @@ module _ (s : State) (I : Inv s) where
   unfolding meets Show.showTests
   show-unmet i = (rw (inv-control s I) refl, rw (inv-sane s I i) refl, refl)
 
-  write-unmet : (i k w : ℕ) → Unmet (Write.writeTests (s .control) i k w (s .records) (s .slots))
+  write-unmet : (i k w : ℕ) → Unmet (Write.writeTests (s .control) i k w (s .records) (s .slots) (s .sinks) (s .sets))
   unfolding meets Write.writeTests
   write-unmet i k w = (rw (inv-control s I) refl, rw (inv-sane s I i) refl, rw (no-25 s I i k w) refl)
 
@@ -52,20 +53,20 @@ module _ (s : State) (I : Inv s) where
   unfolding meets SetRoot.setRootTests
   root-unmet j w = (rw (inv-control s I) refl, refl, refl)
 
-  declare-unmet : (i : ℕ) → Unmet (DeclareSink.declareTests (s .control) i (s .records) (s .slots) (s .roots))
+  declare-unmet : (i : ℕ) → Unmet (DeclareSink.declareTests (s .control) i (s .records) (s .slots) (s .roots) (s .sinks) (s .sets))
   unfolding meets DeclareSink.declareTests
   declare-unmet i = (rw (inv-control s I) refl, rw (inv-formed s I) refl, refl)
 
-  analyse-unmet : (work : List ℕ) → Unmet (Analyse.analyseTests (s .control) (s .records) (s .slots) (s .roots) work)
+  analyse-unmet : (work : List ℕ) → Unmet (Analyse.analyseTests (s .control) (s .records) (s .slots) (s .roots) (s .sinks) (s .sets) work)
   unfolding meets Analyse.analyseTests
   analyse-unmet work = (rw (inv-control s I) refl, rw (inv-formed s I) refl, refl)
 
   collect-unmet : (work map : List ℕ)
-      → Unmet (Collect.collectTests (s .control) (s .records) (s .slots) (s .roots) work map)
+      → Unmet (Collect.collectTests (s .control) (s .records) (s .slots) (s .roots) (s .sinks) (s .sets) work map)
   unfolding meets Collect.collectTests
   collect-unmet work map = (rw (inv-control s I) refl, rw (inv-formed s I) refl, refl)
 
-  save-unmet : (out : List ℕ) → Unmet (Save.saveTests (s .control) (s .records) (s .slots) (s .roots) out)
+  save-unmet : (out : List ℕ) → Unmet (Save.saveTests (s .control) (s .records) (s .slots) (s .roots) (s .sinks) (s .sets) out)
   unfolding meets Save.saveTests
   save-unmet out = (rw (inv-control s I) refl, rw (inv-formed s I) refl, refl)
 
@@ -79,7 +80,7 @@ module _ (s : State) (I : Inv s) where
   write-never i k w = unrefused _ _ (answered _ _ _ (λ (o : Write.Outcome). o .answer .refusal) refl (λ k. refl)) (write-unmet i k w)
 
   pub unmet : (call : Call) → Never (refusalOf call s)
-  unfolding Allocate.allocateInPlace Read.read Show.show Write.writeInPlace SetRoot.setRoot DeclareSink.declareSink Analyse.analyse Collect.collect Save.save
+  unfolding Allocate.allocateInPlace Read.read Show.show Write.writeInPlace SetRoot.setRoot Analyse.analyse Collect.collect Save.save
   unmet (allocate width) = allocate-never width
   unmet (allocateInPlace width) = allocate-never width
   unmet (read i k) = unrefused _ _ (answered _ _ _ (λ (a : WordRead). a .refusal) refl (λ k. refl)) (read-unmet i k)
@@ -87,9 +88,9 @@ module _ (s : State) (I : Inv s) where
   unmet (write i k w) = write-never i k w
   unmet (writeInPlace i k w) = write-never i k w
   unmet (setRoot j w) = unrefused _ _ (answered _ _ _ (λ (o : SetRoot.Outcome). o .answer .refusal) refl (λ k. refl)) (root-unmet j w)
-  unmet (declareSink i) = unrefused _ _ (answered _ _ _ (λ (o : DeclareSink.Outcome). o .answer .refusal) refl (λ k. refl)) (declare-unmet i)
+  unmet (declareSink i) = unrefused _ _ (declare-answered s i) (declare-unmet i)
   unmet (collect kind work map) =
       unrefused _ _ (answered _ _ _ (λ (o : Collect.Outcome). o .answer .refusal) refl (λ k. refl)) (collect-unmet work map)
   unmet (analyse work) = unrefused _ _ (answered _ _ _ (λ (o : Analyse.Outcome). o .answer .refusal) refl (λ k. refl)) (analyse-unmet work)
   unmet (save out) = unrefused _ _ (answered _ _ _ (λ (o : Save.Outcome). o .answer .refusal) refl (λ k. refl)) (save-unmet out)
-  unmet (load image recs slots roots) = load-unmet image recs slots roots
+  unmet (load image recs slots roots list sets) = load-unmet image recs slots roots list sets

@@ -15,8 +15,8 @@ use Rattle.records.specs.Record.{width}
 use Rattle.graph.specs.Numbers.{has}
 use Rattle.graph.proofs.TraceSafe.{Ranged, words-ranged}
 use Rattle.rules.specs.Buffers.{recOf, eight, usedWords}
-use Rattle.graph.specs.Invariant.{Ready}
-use Rattle.rules.specs.View.{target, view}
+use Rattle.graph.specs.Invariant.{Heads, Listed, Ready}
+use Rattle.rules.specs.View.{target, view, heapIn}
 use Rattle.rules.proofs.BoolLaws.{cond-same}
 use Rattle.rules.proofs.ListLaws.{recOf-above, recOf-range, map-of, eight-most}
 
@@ -75,10 +75,6 @@ module _ (n : ℕ) (recs slots : List ℕ) where
   unfolding view
   view-closed x y m = targets-low n (usedWords n recs slots x) y m
 
-  pub view-ranged : Ranged (view n recs slots)
-  unfolding view
-  view-ranged = words-ranged (view n recs slots) view-closed
-
   -- an object has at most eight words
   pub view-kids : (x : ℕ) → length (view n recs slots .kids x) ≤ widthMax
   unfolding view usedWords
@@ -96,8 +92,12 @@ module _ (n : ℕ) (recs slots : List ℕ) where
   pub view-range : (x : ℕ) → view n recs slots .cluster x ≢ 0 → (1 ≤ x) × (x ≤ n)
   view-range x p = recOf-range n recs x (view-used x p)
 
-  pub view-ready : ((x : ℕ) → view n recs slots .cluster x ≢ 0 → view n recs slots .cluster (view n recs slots .cluster x)
-      ≡ view n recs slots .cluster x)
-      → Ready (view n recs slots)
-  unfolding view field recOf
-  view-ready h = record { heads = h; zero-none = refl; closed = view-closed; range = λ x p. view-range x p .1 }
+  -- with a list whose sinks are objects in no cluster it is what the walks need
+  module _ (list : List ℕ) (listed : Listed (heapIn n recs slots list)) where
+    pub view-ranged : Ranged (heapIn n recs slots list)
+    unfolding view
+    view-ranged = words-ranged (heapIn n recs slots list) view-closed listed
+
+    pub view-ready : Heads (view n recs slots .cluster) → Ready (heapIn n recs slots list)
+    unfolding view field recOf
+    view-ready h = record { heads = h; zero-none = refl; closed = view-closed; range = λ x p. view-range x p .1; listed-in = listed }

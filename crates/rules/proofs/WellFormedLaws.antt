@@ -9,19 +9,22 @@ use native.Mathlib.Decide.{decLe}
 use native.Mathlib.Omega.{arith}
 use lib.Dec.{eqb}
 use lib.ListN.{take}
-use borrow.Author.Tests.{eqb-true}
+use borrow.Author.Tests.{eqb-true, eq-eqb}
 use Rattle.layout.specs.declared.answers.Control.{Control}
 use Rattle.layout.specs.Field.{field, flag}
-use Rattle.records.specs.Record.{inUse, isOut, cluster, free, legal}
+use Rattle.layout.specs.Limits.{sinkMax}
+use Rattle.records.specs.Record.{inUse, isSink, isOut, cluster, free, legal}
 use Rattle.layout.specs.Word.{isNil, isPointer, isImmediate}
 use Rattle.records.proofs.RecordLaws.{Legal, legal-facts}
 use Rattle.layout.proofs.LimitLaws.{in-within}
 use Rattle.graph.specs.Numbers.{Obj}
 use Rattle.rules.specs.Buffers.{recOf, usedWords, otherWords, allTo}
-use Rattle.rules.specs.View.{view, exactOut}
-use Rattle.rules.specs.WellFormed.{names, legalAt, emptyAt, wordsAt, headAt, outAt, rootsNamed, formed, wellFormed}
+use Rattle.rules.specs.View.{view, heapIn, setWord, exactOut}
+use Rattle.rules.specs.WellFormed.{names, legalAt, emptyAt, wordsAt, headAt, outAt, rootsNamed, listOk, setsOk, formed, wellFormed}
 use Rattle.rules.proofs.BoolLaws.{and-false, is-false, or-cases, and-split}
-use Rattle.rules.proofs.ListLaws.{recOf-above, allOf-at, allTo-at, recOf-range}
+use Rattle.rules.proofs.SetLaws.{sets-at}
+use Rattle.rules.proofs.ListedLaws.{Lists, lists-facts, facts-lists}
+use Rattle.rules.proofs.ListLaws.{recOf-above, allOf-at, allTo-at, allTo-all, recOf-range}
 
 beq-true : (a b : Bool) → Bool·beq a b ≡ true → a ≡ b
 beq-true true true e = refl
@@ -113,10 +116,43 @@ named-by n recs w e =
     let l = used-range n recs w u in
     record { low = l .0; high = l .1; used = u }
 
--- the rules of n objects and r roots, from those of the control record
-pub formed-of : (c : Control) (recs slots roots : List ℕ) → wellFormed c recs slots roots ≡ true → formed (c .n) (c .r) recs slots roots ≡ true
-unfolding wellFormed
-formed-of c recs slots roots e = e
+-- ---- the list of sinks and the sets
+
+-- what the rules say of the list and of each set
+pub record Sinks (n : ℕ) (recs slots list sets : List ℕ) : Type 0 where
+  pub listed : Lists n (λ x. isSink (recOf n recs x)) (take sinkMax list)
+  pub exact : (h : ℕ) → 1 ≤ h → h ≤ n → recOf n sets h ≡ setWord (heapIn n recs slots list) h
+
+module _ (n : ℕ) (recs slots list sets : List ℕ) where
+  pub sinks-facts : listOk n recs list ≡ true → setsOk n recs slots list sets ≡ true → Sinks n recs slots list sets
+  unfolding listOk
+  sinks-facts e f = record { listed = lists-facts n _ _ e; exact = λ h p q. sets-at n recs slots list sets f h (p, q) }
+
+  pub facts-list : Lists n (λ x. isSink (recOf n recs x)) (take sinkMax list) → listOk n recs list ≡ true
+  unfolding listOk
+  facts-list L = facts-lists n _ _ L
+
+  pub facts-sets : ((h : ℕ) → 1 ≤ h → h ≤ n → recOf n sets h ≡ setWord (heapIn n recs slots list) h) → setsOk n recs slots list sets ≡ true
+  unfolding setsOk
+  facts-sets f = allTo-all n (λ h. eqb (recOf n sets h) (setWord (heapIn n recs slots list) h)) (λ h p q. eq-eqb _ _ (f h p q))
+
+module _ (c : Control) (recs slots roots list sets : List ℕ) (e : wellFormed c recs slots roots list sets ≡ true) where
+  parts : (formed (c .n) (c .r) recs slots roots ≡ true) × (listOk (c .n) recs list ≡ true) × (setsOk (c .n) recs slots list sets ≡ true)
+  unfolding wellFormed
+  parts =
+      let f = and-split (formed (c .n) (c .r) recs slots roots && listOk (c .n) recs list) (setsOk (c .n) recs slots list sets) e in
+      let g = and-split (formed (c .n) (c .r) recs slots roots) (listOk (c .n) recs list) (f .0) in
+      (g .0, g .1, f .1)
+
+  -- the rules of n objects and r roots, from those of the control record
+  pub formed-of : formed (c .n) (c .r) recs slots roots ≡ true
+  formed-of = parts .0
+
+  -- and those of the list and the sets
+  pub sinks-of : Sinks (c .n) recs slots list sets
+  sinks-of = sinks-facts (c .n) recs slots list sets (parts .1) (parts .2)
+
+-- ---- the rules of the objects and of the roots
 
 module _ (n r : ℕ) (recs slots roots : List ℕ) where
   pub sane : formed n r recs slots roots ≡ true → Sane n r recs slots roots

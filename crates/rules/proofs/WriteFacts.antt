@@ -32,8 +32,8 @@ use Rattle.rules.specs.Plain.{answer}
 use Rattle.rules.specs.Steps.{State, step}
 use Rattle.rules.specs.Demands.{recordIn, heapOf, refusalOf, Dissolves, Writes, clusterSize, wordsOf}
 use Rattle.rules.proofs.BoolLaws.{is-false, and-split, cond-same, cond-not}
-use Rattle.rules.proofs.Answers.{write-named, loss-passed}
-use Rattle.rules.proofs.Frames.{Named}
+use Rattle.rules.proofs.Answers.{loss-passed}
+use Rattle.rules.proofs.Frames.{Named, write-named}
 use Rattle.rules.proofs.EncodedRecord.{encoded-cluster}
 use Rattle.rules.proofs.StoreLaws.{store-size, dissolves-words}
 use Rattle.rules.proofs.EncodedLaws.{read-at}
@@ -69,10 +69,13 @@ module _ (s : State) (i k w : ℕ) where
   abbrev rule : Bool
   rule = dissolves (heapOf s) i k (target (s .control .n) w)
 
+  by-words : rule ≡ not (eqb c 0) && (eqb (cluster (recordIn s old)) c && not (has old (set words k w)))
+  unfolding dissolves
+  by-words = dissolves-words (s .control .n) (s .records) (s .slots) i k w
+
   dissolves-so : Dissolves s i k w → rule ≡ true
   dissolves-so (nz, e, d, h) =
-      dissolves-words (s .control .n) (s .records) (s .slots) i k w
-      ∙ rw (ne-eqb c 0 nz, eq-eqb (cluster (recordIn s old)) c e, stored-none words k w old d h) refl
+      by-words ∙ rw (ne-eqb c 0 nz, eq-eqb (cluster (recordIn s old)) c e, stored-none words k w old d h) refl
 
   -- the old word of a slot past the words is nil, which is in no cluster
   in-range : cluster (recordIn s old) ≢ 0 → k < length words
@@ -85,7 +88,7 @@ module _ (s : State) (i k w : ℕ) where
 
   so-dissolves : rule ≡ true → Dissolves s i k w
   so-dissolves e =
-      let a = and-split (not (eqb c 0)) (eqb (cluster (recordIn s old)) c && not (has old (set words k w))) (sym (dissolves-words (s .control .n) (s .records) (s .slots) i k w) ∙ e) in
+      let a = and-split (not (eqb c 0)) (eqb (cluster (recordIn s old)) c && not (has old (set words k w))) (sym by-words ∙ e) in
       let b = and-split (eqb (cluster (recordIn s old)) c) (not (has old (set words k w))) (a .1) in
       let nz : c ≢ 0 = eqb-false c 0 (not-true _ (a .0)) in
       let in-c : cluster (recordIn s old) ≡ c = eqb-true (cluster (recordIn s old)) c (b .0) in
@@ -93,7 +96,7 @@ module _ (s : State) (i k w : ℕ) where
       (nz, in-c, stored-new words k w old none (in-range (λ z. nz (sym in-c ∙ z))), stored-other words k w old none)
 
 -- the refusal is that of the tests
-tested : (s : State) (i k w : ℕ) → refusalOf (write i k w) s ≡ first (Write.writeTests (s .control) i k w (s .records) (s .slots))
+tested : (s : State) (i k w : ℕ) → refusalOf (write i k w) s ≡ first (Write.writeTests (s .control) i k w (s .records) (s .slots) (s .sinks) (s .sets))
 unfolding Write.write
 tested s i k w = answered _ _ _ (λ (o : Write.Outcome). o .answer .refusal) refl (λ m. refl)
 
@@ -118,9 +121,9 @@ module _ (s : State) (i k w : ℕ) (accepted : refusalOf (write i k w) s ≡ 0) 
 
   encoded-clusters : Named (s .control) i (s .records) (s .slots) → (d : Bool) (x : ℕ)
       → cluster (recOf (s .control .n) (encoded (storeBy d (heapOf s) i k t) (s .records)) x) ≡ storeBy d (heapOf s) i k t .cluster x
-  unfolding field
+  unfolding field view
   encoded-clusters N d =
-      read-at (s .control .n) (storeBy d (heapOf s) i k t) (store-size d (s .control .n) (s .records) (s .slots) i k t) (s .records) (N .wide) cluster _
+      read-at (s .control .n) (storeBy d (heapOf s) i k t) (store-size d (heapOf s) i k t) (s .records) (N .wide) cluster _
       (λ x e. sym (none d x e)) (λ x. encoded-cluster _ _ _ _ _ (fits d x))
 
   after : (x : ℕ) → cluster (recordIn (step (write i k w) s .after) x) ≡ store (heapOf s) i k t .cluster x
@@ -129,16 +132,16 @@ module _ (s : State) (i k w : ℕ) (accepted : refusalOf (write i k w) s ≡ 0) 
       all-by
       (λ (o : Write.Outcome). o .answer .refusal ≡ 0 → cluster (recOf (o .answer .control .n) (o .records) x)
       ≡ storeBy (dissolves (heapOf s) i k t) (heapOf s) i k t .cluster x) _ _ _
-      (λ z e. encoded-clusters (write-named (s .control) i k w (s .records) (s .slots) z) (dissolves (heapOf s) i k t) x) (λ m e. absurd (suc-ne-zero m e)) accepted
+      (λ z e. encoded-clusters (write-named (s .control) i k w (s .records) (s .slots) (s .sinks) (s .sets) z .0) (dissolves (heapOf s) i k t) x) (λ m e. absurd (suc-ne-zero m e)) accepted
 
-  loss : step (write i k w) s .after .control .«write_loss» ≡ lossAfter (s .control) i k w (s .records) (s .slots)
+  loss : step (write i k w) s .after .control .«write_loss» ≡ lossAfter (s .control) i k w (s .records) (s .slots) (s .sinks) (s .sets)
   unfolding step Write.write answer withWriteLoss
   loss =
-      all-by (λ (o : Write.Outcome). o .answer .refusal ≡ 0 → o .answer .control .«write_loss» ≡ lossAfter (s .control) i k w (s .records) (s .slots)) _ _ _
+      all-by (λ (o : Write.Outcome). o .answer .refusal ≡ 0 → o .answer .control .«write_loss» ≡ lossAfter (s .control) i k w (s .records) (s .slots) (s .sinks) (s .sets)) _ _ _
       (λ z e. refl) (λ m e. absurd (suc-ne-zero m e)) accepted
 
-  within : lossAfter (s .control) i k w (s .records) (s .slots) ≤ s .control .n
-  within = ltb-false (s .control .n) _ (loss-passed (s .control) i k w (s .records) (s .slots) (sym (tested s i k w) ∙ accepted))
+  within : lossAfter (s .control) i k w (s .records) (s .slots) (s .sinks) (s .sets) ≤ s .control .n
+  within = ltb-false (s .control .n) _ (loss-passed (s .control) i k w (s .records) (s .slots) (s .sinks) (s .sets) (sym (tested s i k w) ∙ accepted))
 
   pub write-does : Writes s i k w
   unfolding store storeBy lossAfter lossOf lossBy
@@ -160,10 +163,10 @@ module _ (s : State) (i k w : ℕ) (accepted : refusalOf (write i k w) s ≡ 0) 
 -- refused for its loss: of the tests, only the last holds
 module _ (s : State) (i k w : ℕ) (refused : refusalOf (write i k w) s ≡ 25) where
   abbrev loss′ : ℕ
-  loss′ = lossAfter (s .control) i k w (s .records) (s .slots)
+  loss′ = lossAfter (s .control) i k w (s .records) (s .slots) (s .sinks) (s .sets)
 
   abbrev tests : List Test
-  tests = Write.writeTests (s .control) i k w (s .records) (s .slots)
+  tests = Write.writeTests (s .control) i k w (s .records) (s .slots) (s .sinks) (s .sets)
 
   first-25 : first tests ≡ 25
   first-25 = sym (tested s i k w) ∙ refused

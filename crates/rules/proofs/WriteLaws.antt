@@ -8,15 +8,15 @@ use mathlib.Core.Logic.{_≢_, _⊎_, inl, inr}
 use native.Mathlib.Decide.{ℕ-discrete}
 use native.Mathlib.Nat.{suc-ne-zero}
 use native.Mathlib.Omega.{arith}
-use lib.Dec.{ltb}
+use lib.Dec.{eqb, ltb}
 use lib.ListN.{length, set, take, drop, length-set}
 use lib.Seq.{take-set-lt, drop-set-lt}
-use borrow.Author.Tests.{not-false, leb-false, le-ltb, eqb-false}
+use borrow.Author.Tests.{not-false, leb-false, le-ltb, eqb-false, eq-eqb, ne-eqb}
 use Rattle.layout.proofs.RefusalLaws.{first-passed}
 use Rattle.records.specs.Record as R
 use Rattle.layout.specs.ControlRecord.{withWriteLoss}
 use Rattle.layout.specs.Field.{field, flag}
-use Rattle.layout.specs.Limits.{slotsLen}
+use Rattle.layout.specs.Limits.{sinkMax, slotsLen}
 use Rattle.records.specs.Record.{width}
 use Rattle.layout.specs.Refusal.{first}
 use Rattle.layout.specs.Word.{isNil, isImmediate, isPointer, legalWord}
@@ -26,11 +26,11 @@ use Rattle.graph.specs.Heap.{Heap}
 use Rattle.graph.specs.Numbers.{upd}
 use Rattle.graph.specs.Writes.{dissolves, stored, store, storeBy, lossBy, lossOf}
 use Rattle.graph.proofs.NumberLaws.{upd-same, upd-other, mem-of-set}
-use Rattle.graph.proofs.Paths.{keep-zero}
+use Rattle.graph.proofs.Paths.{connected-head, keep-zero, keep-in, keep-was}
 use Rattle.graph.proofs.State.{Good}
 use Rattle.graph.proofs.WritesLaws.{dissolving, staying, still-connected, points-clustered, write-fits}
-use Rattle.rules.specs.Buffers.{usedWords, otherWords, eight, allOf}
-use Rattle.rules.specs.View.{view, target, encoded}
+use Rattle.rules.specs.Buffers.{recOf, usedWords, otherWords, eight, allOf}
+use Rattle.rules.specs.View.{view, heapIn, setWord, target, encoded}
 use Rattle.rules.specs.Calls.{write, writeInPlace, did}
 use Rattle.rules.specs.Write.{lossAfter}
 use Rattle.rules.specs.Write as Write
@@ -39,6 +39,8 @@ use Rattle.rules.specs.Steps.{State, step}
 use Rattle.rules.specs.Demands.{heapOf, wordsOf, recordIn, rootsOf}
 use Rattle.rules.specs.PlainOf.{plainOf, cellOf, cellsOf}
 use Rattle.rules.proofs.ListLaws.{map-set, eight-set, eight-set-other, set-numbers}
+use Rattle.rules.proofs.PlaceLaws.{rec-put}
+use Rattle.rules.proofs.SetLaws.{setWord-same}
 use Rattle.rules.proofs.Invariant.{Inv, SlotWord, inv-control, inv-sane, inv-illegal, enough}
 use Rattle.rules.proofs.Abstraction.{cells-size, at-free, at-words, at-sink}
 use Rattle.rules.proofs.Simulation.{Same, same-by, all-by, pointer-facts, is-named, used-length, widths}
@@ -105,7 +107,7 @@ module _ (s : State) (I : Inv s) (i k w : ℕ) (k-fits : k < width (recordIn s (
 
   module _ (out′ : ℕ → Bool) (cl′ : ℕ → ℕ) where
     abbrev heap′ : Heap
-    heap′ = record { n = n; kids = stored H (suc i) k (target n w); sink = H .sink; written = upd (H .written) (suc i) true; cluster = cl′; out = out′ }
+    heap′ = record { n = n; kids = stored H (suc i) k (target n w); sink = H .sink; listed = H .listed; written = upd (H .written) (suc i) true; cluster = cl′; out = out′ }
 
     abbrev recs′ : List ℕ
     recs′ = encoded heap′ (s .records)
@@ -115,17 +117,18 @@ module _ (s : State) (I : Inv s) (i k w : ℕ) (k-fits : k < width (recordIn s (
       unfolding view flag field
       F = good-fits G (λ x e. (rw e refl, upd-other (H .written) (suc i) x true (λ j. there (ap (recordIn s) (sym j) ∙ e)) ∙ rw e refl, blank-cl x e))
 
-      store-inv : Inv (record { control = withWriteLoss loss′ (s .control); records = recs′; slots = slots′; roots = s .roots })
+      store-inv : (sets′ : List ℕ) → n ≤ length sets′ → ((h : ℕ) → 1 ≤ h → h ≤ n → recOf n sets′ h ≡ setWord heap′ h)
+          → Inv (record { control = withWriteLoss loss′ (s .control); records = recs′; slots = slots′; roots = s .roots; sinks = s .sinks; sets = sets′ })
       unfolding withWriteLoss
-      store-inv =
-          encoded-inv s I (stored H (suc i) k (target n w)) F slots′ same-kids (s .control .last) (s .control .limit) loss′ (s .control .«out_loss») G
+      store-inv sets′ long exact =
+          encoded-inv s I (stored H (suc i) k (target n w)) (H .listed) F slots′ same-kids (s .sinks) sets′ (s .control .last) (s .control .limit) loss′ (s .control .«out_loss») G
           (writes-sound (s .control) (I .sound) loss′ fits)
           (let a = length-set (s .slots) (8 * i + k) w in let b = I .slots-long in omega arith)
           (λ x p q. ap (allOf isNil) (other-after x) ∙ I .empty x p q)
-          named-after
+          named-after (I .sinks-long) refl (I .single) long exact
 
-      store-view : view n recs′ slots′ ≡ heap′
-      store-view = encoded-view s I (stored H (suc i) k (target n w)) F slots′ same-kids
+      store-view : heapIn n recs′ slots′ (s .sinks) ≡ heap′
+      store-view = encoded-view s I (stored H (suc i) k (target n w)) (H .listed) F slots′ same-kids
 
       store-cells : cellsOf n recs′ slots′
           ≡ set (cellsOf n (s .records) (s .slots)) i (object (set (wordsOf s (suc i)) k w) (flag 2 (recordIn s (suc i))))
@@ -133,10 +136,10 @@ module _ (s : State) (I : Inv s) (i k w : ℕ) (k-fits : k < width (recordIn s (
       store-cells = set-numbers (cellOf n (s .records) (s .slots)) (cellOf n recs′ slots′) 1 n i _ at other
         where
           cell : (x : ℕ) → cellOf n recs′ slots′ x ≡ cond (R.free (recordIn s x)) vacant (object (usedWords n (s .records) slots′ x) (H .sink x))
-          cell = encoded-cell s I (stored H (suc i) k (target n w)) F slots′
+          cell = encoded-cell s I (stored H (suc i) k (target n w)) (H .listed) F slots′
 
           not-free : R.free (recordIn s (suc i)) ≡ false
-          not-free = unfold R.free in (borrow.Author.Tests.ne-eqb (recordIn s (suc i)) 0 there)
+          not-free = unfold R.free in (ne-eqb (recordIn s (suc i)) 0 there)
 
           at : cellOf n recs′ slots′ (1 + i) ≡ object (set (wordsOf s (suc i)) k w) (flag 2 (recordIn s (suc i)))
           at =
@@ -148,6 +151,19 @@ module _ (s : State) (I : Inv s) (i k w : ℕ) (k-fits : k < width (recordIn s (
               let e : x ≢ suc i = omega (arith, d) in
               cell x ∙ (rw (used-other x e) (unfold cellOf view flag field in refl))
 
+-- a write changes no set but that at its object's head
+pub set-elsewhere : (d : Bool) (H : Heap) (i k t h : ℕ) → h ≢ 0 → h ≢ H .cluster i → setWord (storeBy d H i k t) h ≡ setWord H h
+unfolding storeBy stored
+set-elsewhere true H i k t h nz o =
+    setWord-same (storeBy true H i k t) H h refl refl
+    (λ x b. (λ e. keep-was (others (H .cluster i)) (H .cluster) h x e nz .0, λ e. keep-in (others (H .cluster i)) (H .cluster) h x e other))
+    (λ x b e. upd-other (H .kids) i x _ (λ j. o (sym (keep-was (others (H .cluster i)) (H .cluster) h x e nz .0) ∙ ap (H .cluster) j)))
+  where
+    other : others (H .cluster i) h ≡ true
+    other = unfold others in (rw (ne-eqb h (H .cluster i) o) refl)
+set-elsewhere false H i k t h nz o =
+    setWord-same (storeBy false H i k t) H h refl refl (λ x b. (λ e. e, λ e. e)) (λ x b e. upd-other (H .kids) i x _ (λ j. o (sym e ∙ ap (H .cluster) j)))
+
 module _ (s : State) (I : Inv s) where
   -- no write meets 25
   fits-25 : (i k t : ℕ) → t ≤ s .control .n → (b : Bool) → dissolves (heapOf s) i k t ≡ b
@@ -156,11 +172,11 @@ module _ (s : State) (I : Inv s) where
   fits-25 i k t l true e = write-fits (heapOf s) (s .control .«write_loss») i k t (I .good) e
   fits-25 i k t l false e = let a = I .sound .writes in omega arith
 
-  pub no-25 : (i k w : ℕ) → ltb (s .control .n) (lossAfter (s .control) i k w (s .records) (s .slots)) ≡ false
+  pub no-25 : (i k w : ℕ) → ltb (s .control .n) (lossAfter (s .control) i k w (s .records) (s .slots) (s .sinks) (s .sets)) ≡ false
   unfolding lossAfter lossOf
   no-25 i k w = le-ltb (s .control .n) _ (fits-25 i k (target (s .control .n) w) (target-low (s .control .n) w) _ refl)
 
-  pub write-tests : (i k w : ℕ) → first (Write.writeTests (s .control) i k w (s .records) (s .slots))
+  pub write-tests : (i k w : ℕ) → first (Write.writeTests (s .control) i k w (s .records) (s .slots) (s .sinks) (s .sets))
       ≡ first (slotTests (plainOf s) i k ++ ((6, not (legalWord (length (plainOf s .cells)) w)) ∷ (23, namesFree (plainOf s) w) ∷ []))
   unfolding Write.writeTests first slotTests objectTests plainWords namesFree slotsLen
   write-tests i k w =
@@ -168,6 +184,8 @@ module _ (s : State) (I : Inv s) where
         inv-control s I,
         enough (s .control .n) (s .records) (I .recs-long),
         enough (8 * s .control .n) (s .slots) (I .slots-long),
+        enough sinkMax (s .sinks) (I .sinks-long),
+        enough (s .control .n) (s .sets) (I .sets-long),
         inv-sane s I i,
         inv-illegal s I w,
         no-25 i k w,
@@ -186,7 +204,7 @@ module _ (s : State) (I : Inv s) where
     narrow : k < width (recordIn s i)
     word : SlotWord (s .control .n) (s .records) w
 
-  facts : (i k w : ℕ) → first (Write.writeTests (s .control) i k w (s .records) (s .slots)) ≡ 0 → Passed i k w
+  facts : (i k w : ℕ) → first (Write.writeTests (s .control) i k w (s .records) (s .slots) (s .sinks) (s .sets)) ≡ 0 → Passed i k w
   unfolding Write.writeTests R.free legalWord
   facts i k w z =
       let t1 = first-passed 19 _ _ z in
@@ -212,6 +230,44 @@ module _ (s : State) (I : Inv s) where
       word false false true ea eb ec e f = rw (ea, ec) refl
       word false false false ea eb ec e f = absurd (false≢true e)
 
+  -- ---- the sets
+
+  -- the set at the object's head becomes that of the new heap
+  abbrev setsBy : ℕ → ℕ → ℕ → Bool → List ℕ
+  setsBy i k w d =
+      cond (eqb (heapOf s .cluster i) 0) (s .sets)
+      (set (s .sets) (heapOf s .cluster i - 1) (setWord (storeBy d (heapOf s) i k (target (s .control .n) w)) (heapOf s .cluster i)))
+
+  long-by : (i k w : ℕ) (d : Bool) → s .control .n ≤ length (setsBy i k w d)
+  long-by i k w d = go (eqb (heapOf s .cluster i) 0)
+    where
+      go : (b : Bool) → s .control .n ≤ length (cond b (s .sets) (set (s .sets) (heapOf s .cluster i - 1) (setWord (storeBy d (heapOf s) i k (target (s .control .n) w)) (heapOf s .cluster i))))
+      go true = I .sets-long
+      go false = rw (length-set (s .sets) (heapOf s .cluster i - 1) (setWord (storeBy d (heapOf s) i k (target (s .control .n) w)) (heapOf s .cluster i))) (I .sets-long)
+
+  sets-by : (i k w : ℕ) (d : Bool) (h : ℕ) → 1 ≤ h → h ≤ s .control .n
+      → recOf (s .control .n) (setsBy i k w d) h ≡ setWord (storeBy d (heapOf s) i k (target (s .control .n) w)) h
+  sets-by i k w d h p q = go (ℕ-discrete c 0)
+    where
+      c : ℕ
+      c = heapOf s .cluster i
+
+      after : Heap
+      after = storeBy d (heapOf s) i k (target (s .control .n) w)
+
+      stays : h ≢ c → recOf (s .control .n) (s .sets) h ≡ setWord after h
+      stays j = I .sets-exact h p q ∙ sym (set-elsewhere d (heapOf s) i k (target (s .control .n) w) h (λ z. absurd (omega (arith, p, z))) j)
+
+      at : Dec (h ≡ c) → upd (recOf (s .control .n) (s .sets)) c (setWord after c) h ≡ setWord after h
+      at (yes j) = rw j (upd-same (recOf (s .control .n) (s .sets)) c (setWord after c))
+      at (no j) = upd-other (recOf (s .control .n) (s .sets)) c h (setWord after c) j ∙ stays j
+
+      go : Dec (c ≡ 0) → recOf (s .control .n) (cond (eqb c 0) (s .sets) (set (s .sets) (c - 1) (setWord after c))) h ≡ setWord after h
+      go (yes e) = rw (eq-eqb c 0 e) (stays (λ j. absurd (omega (arith, p, j ∙ e))))
+      go (no e) =
+          let m : c ≤ s .control .n = unfold view in (I .good .range c (λ z. e (sym (connected-head _ _ (I .good .conn) i e) ∙ z))) in
+          rw (ne-eqb c 0 e) (rec-put (s .control .n) (s .sets) c (setWord after c) (omega (arith, e)) m (I .sets-long) h ∙ at (ℕ-discrete h c))
+
   abbrev stateBy : ℕ → ℕ → ℕ → Bool → State
   stateBy i k w d =
       record {
@@ -219,6 +275,8 @@ module _ (s : State) (I : Inv s) where
         records = encoded (storeBy d (heapOf s) i k (target (s .control .n) w)) (s .records);
         slots = set (s .slots) (8 * (i - 1) + k) w;
         roots = s .roots;
+        sinks = s .sinks;
+        sets = setsBy i k w d;
       }
 
   -- the state after an accepted write, where the cluster is dissolved and where not
@@ -226,7 +284,7 @@ module _ (s : State) (I : Inv s) where
       → Inv (stateBy i k w d)
       × (cellsOf (s .control .n) (stateBy i k w d .records) (stateBy i k w d .slots)
       ≡ set (cellsOf (s .control .n) (s .records) (s .slots)) (i - 1) (object (set (wordsOf s i) k w) (flag 2 (recordIn s i))))
-      × (view (s .control .n) (stateBy i k w d .records) (stateBy i k w d .slots)
+      × (heapIn (s .control .n) (stateBy i k w d .records) (stateBy i k w d .slots) (s .sinks)
       ≡ storeBy d (heapOf s) i k (target (s .control .n) w))
   unfolding storeBy withWriteLoss view flag field
   done zero k w F d e = absurd (omega (arith, F .range))
@@ -240,7 +298,7 @@ module _ (s : State) (I : Inv s) where
       = λ x q. keep-zero (others (H .cluster (suc i))) (H .cluster) x (rw q refl) in
       let f = fits-25 (suc i) k t l true e in
       rw z (
-        store-inv s I i k w (F .narrow) (F .there) (F .word) _ _ _ G b f,
+        store-inv s I i k w (F .narrow) (F .there) (F .word) _ _ _ G b f _ (long-by (suc i) k w true) (sets-by (suc i) k w true),
         store-cells s I i k w (F .narrow) (F .there) (F .word) _ _ _ G b f,
         store-view s I i k w (F .narrow) (F .there) (F .word) _ _ _ G b f,
       )
@@ -253,20 +311,20 @@ module _ (s : State) (I : Inv s) where
       let b : (x : ℕ) → recordIn s x ≡ 0 → H .cluster x ≡ 0 = λ x q. rw q refl in
       let f = fits-25 (suc i) k t l false e in
       rw z (
-        store-inv s I i k w (F .narrow) (F .there) (F .word) _ _ _ G b f,
+        store-inv s I i k w (F .narrow) (F .there) (F .word) _ _ _ G b f _ (long-by (suc i) k w false) (sets-by (suc i) k w false),
         store-cells s I i k w (F .narrow) (F .there) (F .word) _ _ _ G b f,
         store-view s I i k w (F .narrow) (F .there) (F .word) _ _ _ G b f,
       )
 
   abbrev stateOf : Write.Outcome → State
-  stateOf o = record { control = o .answer .control; records = o .records; slots = o .slots; roots = s .roots }
+  stateOf o = record { control = o .answer .control; records = o .records; slots = o .slots; roots = s .roots; sinks = s .sinks; sets = o .sets }
 
   pub write-inv : (i k w : ℕ) → Inv (step (write i k w) s .after)
-  unfolding step Write.write answer lossAfter lossOf store
+  unfolding step Write.write answer lossAfter lossOf store Write.setsAfter
   write-inv i k w = all-by (λ (o : Write.Outcome). Inv (stateOf o)) _ _ _ (λ z. done i k w (facts i k w z) _ refl .0) (λ m. I)
 
   pub write-same : (i k w : ℕ) → Same (write i k w) s
-  unfolding step Write.write answer plainStep lossAfter lossOf store
+  unfolding step Write.write answer plainStep lossAfter lossOf store Write.setsAfter
   write-same i k w = record {
     answers = same-by _ _ _ _ _ _ (λ (o : Write.Outcome). did (o .answer .refusal) ∷ []) (λ (p : Played Plain). p .answers) (write-tests i k w) (λ z. refl) (λ m. refl);
     after = same-by _ _ _ _ _ _ (λ (o : Write.Outcome). plainOf (stateOf o)) (λ (p : Played Plain). p .after) (write-tests i k w)
@@ -285,12 +343,12 @@ module _ (s : State) (I : Inv s) where
           cells-path p = ap (λ (l : List Cell). record { last = s .control .last; roots = rootsOf s; cells = l }) p
 
   -- the buffers hold the heap that the rule gives
-  pub write-ruled : (i k w : ℕ) → Write.write (s .control) i k w (s .records) (s .slots) .answer .refusal ≡ 0
+  pub write-ruled : (i k w : ℕ) → Write.write (s .control) i k w (s .records) (s .slots) (s .sinks) (s .sets) .answer .refusal ≡ 0
       → heapOf (step (write i k w) s .after) ≡ store (heapOf s) i k (target (s .control .n) w)
   unfolding step Write.write answer withWriteLoss store
   write-ruled i k w =
       all-by
-      (λ (o : Write.Outcome). o .answer .refusal ≡ 0 → view (o .answer .control .n) (o .records) (o .slots)
+      (λ (o : Write.Outcome). o .answer .refusal ≡ 0 → heapIn (o .answer .control .n) (o .records) (o .slots) (s .sinks)
       ≡ storeBy (dissolves (heapOf s) i k (target (s .control .n) w)) (heapOf s) i k (target (s .control .n) w)) _ _ _
       (λ z e. done i k w (facts i k w z) _ refl .2) (λ m e. absurd (suc-ne-zero m e))
 

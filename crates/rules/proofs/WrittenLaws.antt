@@ -1,16 +1,16 @@
--- The image of a heap is read as that heap, and no test of load holds of it, whatever chunks that are passed over stand behind it.
+-- The three chunks of a heap are read as that heap, and no test of load holds of them, with a chunk of its sinks behind them and whatever chunks that are passed over.
 -- Assumes nothing.
 use Prim.Native.Nat.{ℕ, zero, suc, _+_, _*_, _^_, _≤_, _<_}
 use mathlib.Core.Path.{_≡_, refl, sym, ap, ap₂, _∙_}
-use mathlib.Core.Bool.{Bool, true, false, not, cond, _&&_, _||_}
-use mathlib.Core.List.{List, [], _++_, map, append-assoc, append-nil, List·Memᴰ}
+use mathlib.Core.Bool.{Bool, true, false, not, cond, _&&_, _||_, and-false}
+use mathlib.Core.List.{List, [], _∷_, _++_, map, append-assoc, append-nil, List·Memᴰ}
 use mathlib.Core.Logic.{⊎-elim}
 use native.Mathlib.Omega.{arith}
-use lib.Dec.{leb}
+use lib.Dec.{eqb, leb, ltb}
 use lib.ListN.{length, length-append}
 use borrow.Author.Tests.{eq-eqb, ne-eqb, le-leb, le-ltb, eqb-true}
 use Rattle.layout.specs.Field.{digit}
-use Rattle.layout.specs.Limits.{objectMax, within}
+use Rattle.layout.specs.Limits.{objectMax, sinkMax, within}
 use Rattle.layout.specs.ControlRecord.{badSizes}
 use Rattle.layout.specs.Refusal.{first}
 use Rattle.layout.specs.Word.{isNil, isPointer, isImmediate}
@@ -18,21 +18,24 @@ use Rattle.layout.proofs.BoolLaws.{or-cases, and-split}
 use Rattle.layout.proofs.LimitLaws.{within-true, above-within}
 use Rattle.layout.proofs.ControlLaws.{Sizes, sizes-facts}
 use Rattle.layout.proofs.WordLaws.{pointer-bound, immediate-bounds}
-use Rattle.endian.specs.Bytes.{bytes, number, numberAt, wordBytes}
-use Rattle.endian.proofs.BytesLaws.{number-front, length-words, word-at}
-use Rattle.graph.proofs.NumberLaws.{length-gather, sum-most}
+use Rattle.endian.specs.Bytes.{bytes, number, numberAt, bytesOf, wordBytes}
+use Rattle.endian.proofs.BytesLaws.{number-front, length-numbers, number-at}
+use Rattle.graph.specs.Numbers.{Obj, count}
+use Rattle.graph.proofs.NumberLaws.{length-gather, sum-most, count-ext}
 use Rattle.rules.specs.Buffers.{numbers, allOf}
-use Rattle.rules.specs.Image.{chunk, sizesBody, objectsBody, image, bodyOf, past, savedN, savedR, savedLast, sizesOk, listed, savedSink, savedWidth, savedWords, objectLen, from, shaped, namesListed, wordsOk, objectsOk, savedRoot, rootsOk}
-use Rattle.rules.specs.Load.{known, passed, misplaced, sizes, objects, rootWords, imageN, imageR, badBody, chunkTests, imageTests}
+use Rattle.rules.specs.Image.{sinksKind, chunk, sizesBody, objectsBody, image, sinksChunk, bodyOf, past, savedN, savedR, savedLast, sizesOk, listed, savedSink, savedAsSink, savedWidth, savedWords, objectLen, from, shaped, namesListed, wordsOk, objectsOk, savedRoot, rootsOk}
+use Rattle.rules.specs.Load.{known, passed, misplaced, sizes, objects, rootWords, imageN, imageR, badBody, badSinks, chunkTests, imageTests}
 use Rattle.rules.specs.Demands.{Passed, none, more}
 use Rattle.rules.proofs.ListLaws.{allOf-all, allTo-all}
-use Rattle.rules.proofs.ImageLaws.{chunk-kind, chunk-body, chunk-past, chunk-whole, chunk-length, past-suc, numbered, entry, entry-length, listed-is, width-is, sink-is, fits-is, words-is, none-left}
+use Rattle.rules.proofs.ImageLaws.{chunk-kind, chunk-body, chunk-past, chunk-whole, chunk-length, past-suc, numbered, entry, entry-length, listed-is, width-is, sink-is, as-sink-is, fits-is, words-is, none-left}
 
 -- ---- a heap whose image can be read again
 
-pub record Writable (n last : ℕ) (used : ℕ → Bool) (words : ℕ → List ℕ) (roots : List ℕ) : Type 0 where
+pub record Writable (n last : ℕ) (used sink : ℕ → Bool) (words : ℕ → List ℕ) (roots : List ℕ) : Type 0 where
   pub sized : badSizes n (length roots) ≡ false
   pub given : last ≤ n
+  pub sunk : (x : ℕ) → sink x ≡ true → used x ≡ true
+  pub few : count n sink ≤ sinkMax
   pub narrow : (x : ℕ) → length (words x) ≤ 8
   pub worded : (x w : ℕ) → used x ≡ true → List·Memᴰ w (words x) → (isNil w || isImmediate w || (isPointer n w && used w)) ≡ true
   pub rooted : (w : ℕ) → List·Memᴰ w roots → (isNil w || (isPointer n w && used w)) ≡ true
@@ -61,7 +64,7 @@ module _ (n : ℕ) (used sink : ℕ → Bool) (words : ℕ → List ℕ) where
         let c = chunk-length 1 body in
         let d = chunk-length 2 (objectsBody n used sink words) in
         let e = chunk-length 3 (wordBytes roots) in
-        let f = length-words roots in
+        let f = length-numbers 4 roots in
         omega (arith, sizes-length n (length roots) last)
       where
         sizes-length : (n r last : ℕ) → length (sizesBody n r last) ≡ 8
@@ -69,6 +72,20 @@ module _ (n : ℕ) (used sink : ℕ → Bool) (words : ℕ → List ℕ) where
 
     pub image-length : ((x : ℕ) → length (words x) ≤ 8) → length (image n last used sink words roots) ≤ 26 + 36 * n + 4 * length roots
     image-length h = omega (arith, image-size, objects-length h)
+
+-- the chunk of sinks
+pub sinks-length : (l : List ℕ) → length (sinksChunk l) ≡ cond (eqb (length l) 0) 0 (6 + 2 * length l)
+unfolding sinksChunk
+sinks-length [] = refl
+sinks-length (y ∷ l) =
+    rw (ne-eqb (suc (length l)) 0 (λ e. omega arith)) (chunk-length sinksKind (bytesOf 2 (y ∷ l)) ∙ ap (λ (k : ℕ). 6 + k) (length-numbers 2 (y ∷ l)))
+
+pub sinks-most : (l : List ℕ) → length l ≤ sinkMax → length (sinksChunk l) ≤ 134
+sinks-most l h = go (eqb (length l) 0) (sinks-length l)
+  where
+    go : (b : Bool) → length (sinksChunk l) ≡ cond b 0 (6 + 2 * length l) → length (sinksChunk l) ≤ 134
+    go true e = omega arith
+    go false e = omega arith
 
 -- ---- words and roots of such a heap
 
@@ -92,28 +109,41 @@ word-small n w u h e = ⊎-elim (λ f. ⊎-elim (nil-small w) immediate (or-case
 
 module _ (b : List ℕ) where
   chunk-passes : (f t kind : ℕ) (body z : List ℕ) → length body < 256 ^ 4 → kind < 256 ^ 2 → past t b ≡ chunk kind body ++ z
-      → (misplaced t kind || (known kind && badBody b t)) ≡ false → (not (known kind) && not (passed kind)) ≡ false
+      → (misplaced t kind || (known kind && badBody b t) || (eqb kind sinksKind && badSinks b t)) ≡ false → (not (known kind) && not (passed kind)) ≡ false
       → first (chunkTests b f (suc t)) ≡ 0 → first (chunkTests b (suc f) t) ≡ 0
   unfolding chunkTests first
   chunk-passes f t kind body z l k e m u r =
       let some : length (chunk kind body ++ z) ≡ 6 + length body + length z = length-append (chunk kind body) z ∙ omega (arith, chunk-length kind body) in
       rw (e, ne-eqb (length (chunk kind body ++ z)) 0 (λ q. omega arith), chunk-whole kind body z l k, chunk-kind kind body z l k, m, u) r
 
-  -- chunks behind the third that are passed over
-  passed-passes : (f t : ℕ) (z : List ℕ) → Passed z → past (suc (suc (suc t))) b ≡ z → first (chunkTests b f (suc (suc (suc t)))) ≡ 0
-  unfolding chunkTests first misplaced known passed badBody
-  passed-passes zero t z p e = refl
-  passed-passes (suc f) t [] none e = rw (e, le-ltb (suc (suc (suc t))) 3 (omega arith)) refl
-  passed-passes (suc f) t _ (more kind body {z} h k l p) e =
+  -- the image ends behind the third chunk or later
+  end-passes : (f t : ℕ) → past (suc (suc (suc t))) b ≡ [] → first (chunkTests b f (suc (suc (suc t)))) ≡ 0
+  unfolding chunkTests first
+  end-passes zero t e = refl
+  end-passes (suc f) t e = rw (e, le-ltb (suc (suc (suc t))) 3 (omega arith)) refl
+
+  -- a chunk there, of a kind from 0x8000 up, that is not of sinks or right
+  pub late-passes : (f t kind : ℕ) (body z : List ℕ) → 0x8000 ≤ kind → length body < 256 ^ 4 → kind < 256 ^ 2
+      → past (suc (suc (suc t))) b ≡ chunk kind body ++ z → (eqb kind sinksKind && badSinks b (suc (suc (suc t)))) ≡ false
+      → (past (suc (suc (suc (suc t)))) b ≡ z → first (chunkTests b f (suc (suc (suc (suc t))))) ≡ 0) → first (chunkTests b (suc f) (suc (suc (suc t)))) ≡ 0
+  unfolding misplaced known passed badBody
+  late-passes f t kind body z h l k e s r =
       let out = above-within 1 3 kind (omega arith) in
       chunk-passes f (suc (suc (suc t))) kind body z l k e
-      (rw (out, le-leb 0x8000 kind h, le-ltb (suc (suc (suc t))) 3 (omega arith)) refl)
+      (rw (out, le-leb 0x8000 kind h, le-ltb (suc (suc (suc t))) 3 (omega arith), s) refl)
       (rw (out, le-leb 0x8000 kind h) refl)
-      (passed-passes f (suc t) z p (past-suc (suc (suc (suc t))) b ∙ ap (past 1) e ∙ chunk-past kind body z l k))
+      (r (past-suc (suc (suc (suc t))) b ∙ ap (past 1) e ∙ chunk-past kind body z l k))
+
+  -- chunks there that are passed over
+  pub passed-passes : (f t : ℕ) (z : List ℕ) → Passed z → past (suc (suc (suc t))) b ≡ z → first (chunkTests b f (suc (suc (suc t)))) ≡ 0
+  passed-passes zero t z p e = unfold chunkTests first in refl
+  passed-passes (suc f) t [] none e = end-passes (suc f) t e
+  passed-passes (suc f) t _ (more kind body {z} o h k l p) e =
+      late-passes f t kind body z h l k e (rw (ne-eqb kind sinksKind o) refl) (λ q. passed-passes f (suc t) z p q)
 
 -- ---- what is read of it
 
-module _ (n last : ℕ) (used sink : ℕ → Bool) (words : ℕ → List ℕ) (roots : List ℕ) (w : Writable n last used words roots) (z : List ℕ) where
+module _ (n last : ℕ) (used sink : ℕ → Bool) (words : ℕ → List ℕ) (roots : List ℕ) (w : Writable n last used sink words roots) (z : List ℕ) where
   abbrev b : List ℕ
   b = image n last used sink words roots ++ z
 
@@ -141,7 +171,7 @@ module _ (n last : ℕ) (used sink : ℕ → Bool) (words : ℕ → List ℕ) (r
   objects-room = omega (arith, objects-length n used sink words (w .narrow), sizes-of)
 
   roots-room : length (wordBytes roots) < 256 ^ 4
-  roots-room = omega (arith, length-words roots, sizes-of)
+  roots-room = omega (arith, length-numbers 4 roots, sizes-of)
 
   pub past-one : past 1 b ≡ chunk 2 objects₀ ++ (chunk 3 (wordBytes roots) ++ z)
   past-one = ap (past 1) whole ∙ chunk-past 1 sizes₀ _ sizes-room (omega arith)
@@ -254,7 +284,7 @@ module _ (n last : ℕ) (used sink : ℕ → Bool) (words : ℕ → List ℕ) (r
       numbered (savedRoot (wordBytes roots)) 0 roots 0 (λ i l.
       let e : 0 + i ≡ i = omega arith in
       rw e (ap (numberAt 4 (4 * i)) (sym (append-nil (wordBytes roots)))
-      ∙ word-at roots [] i (λ v m. root-small n v (used v) (sizes-of .most) (w .rooted v m)) l))
+      ∙ number-at 4 roots [] i (λ v m. root-small n v (used v) (sizes-of .most) (w .rooted v m)) l))
 
   pub roots-read : map (savedRoot (rootWords b)) (numbers 0 (imageR b)) ≡ roots
   roots-read = ap₂ (λ (o : List ℕ) (k : ℕ). map (savedRoot o) (numbers 0 k)) roots-body r-read ∙ roots-of
@@ -262,18 +292,29 @@ module _ (n last : ℕ) (used sink : ℕ → Bool) (words : ℕ → List ℕ) (r
   roots-ok : rootsOk n (length roots) objects₀ (wordBytes roots) ≡ true
   unfolding rootsOk
   roots-ok =
-      rw (roots-of, eq-eqb (length (wordBytes roots)) (4 * length roots) (length-words roots))
+      rw (roots-of, eq-eqb (length (wordBytes roots)) (4 * length roots) (length-numbers 4 roots))
       (allOf-all (λ v. isNil v || namesListed objects₀ n v) roots (λ v m. rw (names-is v) (w .rooted v m)))
+
+  -- ---- the sinks
+
+  pub as-sink-read : (x : ℕ) → Obj n x → savedAsSink (objects b) x ≡ sink x
+  as-sink-read x o = ap (λ (o : List ℕ). savedAsSink o x) objects-body ∙ as-sink-is n used sink words small x (o .0) (o .1) ∙ go (sink x) refl
+    where
+      go : (s : Bool) → sink x ≡ s → (used x && s) ≡ s
+      go true e = rw (w .sunk x e) refl
+      go false e = and-false (used x)
+
+  few-sinks : ltb sinkMax (count (imageN b) (savedAsSink (objects b))) ≡ false
+  few-sinks =
+      rw n-read (le-ltb sinkMax (count n (savedAsSink (objects b))) (omega (arith, count-ext n (savedAsSink (objects b)) sink as-sink-read, w .few)))
 
   -- ---- the tests
 
-  pub written-passes : Passed z → first (imageTests b) ≡ 0
+  -- whatever is behind the three chunks, if it passes
+  pub written-passes : ((f : ℕ) → first (chunkTests b f 3) ≡ 0) → first (imageTests b) ≡ 0
   unfolding imageTests
-  written-passes pz = from-first (suc (length b))
+  written-passes from-fourth = from-first (suc (length b))
     where
-      from-fourth : (f : ℕ) → first (chunkTests b f 3) ≡ 0
-      from-fourth f = passed-passes b f 0 z pz past-three
-
       from-third : (f : ℕ) → first (chunkTests b f 2) ≡ 0
       from-third zero = unfold chunkTests first in refl
       from-third (suc f) =
@@ -284,7 +325,7 @@ module _ (n last : ℕ) (used sink : ℕ → Bool) (words : ℕ → List ℕ) (r
       from-second zero = unfold chunkTests first in refl
       from-second (suc f) =
           chunk-passes b f 1 2 objects₀ (chunk 3 (wordBytes roots) ++ z) objects-room (omega arith) past-one
-          (unfold within misplaced known passed badBody in (rw (n-read, objects-body, objects-ok) refl)) (unfold within known in refl) (from-third f)
+          (unfold within misplaced known passed badBody in (rw (few-sinks, n-read, objects-body, objects-ok) refl)) (unfold within known in refl) (from-third f)
 
       from-first : (f : ℕ) → first (chunkTests b f 0) ≡ 0
       from-first zero = unfold chunkTests first in refl

@@ -3,18 +3,17 @@ use Prim.Native.Nat.{ℕ, _*_, _/_, min, max}
 use mathlib.Core.Bool.{not, _||_, cond}
 use mathlib.Core.List.{List, [], _∷_}
 use lib.Dec.{eqb, ltb}
-use lib.ListN.{take}
 use Rattle.layout.specs.declared.answers.Control.{Control}
 use Rattle.layout.specs.declared.answers.Analysed.{Analysed}
-use Rattle.layout.specs.Limits.{limitMin, limitMax, slotsLen, workLen}
+use Rattle.layout.specs.Limits.{limitMin, limitMax, workLen}
 use Rattle.records.specs.Record.{inUse}
 use Rattle.layout.specs.ControlRecord.{badControl, withAnalysis}
 use Rattle.layout.specs.Refusal.{Test, outcome}
 use Rattle.graph.specs.Numbers.{count}
 use Rattle.graph.specs.Analysis.{Rule}
 use Rattle.graph.specs.Analysis as Graph
-use Rattle.rules.specs.Buffers.{short, recOf, zeros}
-use Rattle.rules.specs.View.{view, encoded}
+use Rattle.rules.specs.Buffers.{short, shortHeap, recOf, zeros}
+use Rattle.rules.specs.View.{heapIn, startsIn, exactSets, encoded}
 use Rattle.rules.specs.WellFormed.{wellFormed}
 
 -- a new cluster with fewer members is deleted
@@ -58,23 +57,23 @@ limitAfter c recs = nextLimit c (usedCount (c .n) recs)
 pub record Outcome : Type 0 where
   pub answer : Analysed
   pub records : List ℕ
+  pub sets : List ℕ
   pub work : List ℕ
 
 -- an answer and the buffers after the call, as an outcome
-abbrev pub gives : Analysed → List ℕ → List ℕ → Outcome
-gives a recs work = record { answer = a; records = recs; work = work }
+abbrev pub gives : Analysed → List ℕ → List ℕ → List ℕ → Outcome
+gives a recs sets work = record { answer = a; records = recs; sets = sets; work = work }
 
-module _ (c : Control) (recs slots roots work : List ℕ) where
+module _ (c : Control) (recs slots roots list sets work : List ℕ) where
   -- its tests in their order ("From the state")
   unfoldable pub analyseTests : List Test
   analyseTests =
-      (20, badControl c)
-      ∷ (2, short (c .n) recs || short (slotsLen (c .n)) slots || short (c .r) roots || short (workLen (c .n)) work)
-      ∷ (21, not (wellFormed c recs slots roots)) ∷ []
+      (20, badControl c) ∷ (2, shortHeap (c .n) (c .r) recs slots roots list sets || short (workLen (c .n)) work)
+      ∷ (21, not (wellFormed c recs slots roots list sets)) ∷ []
 
-  -- the walk starts from the roots and from the sinks, which `Graph.analyse` adds
+  -- the heap and the counts after the analysis
   unfoldable pub analysed : Graph.Analysed
-  analysed = Graph.analyse rule (view (c .n) recs slots) (limitAfter c recs) (take (c .r) roots)
+  analysed = Graph.analyse rule (heapIn (c .n) recs slots list) (limitAfter c recs) (startsIn (c .r) roots)
 
   -- the outcome ("Analysis")
   unfoldable pub analyse : Outcome
@@ -83,5 +82,6 @@ module _ (c : Control) (recs slots roots work : List ℕ) where
       (let a = analysed in
       gives (record { refusal = 0; clusters = a .clusters; members = a .members; control = withAnalysis (limitAfter c recs) (a .outLoss) c })
       (encoded (a .heap) recs)
+      (exactSets (a .heap) sets)
       (zeros (workLen (c .n)) work))
-      (λ m. gives (record { refusal = m; clusters = 0; members = 0; control = c }) recs work)
+      (λ m. gives (record { refusal = m; clusters = 0; members = 0; control = c }) recs sets work)

@@ -1,15 +1,20 @@
 -- The lent buffers as lists of words ("The heap"): object i has record i - 1 and the slots from 8 (i - 1) on.
 use Prim.Native.Nat.{ℕ, zero, suc, _+_, _*_, _/_}
-use mathlib.Core.Bool.{Bool, true, _&&_}
+use mathlib.Core.Bool.{Bool, true, _&&_, _||_}
 use mathlib.Core.List.{List, [], _∷_}
 use lib.Dec.{ltb}
 use lib.ListN.{length, getD, take, drop}
-use Rattle.layout.specs.Limits.{widthMax, slotsLen}
+use Rattle.layout.specs.Limits.{widthMax, sinkMax, slotsLen}
 use Rattle.records.specs.Record.{width}
 
 -- refusal 2 of one slice: it has fewer than k words
 unfoldable pub short : ℕ → List ℕ → Bool
 short k l = ltb (length l) k
+
+-- one of the five slices that a heap has is too short for n objects and r roots
+unfoldable pub shortHeap : ℕ → ℕ → List ℕ → List ℕ → List ℕ → List ℕ → List ℕ → Bool
+shortHeap n r recs slots roots list sets =
+    short n recs || short (slotsLen n) slots || short r roots || short sinkMax list || short n sets
 
 -- ---- reading
 

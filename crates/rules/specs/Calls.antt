@@ -17,7 +17,7 @@ pub data Call : Type 0 where
   collect : (kind : Kind) (work map : List ℕ) → Call
   analyse : (work : List ℕ) → Call
   save : (out : List ℕ) → Call
-  load : (image records slots roots : List ℕ) → Call
+  load : (image records slots roots sinks sets : List ℕ) → Call
 
 -- the number of a refusal, or 0, and what the call answers; of a collection freed, kept and the words of the freed map, of a save its length
 pub data Answer : Type 0 where

@@ -4,13 +4,13 @@ use mathlib.Core.Bool.{Bool, not, _||_}
 use mathlib.Core.List.{List, [], _∷_}
 use Rattle.layout.specs.declared.answers.Control.{Control}
 use Rattle.layout.specs.declared.answers.Collected.{Collected}
-use Rattle.layout.specs.Limits.{slotsLen, workLen, mapLen}
+use Rattle.layout.specs.Limits.{workLen, mapLen}
 use Rattle.layout.specs.ControlRecord.{badControl}
 use Rattle.layout.specs.Refusal.{Test, outcome}
 use Rattle.graph.specs.Heap.{Heap}
 use Rattle.graph.specs.Trace.{reached, traced, keeps, unclustered}
-use Rattle.rules.specs.Buffers.{short, zeros}
-use Rattle.rules.specs.View.{view, startsIn}
+use Rattle.rules.specs.Buffers.{short, shortHeap, zeros}
+use Rattle.rules.specs.View.{heapIn, startsIn}
 use Rattle.rules.specs.WellFormed.{wellFormed}
 use Rattle.rules.specs.Sweep.{sweep}
 
@@ -42,33 +42,33 @@ pub record Outcome : Type 0 where
   pub answer : Collected
   pub records : List ℕ
   pub slots : List ℕ
+  pub sinks : List ℕ
+  pub sets : List ℕ
   pub work : List ℕ
   pub map : List ℕ
 
 -- an answer and the buffers after the call, as an outcome
-abbrev pub gives : Collected → List ℕ → List ℕ → List ℕ → List ℕ → Outcome
-gives a recs slots work map = record { answer = a; records = recs; slots = slots; work = work; map = map }
+abbrev pub gives : Collected → List ℕ → List ℕ → List ℕ → List ℕ → List ℕ → List ℕ → Outcome
+gives a recs slots list sets work map =
+    record { answer = a; records = recs; slots = slots; sinks = list; sets = sets; work = work; map = map }
 
 -- its tests in their order ("From the state")
-unfoldable pub collectTests : Control → List ℕ → List ℕ → List ℕ → List ℕ → List ℕ → List Test
-collectTests c recs slots roots work map =
+unfoldable pub collectTests : Control → List ℕ → List ℕ → List ℕ → List ℕ → List ℕ → List ℕ → List ℕ → List Test
+collectTests c recs slots roots list sets work map =
     (20, badControl c)
-    ∷ (
-      2,
-      short (c .n) recs || short (slotsLen (c .n)) slots || short (c .r) roots || short (workLen (c .n)) work || short (mapLen (c .n)) map,
-    )
-    ∷ (21, not (wellFormed c recs slots roots)) ∷ []
+    ∷ (2, shortHeap (c .n) (c .r) recs slots roots list sets || short (workLen (c .n)) work || short (mapLen (c .n)) map)
+    ∷ (21, not (wellFormed c recs slots roots list sets)) ∷ []
 
 -- what is left after a walk that told this: the sweep, and work cleared
-abbrev pub afterWalk : Control → List ℕ → List ℕ → List ℕ → List ℕ → Marking → Outcome
-afterWalk c recs slots work map t =
-    let s = sweep (c .n) recs slots map (t .kept) (t .heads) in
-    gives (record { refusal = 0; freed = s .freed; kept = s .kept; scanned = t .scanned; control = c }) (s .records) (s .slots)
+abbrev pub afterWalk : Control → List ℕ → List ℕ → List ℕ → List ℕ → List ℕ → List ℕ → Marking → Outcome
+afterWalk c recs slots list sets work map t =
+    let s = sweep (c .n) recs slots list sets map (t .kept) (t .heads) in
+    gives (record { refusal = 0; freed = s .freed; kept = s .kept; scanned = t .scanned; control = c }) (s .records) (s .slots) (s .sinks) (s .sets)
     (zeros (workLen (c .n)) work) (s .map)
 
 -- the outcome ("Collection")
-unfoldable pub collect : Kind → Control → List ℕ → List ℕ → List ℕ → List ℕ → List ℕ → Outcome
-collect kind c recs slots roots work map =
-    outcome (collectTests c recs slots roots work map)
-    (afterWalk c recs slots work map (trace kind (view (c .n) recs slots) (startsIn (c .n) (c .r) recs slots roots)))
-    (λ m. gives (record { refusal = m; freed = 0; kept = 0; scanned = 0; control = c }) recs slots work map)
+unfoldable pub collect : Kind → Control → List ℕ → List ℕ → List ℕ → List ℕ → List ℕ → List ℕ → List ℕ → Outcome
+collect kind c recs slots roots list sets work map =
+    outcome (collectTests c recs slots roots list sets work map)
+    (afterWalk c recs slots list sets work map (trace kind (heapIn (c .n) recs slots list) (startsIn (c .r) roots)))
+    (λ m. gives (record { refusal = m; freed = 0; kept = 0; scanned = 0; control = c }) recs slots list sets work map)

@@ -2,11 +2,12 @@
 use Prim.Native.Nat.{ℕ, zero, suc, _+_, _-_, _*_, _^_, _≤_, _<_, _/_, min, max}
 use mathlib.Core.Path.{_≡_}
 use mathlib.Core.Bool.{Bool, true, false, not, _&&_, _||_, cond}
-use mathlib.Core.List.{List, [], _∷_, _++_}
+use mathlib.Core.List.{List, [], _∷_, _++_, List·Memᴰ}
 use mathlib.Core.Logic.{_≢_, _⊎_, _↔_}
 use lib.Dec.{eqb, ltb}
 use lib.ListN.{length, getD, set, take, drop, replicate}
-use Rattle.layout.specs.Limits.{slotsLen, workLen, mapLen}
+use Rattle.layout.specs.Limits.{sinkMax, slotsLen, workLen, mapLen}
+use Rattle.layout.specs.Field.{flag}
 use Rattle.records.specs.Record.{inUse, isWritten, isSink, isOut, width, cluster, loose}
 use Rattle.bitmap.specs.Bits.{holds, numbersIn}
 use Rattle.layout.specs.ControlRecord.{newControl, withLast, withWriteLoss}
@@ -14,7 +15,7 @@ use Rattle.layout.specs.Refusal.{Test, first}
 use Rattle.layout.specs.declared.answers.Control.{Control}
 use Rattle.layout.specs.declared.answers.WordRead.{WordRead}
 use Rattle.layout.specs.declared.answers.Collected.{Collected}
-use Rattle.graph.specs.Numbers.{Obj, has, count, sum}
+use Rattle.graph.specs.Numbers.{Obj, has, count, sum, gather}
 use Rattle.graph.specs.Heap.{Heap, pointers, targets, withMembers, Reach}
 use Rattle.graph.specs.Clusters.{size, outsOf}
 use Rattle.graph.specs.Trace.{postponed, Walk, traced, unclustered}
@@ -23,8 +24,8 @@ use Rattle.graph.specs.Analysis as Graph
 use Rattle.graph.specs.DepthFirst.{Forms}
 use Rattle.graph.specs.Writes.{store, declare}
 use Rattle.rules.specs.Buffers.{recOf, eight, usedWords}
-use Rattle.rules.specs.View.{target, view, startsIn}
-use Rattle.rules.specs.WellFormed.{wellFormed}
+use Rattle.rules.specs.View.{target, heapIn, startsIn}
+use Rattle.rules.specs.WellFormed.{lists, wellFormed}
 use Rattle.rules.specs.Create as Create
 use Rattle.rules.specs.Allocate as Allocate
 use Rattle.rules.specs.Read as Read
@@ -36,13 +37,13 @@ use Rattle.rules.specs.Analyse.{rule}
 use Rattle.rules.specs.Analyse as Analyse
 use Rattle.rules.specs.Collect.{Kind, plainly, byClusters}
 use Rattle.rules.specs.Collect as Collect
-use Rattle.endian.specs.Bytes.{Octets}
-use Rattle.rules.specs.Image.{chunk}
+use Rattle.endian.specs.Bytes.{Octets, bytesOf}
+use Rattle.rules.specs.Image.{sinksKind, chunk}
 use Rattle.rules.specs.Save as Save
-use Rattle.rules.specs.Load.{imageN, imageR, imageTests}
+use Rattle.rules.specs.Load.{imageN, imageR, imageTests, loadedSinks}
 use Rattle.rules.specs.Load as Load
 use Rattle.rules.specs.Calls.{Call, allocate, allocateInPlace, read, show, write, writeInPlace, setRoot, declareSink, collect, analyse, save, load}
-use Rattle.rules.specs.Plain.{Plain, plainSize, plainWords, plainStarts, keptNumbers, plainCreated, plainStep, plainSlots, plainImage, plainLoaded}
+use Rattle.rules.specs.Plain.{Plain, plainSize, plainWords, plainSink, keptNumbers, plainCreated, plainStep, plainSlots, plainChunks, plainImage, plainLoaded}
 use Rattle.rules.specs.Steps.{State, created, loaded, step, answersOf, afterAll}
 use Rattle.rules.specs.PlainOf.{plainOf}
 
@@ -50,7 +51,7 @@ use Rattle.rules.specs.PlainOf.{plainOf}
 
 -- the order of the refusals, whatever the call but a save or a load
 abbrev pub order : List ℕ
-order = 1 ∷ 20 ∷ 2 ∷ 3 ∷ 4 ∷ 7 ∷ 21 ∷ 22 ∷ 5 ∷ 6 ∷ 23 ∷ 25 ∷ 24 ∷ []
+order = 1 ∷ 20 ∷ 2 ∷ 3 ∷ 4 ∷ 7 ∷ 21 ∷ 22 ∷ 29 ∷ 5 ∷ 6 ∷ 23 ∷ 25 ∷ 24 ∷ []
 
 -- that of a save: the second 2 is for too little space
 abbrev pub saveOrder : List ℕ
@@ -123,13 +124,15 @@ pub record Fresh (c : Control) (recs : List ℕ) : Type 0 where
 
 -- call by call, for all inputs: what a refused call gives, what an accepted one answers and stores, and which words never change
 pub record Demand1 : Type 0 where
-  pub created : (n r : ℕ) (recs slots roots : List ℕ)
-      → let o = Create.create n r recs slots roots in
-      Decided order (Create.createTests n r recs slots roots) o (λ o. o .answer .refusal)
-      (λ k. Create.gives (record { refusal = k; control = newControl 0 0 }) recs slots roots)
+  pub created : (n r : ℕ) (recs slots roots list sets : List ℕ)
+      → let o = Create.create n r recs slots roots list sets in
+      Decided order (Create.createTests n r recs slots roots list sets) o (λ o. o .answer .refusal)
+      (λ k. Create.gives (record { refusal = k; control = newControl 0 0 }) recs slots roots list sets)
       × Within n recs (o .records) × Within (slotsLen n) slots (o .slots) × Within r roots (o .roots)
+      × Within sinkMax list (o .sinks) × Within n sets (o .sets)
       × (o .answer .refusal ≡ 0
-      → (o .answer .control ≡ newControl n r) × Cleared n (o .records) × Cleared (slotsLen n) (o .slots) × Cleared r (o .roots))
+      → (o .answer .control ≡ newControl n r) × Cleared n (o .records) × Cleared (slotsLen n) (o .slots) × Cleared r (o .roots)
+      × Cleared sinkMax (o .sinks) × Cleared n (o .sets))
   pub allocated : (c : Control) (width : ℕ) (recs slots : List ℕ)
       → let o = Allocate.allocate c width recs slots in
       Decided order (Allocate.allocateTests c width recs slots) o (λ o. o .answer .refusal)
@@ -150,61 +153,64 @@ pub record Demand1 : Type 0 where
       × (o .answer .control ≡ c)
       × (o .answer .refusal ≡ 0 → (o .answer .start ≡ 8 * (i - 1)) × (o .answer .length ≡ width (recOf (c .n) recs i))
       × (o .answer .start + o .answer .length ≤ length slots) × (o .words ≡ take (o .answer .length) (drop (o .answer .start) slots)))
-  pub written : (c : Control) (i k w : ℕ) (recs slots : List ℕ)
-      → let o = Write.write c i k w recs slots in
-      Decided order (Write.writeTests c i k w recs slots) o (λ o. o .answer .refusal)
-      (λ m. Write.gives (record { refusal = m; control = c }) recs slots)
-      × Within (c .n) recs (o .records) × Within (slotsLen (c .n)) slots (o .slots)
+  pub written : (c : Control) (i k w : ℕ) (recs slots list sets : List ℕ)
+      → let o = Write.write c i k w recs slots list sets in
+      Decided order (Write.writeTests c i k w recs slots list sets) o (λ o. o .answer .refusal)
+      (λ m. Write.gives (record { refusal = m; control = c }) recs slots sets)
+      × Within (c .n) recs (o .records) × Within (slotsLen (c .n)) slots (o .slots) × Within (c .n) sets (o .sets)
       × (o .answer .control ≡ withWriteLoss (o .answer .control .«write_loss») c)
       × (o .answer .refusal ≡ 0 → Stored (8 * (i - 1) + k) w slots (o .slots) × Touches (c .n) i (recOf (c .n) recs) (recOf (c .n) (o .records)))
-      × (Write.writeInPlace c i k w recs slots ≡ Write.givesInPlace (o .answer .refusal) (o .answer .control) (o .records) (o .slots))
+      × (Write.writeInPlace c i k w recs slots list sets
+      ≡ Write.givesInPlace (o .answer .refusal) (o .answer .control) (o .records) (o .slots) (o .sets))
   pub rootSet : (c : Control) (j w : ℕ) (recs roots : List ℕ)
       → let o = SetRoot.setRoot c j w recs roots in
       Decided order (SetRoot.setRootTests c j w recs roots) o (λ o. o .answer .refusal) (λ k. SetRoot.gives (record { refusal = k; control = c }) roots)
       × Within (c .r) roots (o .roots) × (o .answer .control ≡ c) × (o .answer .refusal ≡ 0 → Stored j w roots (o .roots))
-  pub declared : (c : Control) (i : ℕ) (recs slots roots : List ℕ)
-      → let o = DeclareSink.declareSink c i recs slots roots in
-      Decided order (DeclareSink.declareTests c i recs slots roots) o (λ o. o .answer .refusal)
-      (λ k. DeclareSink.gives (record { refusal = k; control = c }) recs)
-      × Within (c .n) recs (o .records) × (o .answer .control ≡ c)
-  pub analysed : (c : Control) (recs slots roots work : List ℕ)
-      → let o = Analyse.analyse c recs slots roots work in
-      Decided order (Analyse.analyseTests c recs slots roots work) o (λ o. o .answer .refusal)
-      (λ k. Analyse.gives (record { refusal = k; clusters = 0; members = 0; control = c }) recs work)
-      × Within (c .n) recs (o .records) × Within (workLen (c .n)) work (o .work) × (o .answer .refusal ≡ 0 → Cleared (workLen (c .n)) (o .work))
+  pub declared : (c : Control) (i : ℕ) (recs slots roots list sets : List ℕ)
+      → let o = DeclareSink.declareSink c i recs slots roots list sets in
+      Decided order (DeclareSink.declareTests c i recs slots roots list sets) o (λ o. o .answer .refusal)
+      (λ k. DeclareSink.gives (record { refusal = k; control = c }) recs list sets)
+      × Within (c .n) recs (o .records) × Within sinkMax list (o .sinks) × Within (c .n) sets (o .sets) × (o .answer .control ≡ c)
+  pub analysed : (c : Control) (recs slots roots list sets work : List ℕ)
+      → let o = Analyse.analyse c recs slots roots list sets work in
+      Decided order (Analyse.analyseTests c recs slots roots list sets work) o (λ o. o .answer .refusal)
+      (λ k. Analyse.gives (record { refusal = k; clusters = 0; members = 0; control = c }) recs sets work)
+      × Within (c .n) recs (o .records) × Within (c .n) sets (o .sets) × Within (workLen (c .n)) work (o .work) × (o .answer .refusal ≡ 0 → Cleared (workLen (c .n)) (o .work))
   -- of either kind
-  pub collected : (kind : Kind) (c : Control) (recs slots roots work map : List ℕ)
-      → let o = Collect.collect kind c recs slots roots work map in
-      Decided order (Collect.collectTests c recs slots roots work map) o (λ o. o .answer .refusal)
-      (λ k. Collect.gives (record { refusal = k; freed = 0; kept = 0; scanned = 0; control = c }) recs slots work map)
-      × Within (c .n) recs (o .records) × Within (slotsLen (c .n)) slots (o .slots) × Within (workLen (c .n)) work (o .work)
+  pub collected : (kind : Kind) (c : Control) (recs slots roots list sets work map : List ℕ)
+      → let o = Collect.collect kind c recs slots roots list sets work map in
+      Decided order (Collect.collectTests c recs slots roots list sets work map) o (λ o. o .answer .refusal)
+      (λ k. Collect.gives (record { refusal = k; freed = 0; kept = 0; scanned = 0; control = c }) recs slots list sets work map)
+      × Within (c .n) recs (o .records) × Within (slotsLen (c .n)) slots (o .slots) × Within sinkMax list (o .sinks) × Within (c .n) sets (o .sets)
+      × Within (workLen (c .n)) work (o .work)
       × Within (mapLen (c .n)) map (o .map) × (o .answer .refusal ≡ 0 → Cleared (workLen (c .n)) (o .work)) × (o .answer .control ≡ c)
-  pub saved : (c : Control) (recs slots roots out : List ℕ)
-      → let o = Save.save c recs slots roots out in
-      Decided saveOrder (Save.saveTests c recs slots roots out) o (λ o. o .answer .refusal)
+  pub saved : (c : Control) (recs slots roots list sets out : List ℕ)
+      → let o = Save.save c recs slots roots list sets out in
+      Decided saveOrder (Save.saveTests c recs slots roots list sets out) o (λ o. o .answer .refusal)
       (λ k. Save.gives (record { refusal = k; length = 0; control = c }) out)
       × Within (o .answer .length) out (o .image) × (o .answer .control ≡ c)
-      × (o .answer .refusal ≡ 0 → (o .answer .length ≤ length out) × (o .answer .length ≤ 26 + 36 * c .n + 4 * c .r))
-  pub loaded : (image recs slots roots : List ℕ)
-      → let o = Load.load image recs slots roots in
-      Decided (loadOrder (suc (length image))) (Load.loadTests image recs slots roots) o (λ o. o .answer .refusal)
-      (λ k. Load.gives (record { refusal = k; control = newControl 0 0 }) recs slots roots)
+      × (o .answer .refusal ≡ 0 → (o .answer .length ≤ length out) × (o .answer .length ≤ 160 + 36 * c .n + 4 * c .r))
+  pub loaded : (image recs slots roots list sets : List ℕ)
+      → let o = Load.load image recs slots roots list sets in
+      Decided (loadOrder (suc (length image))) (Load.loadTests image recs slots roots list sets) o (λ o. o .answer .refusal)
+      (λ k. Load.gives (record { refusal = k; control = newControl 0 0 }) recs slots roots list sets)
       × Within (imageN image) recs (o .records) × Within (slotsLen (imageN image)) slots (o .slots) × Within (imageR image) roots (o .roots)
+      × Within sinkMax list (o .sinks) × Within (imageN image) sets (o .sets)
       × (o .answer .refusal ≡ 0 → Fresh (o .answer .control) (o .records))
   -- in every well-formed heap the walks of both collections and of the analysis, which make a number of steps, are then at their end
-  pub ends : (c : Control) (recs slots roots : List ℕ) → wellFormed c recs slots roots ≡ true
-      → let H = view (c .n) recs slots in
-      let from = startsIn (c .n) (c .r) recs slots roots in
+  pub ends : (c : Control) (recs slots roots list sets : List ℕ) → wellFormed c recs slots roots list sets ≡ true
+      → let H = heapIn (c .n) recs slots list in
+      let from = startsIn (c .r) roots in
       Ended H (traced H from) × Ended H (traced (unclustered H) from) × ((limit : ℕ) → 1 ≤ limit → finish H limit (begin H from) .todo ≡ [])
 
 -- ==== demand 2: what the calls do to objects and clusters, in every heap that they made and, where it is said, in any heap
 
 -- a state that an accepted create or load made, the latter of any image, and calls led to, accepted or refused, with any arguments and any buffers
 pub data Made : State → Type 0 where
-  new : {s : State} (n r : ℕ) (recs slots roots : List ℕ) → Create.create n r recs slots roots .answer .refusal ≡ 0
-      → s ≡ created n r recs slots roots → Made s
-  took : {s : State} (image recs slots roots : List ℕ) → Load.load image recs slots roots .answer .refusal ≡ 0
-      → s ≡ loaded image recs slots roots → Made s
+  new : {s : State} (n r : ℕ) (recs slots roots list sets : List ℕ) → Create.create n r recs slots roots list sets .answer .refusal ≡ 0
+      → s ≡ created n r recs slots roots list sets → Made s
+  took : {s : State} (image recs slots roots list sets : List ℕ) → Load.load image recs slots roots list sets .answer .refusal ≡ 0
+      → s ≡ loaded image recs slots roots list sets → Made s
   called : {s t : State} (call : Call) → Made s → t ≡ step call s .after → Made t
 
 -- the record of object x
@@ -215,41 +221,37 @@ recordIn s x = recOf (s .control .n) (s .records) x
 abbrev pub recordAfter : Call → State → ℕ → ℕ
 recordAfter call s x = recordIn (step call s .after) x
 
--- the heap that the buffers hold: pointers, sinks, written bits, clusters, out bits
+-- the heap that the buffers hold: pointers, sinks and their places, written bits, clusters, out bits
 abbrev pub heapOf : State → Heap
-heapOf s = view (s .control .n) (s .records) (s .slots)
+heapOf s = heapIn (s .control .n) (s .records) (s .slots) (s .sinks)
 
 -- the words that object x uses
 abbrev pub wordsOf : State → ℕ → List ℕ
 wordsOf s x = usedWords (s .control .n) (s .records) (s .slots) x
 
--- the roots
+-- the roots, where walks start
 abbrev pub rootsOf : State → List ℕ
 rootsOf s = take (s .control .r) (s .roots)
 
--- where walks start: the roots, then the sinks
-abbrev pub startsOf : State → List ℕ
-startsOf s = startsIn (s .control .n) (s .control .r) (s .records) (s .slots) (s .roots)
-
--- x is reached by pointers from a root or a sink
+-- x is reached by pointers from a root
 abbrev pub Reachable : State → ℕ → Type 0
-Reachable s x = Reach (targets (heapOf s)) (pointers (startsOf s)) x
+Reachable s x = Reach (targets (heapOf s)) (pointers (rootsOf s)) x
 
 -- ---- collections
 
 -- the outcome of a collection
 abbrev pub collected : State → Kind → List ℕ → List ℕ → Collect.Outcome
-collected s kind work map = Collect.collect kind (s .control) (s .records) (s .slots) (s .roots) work map
+collected s kind work map = Collect.collect kind (s .control) (s .records) (s .slots) (s .roots) (s .sinks) (s .sets) work map
 
 -- the objects that a collection is to keep: those that a path leads to; by clusters a path may also go from a head to a member
 abbrev pub KeptBy : Kind → State → ℕ → Type 0
 KeptBy plainly s x = Reachable s x
-KeptBy byClusters s x = Reach (withMembers (heapOf s)) (pointers (startsOf s)) x
+KeptBy byClusters s x = Reach (withMembers (heapOf s)) (pointers (rootsOf s)) x
 
 -- the objects that it scans: all that a plain one keeps; by clusters no more, and as many as the walk over the clusters scans
 abbrev pub Scans : State → Kind → Collected → Type 0
 Scans s plainly a = a .scanned ≡ a .kept
-Scans s byClusters a = (a .scanned ≤ a .kept) × (a .scanned ≡ traced (heapOf s) (startsOf s) .scanned)
+Scans s byClusters a = (a .scanned ≤ a .kept) × (a .scanned ≡ traced (heapOf s) (rootsOf s) .scanned)
 
 -- what an accepted collection with the outcome o does, if t is the state after it
 pub record Sweeps (s t : State) (kind : Kind) (o : Collect.Outcome) : Type 0 where
@@ -267,7 +269,9 @@ pub record Sweeps (s t : State) (kind : Kind) (o : Collect.Outcome) : Type 0 whe
       × (isWritten (recordIn t x) ≡ isWritten (recordIn s x)) × (isSink (recordIn t x) ≡ isSink (recordIn s x))
   pub stays : (x : ℕ) → recordIn t x ≢ 0 → recordIn t (cluster (recordIn s x)) ≢ 0 → cluster (recordIn t x) ≡ cluster (recordIn s x)
   pub goes : (x : ℕ) → recordIn t (cluster (recordIn s x)) ≡ 0 → cluster (recordIn t x) ≡ 0
-  pub formed : wellFormed (t .control) (t .records) (t .slots) (t .roots) ≡ true
+  -- the place of a freed sink is empty, and no other place changes
+  pub places : (k : ℕ) → k < sinkMax → let y = getD (s .sinks) k 0 in getD (t .sinks) k 0 ≡ cond (eqb (recordIn t y) 0) 0 y
+  pub formed : wellFormed (t .control) (t .records) (t .slots) (t .roots) (t .sinks) (t .sets) ≡ true
 
 -- and what it does in a heap that the calls made: either kind frees all that no path leads to, and no member of a cluster whose head it keeps
 pub record Collects (s : State) (kind : Kind) (work map : List ℕ) : Type 0 where
@@ -276,17 +280,19 @@ pub record Collects (s : State) (kind : Kind) (work map : List ℕ) : Type 0 whe
   pub stays : (x : ℕ) → recordAfter (collect kind work map) s (cluster (recordIn s x)) ≢ 0
       → cluster (recordAfter (collect kind work map) s x) ≡ cluster (recordIn s x)
 
--- both kinds leave the same records, slots and map
+-- both kinds leave the same records, slots, sinks, sets and map
 pub record SameEnd (s : State) (work map : List ℕ) : Type 0 where
   pub records : collected s plainly work map .records ≡ collected s byClusters work map .records
   pub slots : collected s plainly work map .slots ≡ collected s byClusters work map .slots
+  pub sinks : collected s plainly work map .sinks ≡ collected s byClusters work map .sinks
+  pub sets : collected s plainly work map .sets ≡ collected s byClusters work map .sets
   pub maps : collected s plainly work map .map ≡ collected s byClusters work map .map
 
 -- ---- clusters
 
 -- the outcome of an analysis
 abbrev pub analysed : State → List ℕ → Analyse.Outcome
-analysed s work = Analyse.analyse (s .control) (s .records) (s .slots) (s .roots) work
+analysed s work = Analyse.analyse (s .control) (s .records) (s .slots) (s .roots) (s .sinks) (s .sets) work
 
 -- the size limit that an analysis goes by: the one in the control record that it answers
 abbrev pub limitIn : State → List ℕ → ℕ
@@ -297,9 +303,9 @@ pub record Ruled (s : State) : Type 0 where
   pub analysed : (work : List ℕ) → analysed s work .answer .refusal ≡ 0
       → heapOf (step (analyse work) s .after)
       ≡ Graph.analyse rule (heapOf s) (limitIn s work) (rootsOf s) .heap
-  pub written : (i k w : ℕ) → Write.write (s .control) i k w (s .records) (s .slots) .answer .refusal ≡ 0
+  pub written : (i k w : ℕ) → Write.write (s .control) i k w (s .records) (s .slots) (s .sinks) (s .sets) .answer .refusal ≡ 0
       → heapOf (step (write i k w) s .after) ≡ store (heapOf s) i k (target (s .control .n) w)
-  pub declared : (i : ℕ) → DeclareSink.declareSink (s .control) i (s .records) (s .slots) (s .roots) .answer .refusal ≡ 0
+  pub declared : (i : ℕ) → DeclareSink.declareSink (s .control) i (s .records) (s .slots) (s .roots) (s .sinks) (s .sets) .answer .refusal ≡ 0
       → heapOf (step (declareSink i) s .after) ≡ declare (heapOf s) i
 
 -- the clusters of an analysis when its walk is over and none is deleted yet
@@ -373,11 +379,32 @@ pub record Writes (s : State) (i k w : ℕ) : Type 0 where
   pub unlost : (Dissolves s i k w → ⊥) → step (write i k w) s .after .control .«write_loss» ≡ s .control .«write_loss»
   pub fits : step (write i k w) s .after .control .«write_loss» ≤ s .control .n
 
--- what an accepted declaration does: the object becomes a sink, and the members of its cluster lose it
+-- no place before the first k of this list is empty
+abbrev pub FullTo : ℕ → List ℕ → Type 0
+FullTo k list = (j : ℕ) → j < k → getD list j 0 ≢ 0
+
+-- what an accepted declaration does: the object becomes a sink, the members of its cluster lose it, and a new sink gets the first empty place
 pub record Declares (s : State) (i : ℕ) : Type 0 where
   pub sinks : (x : ℕ) → isSink (recordAfter (declareSink i) s x) ≡ cond (eqb x i) true (isSink (recordIn s x))
   pub dissolved : (x : ℕ)
       → cluster (recordAfter (declareSink i) s x) ≡ cond (eqb (cluster (recordIn s x)) (cluster (recordIn s i))) 0 (cluster (recordIn s x))
+  pub places : isSink (recordIn s i) ≡ false
+      → (k : ℕ) × (k < sinkMax) × (getD (s .sinks) k 0 ≡ 0) × FullTo k (s .sinks) × (step (declareSink i) s .after .sinks ≡ set (s .sinks) k i)
+
+-- ---- the list of sinks and the sets
+
+-- object x is a member of the cluster of head h and points at y
+abbrev pub PointsFrom : State → ℕ → ℕ → ℕ → Type 0
+PointsFrom s h y x = Obj (s .control .n) x × (cluster (recordIn s x) ≡ h) × List·Memᴰ y (wordsOf s x)
+
+-- the 64 places have every sink, each once, and nothing else; bit k of the word of head h says whether a member points at the sink in place k
+pub record Lists (s : State) : Type 0 where
+  pub sinks : (k : ℕ) → k < sinkMax → getD (s .sinks) k 0 ≢ 0 → isSink (recordIn s (getD (s .sinks) k 0)) ≡ true
+  pub place : (x : ℕ) → isSink (recordIn s x) ≡ true → (k : ℕ) × (k < sinkMax) × (getD (s .sinks) k 0 ≡ x)
+  pub once : (j k : ℕ) → j < sinkMax → k < sinkMax → getD (s .sinks) j 0 ≢ 0 → getD (s .sinks) j 0 ≡ getD (s .sinks) k 0 → j ≡ k
+  pub bits : (h k : ℕ) → Obj (s .control .n) h → k < sinkMax
+      → (flag k (getD (s .sets) (h - 1) 0) ≡ true) ↔ ((getD (s .sinks) k 0 ≢ 0) × (x : ℕ) × PointsFrom s h (getD (s .sinks) k 0) x)
+  pub words : (h : ℕ) → Obj (s .control .n) h → getD (s .sets) (h - 1) 0 < 2 ^ 64
 
 -- ---- refusals
 
@@ -387,14 +414,19 @@ refusalOf (allocate width) s = Allocate.allocate (s .control) width (s .records)
 refusalOf (allocateInPlace width) s = Allocate.allocateInPlace (s .control) width (s .records) (s .slots) .answer .refusal
 refusalOf (read i k) s = Read.read (s .control) i k (s .records) (s .slots) .refusal
 refusalOf (show i) s = Show.show (s .control) i (s .records) (s .slots) .answer .refusal
-refusalOf (write i k w) s = Write.write (s .control) i k w (s .records) (s .slots) .answer .refusal
-refusalOf (writeInPlace i k w) s = Write.writeInPlace (s .control) i k w (s .records) (s .slots) .refusal
+refusalOf (write i k w) s = Write.write (s .control) i k w (s .records) (s .slots) (s .sinks) (s .sets) .answer .refusal
+refusalOf (writeInPlace i k w) s = Write.writeInPlace (s .control) i k w (s .records) (s .slots) (s .sinks) (s .sets) .refusal
 refusalOf (setRoot j w) s = SetRoot.setRoot (s .control) j w (s .records) (s .roots) .answer .refusal
-refusalOf (declareSink i) s = DeclareSink.declareSink (s .control) i (s .records) (s .slots) (s .roots) .answer .refusal
+refusalOf (declareSink i) s = DeclareSink.declareSink (s .control) i (s .records) (s .slots) (s .roots) (s .sinks) (s .sets) .answer .refusal
 refusalOf (collect kind work map) s = collected s kind work map .answer .refusal
 refusalOf (analyse work) s = analysed s work .answer .refusal
-refusalOf (save out) s = Save.save (s .control) (s .records) (s .slots) (s .roots) out .answer .refusal
-refusalOf (load image recs slots roots) s = Load.load image recs slots roots .answer .refusal
+refusalOf (save out) s = Save.save (s .control) (s .records) (s .slots) (s .roots) (s .sinks) (s .sets) out .answer .refusal
+refusalOf (load image recs slots roots list sets) s = Load.load image recs slots roots list sets .answer .refusal
+
+-- five buffers are long enough for n objects and r roots
+abbrev pub Long : ℕ → ℕ → List ℕ → List ℕ → List ℕ → List ℕ → List ℕ → Type 0
+Long n r recs slots roots list sets =
+    (n ≤ length recs) × (slotsLen n ≤ length slots) × (r ≤ length roots) × (sinkMax ≤ length list) × (n ≤ length sets)
 
 -- all of demand 2
 pub record Demand2 : Type 0 where
@@ -418,9 +450,13 @@ pub record Demand2 : Type 0 where
   pub again : (s : State) (i : ℕ) → isSink (recordIn s i) ≡ true → step (declareSink i) s .after ≡ s
   -- an analysis that is lent enough work is accepted
   pub accepts : (s : State) → Made s → (work : List ℕ) → workLen (s .control .n) ≤ length work → refusalOf (analyse work) s ≡ 0
-  -- the three buffers, handed on from call to call, are never too short
-  pub long : (s : State) → Made s
-      → (s .control .n ≤ length (s .records)) × (slotsLen (s .control .n) ≤ length (s .slots)) × (s .control .r ≤ length (s .roots))
+  -- a new sink is refused for want of a place exactly where 64 objects are sinks
+  pub full : (s : State) → Made s → (i : ℕ) → inUse (recordIn s i) ≡ true → isSink (recordIn s i) ≡ false
+      → (refusalOf (declareSink i) s ≡ 29) ↔ (count (s .control .n) (λ x. isSink (recordIn s x)) ≡ sinkMax)
+  -- the list has the sinks, and the sets are exact
+  pub lists : (s : State) → Made s → Lists s
+  -- the five buffers, handed on from call to call, are never too short
+  pub long : (s : State) → Made s → Long (s .control .n) (s .control .r) (s .records) (s .slots) (s .roots) (s .sinks) (s .sets)
   -- no call meets 20, 21 or 25
   pub unmet : (s : State) → Made s → (call : Call) → (refusalOf call s ≢ 20) × (refusalOf call s ≢ 21) × (refusalOf call s ≢ 25)
 
@@ -430,15 +466,11 @@ pub record Demand2 : Type 0 where
 abbrev pub LentCollection : ℕ → Call → Type 0
 LentCollection n call = (kind : Kind) (work map : List ℕ) → call ≡ collect kind work map → (workLen n ≤ length work) × (mapLen n ≤ length map)
 
--- three buffers are long enough for n objects and r roots
-abbrev pub Long : ℕ → ℕ → List ℕ → List ℕ → List ℕ → Type 0
-Long n r recs slots roots = (n ≤ length recs) × (slotsLen n ≤ length slots) × (r ≤ length roots)
-
 -- what a load is lent: buffers for the heap of its image, unless the image is refused
 abbrev pub LentLoad : Call → Type 0
 LentLoad call =
-    (image recs slots roots : List ℕ) → call ≡ load image recs slots roots → first (imageTests image) ≡ 0
-    → Long (imageN image) (imageR image) recs slots roots
+    (image recs slots roots list sets : List ℕ) → call ≡ load image recs slots roots list sets → first (imageTests image) ≡ 0
+    → Long (imageN image) (imageR image) recs slots roots list sets
 
 -- each call of a list, made from this plain heap on, is lent enough; an analysis and a save may be lent anything
 abbrev pub EachLent : List Call → Plain → Type 0
@@ -466,51 +498,71 @@ pub record Alike (calls : List Call) (s : State) (P : Plain) : Type 0 where
 -- all of demand 3
 abbrev pub Demand3 : Type 0
 Demand3 =
-    (n r : ℕ) (recs slots roots : List ℕ) → Create.create n r recs slots roots .answer .refusal ≡ 0
-    → (calls : List Call) → EachLent calls (plainCreated n r) → Alike calls (created n r recs slots roots) (plainCreated n r)
+    (n r : ℕ) (recs slots roots list sets : List ℕ) → Create.create n r recs slots roots list sets .answer .refusal ≡ 0
+    → (calls : List Call) → EachLent calls (plainCreated n r) → Alike calls (created n r recs slots roots list sets) (plainCreated n r)
 
--- and what the plain heap keeps in a collection is what pointers reach from its roots and sinks
+-- and what the plain heap keeps in a collection is what pointers reach from its roots
 abbrev pub PlainKeeps : Type 0
-PlainKeeps = (P : Plain) (x : ℕ) → Obj (plainSize P) x → (has x (keptNumbers P) ≡ true) ↔ Reach (plainWords P) (plainStarts P) x
+PlainKeeps = (P : Plain) (x : ℕ) → Obj (plainSize P) x → (has x (keptNumbers P) ≡ true) ↔ Reach (plainWords P) (P .roots) x
 
 -- ==== saves
 
 -- a save of this heap into these bytes
 abbrev pub savedBy : State → List ℕ → Save.Outcome
-savedBy s out = Save.save (s .control) (s .records) (s .slots) (s .roots) out
+savedBy s out = Save.save (s .control) (s .records) (s .slots) (s .roots) (s .sinks) (s .sets) out
 
 -- its image: as many of the bytes as it answers
 abbrev pub imageBy : State → List ℕ → List ℕ
 imageBy s out = take (savedBy s out .answer .length) (savedBy s out .image)
 
--- chunks of kinds from 0x8000 up, one after the other
+-- its sinks in the order of the list, empty places passed over
+abbrev pub listedIn : State → List ℕ
+listedIn s = pointers (take sinkMax (s .sinks))
+
+-- chunks that are passed over, one after the other: of kinds from 0x8000 up, but not of sinks
 pub data Passed : List ℕ → Type 0 where
   none : Passed []
-  more : (kind : ℕ) (body : List ℕ) {z : List ℕ} → 0x8000 ≤ kind → kind < 256 ^ 2 → length body < 256 ^ 4 → Passed z → Passed (chunk kind body ++ z)
+  more : (kind : ℕ) (body : List ℕ) {z : List ℕ} → kind ≢ sinksKind → 0x8000 ≤ kind → kind < 256 ^ 2 → length body < 256 ^ 4 → Passed z
+      → Passed (chunk kind body ++ z)
+
+-- what may stand behind the three chunks of a heap with these sinks, and the order that it gives them: without a chunk of sinks by number, and else as the one there lists them
+pub data Behind (n : ℕ) (sink : ℕ → Bool) : List ℕ → List ℕ → Type 0 where
+  unlisted : {z : List ℕ} → Passed z → Behind n sink (gather n sink (λ x. x ∷ [])) z
+  listed : {a z : List ℕ} (l : List ℕ) → Passed a → 1 ≤ length l → has 0 l ≡ false → lists n sink l ≡ true → Passed z
+      → Behind n sink l (a ++ (chunk sinksKind (bytesOf 2 l) ++ z))
 
 -- a save of a heap that the calls made, and a load of its image
 pub record Reloads : Type 0 where
-  -- the save is accepted where there is room, and its image is that of the plain heap
-  pub saves : (s : State) → Made s → (out : List ℕ) → length (plainImage (plainOf s)) ≤ length out
-      → (savedBy s out .answer .refusal ≡ 0) × (imageBy s out ≡ plainImage (plainOf s))
-  -- there is room wherever there is room for n objects of eight words and r roots
-  pub room : (s : State) → Made s → length (plainImage (plainOf s)) ≤ 26 + 36 * s .control .n + 4 * s .control .r
+  -- the save is accepted where there is room, and its image is that of the plain heap, with the sinks in the order of the list
+  pub saves : (s : State) → Made s → (out : List ℕ) → length (plainImage (plainOf s) (listedIn s)) ≤ length out
+      → (savedBy s out .answer .refusal ≡ 0) × (imageBy s out ≡ plainImage (plainOf s) (listedIn s))
+  -- there is room wherever there is room for n objects of eight words, r roots and 64 sinks
+  pub room : (s : State) → Made s → length (plainImage (plainOf s) (listedIn s)) ≤ 160 + 36 * s .control .n + 4 * s .control .r
   -- the image is loaded into any buffers that are long enough
-  pub loads : (s : State) → Made s → (out recs slots roots : List ℕ) → savedBy s out .answer .refusal ≡ 0
-      → Long (s .control .n) (s .control .r) recs slots roots → Load.load (imageBy s out) recs slots roots .answer .refusal ≡ 0
-  -- and every list of later calls gets the answers that it would have had
-  pub same : (s : State) → Made s → (out recs slots roots : List ℕ) → savedBy s out .answer .refusal ≡ 0
-      → Long (s .control .n) (s .control .r) recs slots roots → (calls : List Call) → EachLent calls (plainOf s)
-      → answersOf step calls (loaded (imageBy s out) recs slots roots) ≡ answersOf step calls s
-  -- chunks of kinds from 0x8000 up behind the image make no difference
-  pub passes : (s : State) → Made s → (z : List ℕ) → Passed z
-      → let b = plainImage (plainOf s) ++ z in (first (imageTests b) ≡ 0) × (plainLoaded b ≡ plainOf s)
-  -- and nothing else is accepted: an image that passes the tests is that of the plain heap which it holds, and such chunks
+  pub loads : (s : State) → Made s → (out recs slots roots list sets : List ℕ) → savedBy s out .answer .refusal ≡ 0
+      → Long (s .control .n) (s .control .r) recs slots roots list sets
+      → Load.load (imageBy s out) recs slots roots list sets .answer .refusal ≡ 0
+  -- and every list of later calls gets the answers that it would have had; of a later save that is its length: its bytes may have the sinks in another order
+  pub same : (s : State) → Made s → (out recs slots roots list sets : List ℕ) → savedBy s out .answer .refusal ≡ 0
+      → Long (s .control .n) (s .control .r) recs slots roots list sets → (calls : List Call) → EachLent calls (plainOf s)
+      → answersOf step calls (loaded (imageBy s out) recs slots roots list sets) ≡ answersOf step calls s
+  -- the loaded heap has the sinks in the same order, from the first place on
+  pub sinks : (s : State) → Made s → (out recs slots roots list sets : List ℕ) → savedBy s out .answer .refusal ≡ 0
+      → Long (s .control .n) (s .control .r) recs slots roots list sets
+      → take sinkMax (loaded (imageBy s out) recs slots roots list sets .sinks)
+      ≡ listedIn s ++ replicate (sinkMax - length (listedIn s)) 0
+  -- other chunks behind the three of the heap, and one of sinks among them or none, are accepted too, and the sinks are taken in the order that this gives
+  pub passes : (s : State) → Made s → (l z : List ℕ) → Behind (plainSize (plainOf s)) (plainSink (plainOf s)) l z
+      → let b = plainChunks (plainOf s) ++ z in (first (imageTests b) ≡ 0) × (plainLoaded b ≡ plainOf s) × (loadedSinks b ≡ l)
+  -- and nothing else is: an image that passes the tests is the chunks of the plain heap which it holds, and what may stand behind them
   pub exact : (image : List ℕ) → Octets image → first (imageTests image) ≡ 0
-      → (z : List ℕ) × Passed z × (image ≡ plainImage (plainLoaded image) ++ z)
+      → let P = plainLoaded image in (z : List ℕ) × Behind (plainSize P) (plainSink P) (loadedSinks image) z × (image ≡ plainChunks P ++ z)
   -- the heap that any accepted image makes is the plain heap that the image holds
-  pub holds : (image recs slots roots : List ℕ) → Load.load image recs slots roots .answer .refusal ≡ 0
-      → plainOf (loaded image recs slots roots) ≡ plainLoaded image
+  pub holds : (image recs slots roots list sets : List ℕ) → Load.load image recs slots roots list sets .answer .refusal ≡ 0
+      → plainOf (loaded image recs slots roots list sets) ≡ plainLoaded image
+  -- with its sinks in the first places, in the order that the image gives
+  pub places : (image recs slots roots list sets : List ℕ) → Load.load image recs slots roots list sets .answer .refusal ≡ 0
+      → take sinkMax (loaded image recs slots roots list sets .sinks) ≡ loadedSinks image ++ replicate (sinkMax - length (loadedSinks image)) 0
 
 -- ==== the same pointer held elsewhere
 

@@ -1,5 +1,5 @@
 -- The image of a heap ("Saves"): chunks, each the length of its body, its kind and its body.
-use Prim.Native.Nat.{ℕ, zero, suc, _+_, _-_, _*_}
+use Prim.Native.Nat.{ℕ, zero, suc, _+_, _-_, _*_, _/_, _%_}
 use mathlib.Core.Bool.{Bool, false, not, _&&_, _||_, cond}
 use mathlib.Core.List.{List, [], _∷_, _++_, map}
 use lib.Dec.{eqb, leb, ltb}
@@ -8,9 +8,10 @@ use Rattle.layout.specs.Field.{digit}
 use Rattle.layout.specs.Limits.{widthMax}
 use Rattle.layout.specs.ControlRecord.{badSizes}
 use Rattle.layout.specs.Word.{isNil, isPointer, isImmediate}
-use Rattle.endian.specs.Bytes.{bytes, numberAt, wordBytes}
-use Rattle.graph.specs.Numbers.{gather}
+use Rattle.endian.specs.Bytes.{bytes, numberAt, bytesOf, wordBytes}
+use Rattle.graph.specs.Numbers.{has, gather}
 use Rattle.rules.specs.Buffers.{allOf, allTo, numbers}
+use Rattle.rules.specs.WellFormed.{lists}
 
 -- the bytes of a chunk before its body: length and kind
 abbrev pub frontLen : ℕ
@@ -19,6 +20,10 @@ frontLen = 6
 -- the bytes of an object before its words: number, width, sink
 abbrev pub headLen : ℕ
 headLen = 4
+
+-- the kind of the chunk of sinks
+abbrev pub sinksKind : ℕ
+sinksKind = 0x8001
 
 -- ---- writing
 
@@ -38,10 +43,15 @@ objectBytes x sink words = bytes 2 x ++ (length words ∷ digit sink ∷ wordByt
 unfoldable pub objectsBody : ℕ → (ℕ → Bool) → (ℕ → Bool) → (ℕ → List ℕ) → List ℕ
 objectsBody n used sink words = gather n used (λ x. objectBytes x (sink x) (words x))
 
--- the whole image; the body of kind 3 is the roots
+-- the three chunks that every image has; the body of kind 3 is the roots
 unfoldable pub image : ℕ → ℕ → (ℕ → Bool) → (ℕ → Bool) → (ℕ → List ℕ) → List ℕ → List ℕ
 image n last used sink words roots =
     chunk 1 (sizesBody n (length roots) last) ++ chunk 2 (objectsBody n used sink words) ++ chunk 3 (wordBytes roots)
+
+-- the chunk of sinks behind them, in this order; a heap without sinks has none
+unfoldable pub sinksChunk : List ℕ → List ℕ
+sinksChunk [] = []
+sinksChunk (y ∷ l) = chunk sinksKind (bytesOf 2 (y ∷ l))
 
 -- ---- reading, of the bytes from a chunk on
 
@@ -119,6 +129,10 @@ module _ (body : List ℕ) where
   unfoldable pub savedSink : ℕ → ℕ
   savedSink x = getD (from x) 3 0
 
+  -- object x is listed as a sink
+  unfoldable pub savedAsSink : ℕ → Bool
+  savedAsSink x = listed x && eqb (savedSink x) 1
+
   -- its word k
   unfoldable pub savedWord : ℕ → ℕ → ℕ
   savedWord x k = numberAt 4 (headLen + 4 * k) (from x)
@@ -153,3 +167,14 @@ savedRoot body j = numberAt 4 (4 * j) body
 unfoldable pub rootsOk : ℕ → ℕ → List ℕ → List ℕ → Bool
 rootsOk n r objects body =
     eqb (length body) (4 * r) && allOf (λ w. isNil w || namesListed objects n w) (map (savedRoot body) (numbers 0 r))
+
+-- ---- reading, of a body of kind 0x8001
+
+-- the numbers in it, two bytes each
+unfoldable pub savedList : List ℕ → List ℕ
+savedList body = map (λ k. numberAt 2 (2 * k) body) (numbers 0 (length body / 2))
+
+-- it has whole numbers, at least one, and they are the sinks of 1 to n, each once
+unfoldable pub sinksOk : ℕ → (ℕ → Bool) → List ℕ → Bool
+sinksOk n sink body =
+    not (eqb (length body) 0) && eqb (length body % 2) 0 && not (has 0 (savedList body)) && lists n sink (savedList body)

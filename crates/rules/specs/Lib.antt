@@ -16,6 +16,7 @@ pub mod Collect
 pub mod Image
 pub mod Save
 pub mod Load
+pub mod FirstLoad
 -- ---- the plain heap and lists of calls
 pub mod Calls
 pub mod Plain

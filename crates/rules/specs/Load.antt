@@ -3,14 +3,15 @@ use Prim.Native.Nat.{ℕ, zero, suc, _+_, _/_, _%_}
 use mathlib.Core.Bool.{Bool, false, not, _&&_, _||_, cond}
 use mathlib.Core.List.{List, [], _∷_, _++_}
 use lib.Dec.{eqb, leb, ltb}
-use lib.ListN.{length}
+use lib.ListN.{length, getD}
 use Rattle.layout.specs.declared.answers.Done.{Done}
-use Rattle.layout.specs.Limits.{widthMax, slotsLen, within}
+use Rattle.layout.specs.Limits.{widthMax, sinkMax, slotsLen, within}
 use Rattle.layout.specs.ControlRecord.{newControl, withLast}
 use Rattle.layout.specs.Refusal.{Test, outcome}
 use Rattle.records.specs.Record.{newRecord, withSink}
-use Rattle.rules.specs.Buffers.{short, eachFrom, eachRecord}
-use Rattle.rules.specs.Image.{bodyOf, kindOf, past, cut, savedN, savedR, savedLast, sizesOk, listed, savedWidth, savedSink, savedWord, objectsOk, savedRoot, rootsOk}
+use Rattle.graph.specs.Numbers.{count, gather}
+use Rattle.rules.specs.Buffers.{shortHeap, eachFrom, eachRecord, zeros}
+use Rattle.rules.specs.Image.{sinksKind, bodyOf, kindOf, past, cut, savedN, savedR, savedLast, sizesOk, listed, savedWidth, savedSink, savedAsSink, savedWord, objectsOk, savedRoot, rootsOk, savedList, sinksOk}
 
 -- what load answers and leaves
 pub record Outcome : Type 0 where
@@ -18,16 +19,18 @@ pub record Outcome : Type 0 where
   pub records : List ℕ
   pub slots : List ℕ
   pub roots : List ℕ
+  pub sinks : List ℕ
+  pub sets : List ℕ
 
 -- an answer and the buffers after the call, as an outcome
-abbrev pub gives : Done → List ℕ → List ℕ → List ℕ → Outcome
-gives a recs slots roots = record { answer = a; records = recs; slots = slots; roots = roots }
+abbrev pub gives : Done → List ℕ → List ℕ → List ℕ → List ℕ → List ℕ → Outcome
+gives a recs slots roots list sets = record { answer = a; records = recs; slots = slots; roots = roots; sinks = list; sets = sets }
 
 -- a kind that has its place among the first three chunks
 unfoldable pub known : ℕ → Bool
 known k = within 1 3 k
 
--- a kind that is passed over behind them
+-- a kind that may be behind them: all but that of the sinks are passed over
 unfoldable pub passed : ℕ → Bool
 passed k = leb 0x8000 k
 
@@ -56,12 +59,21 @@ module _ (image : List ℕ) where
   abbrev pub imageR : ℕ
   imageR = savedR sizes
 
-  -- the body of chunk t breaks the layout or is no heap; behind the third any will do
+  -- the body of chunk t, of the first three, breaks the layout or is no heap, as with more than 64 sinks
   unfoldable pub badBody : ℕ → Bool
   badBody zero = not (sizesOk sizes)
-  badBody (suc zero) = not (objectsOk objects imageN)
+  badBody (suc zero) = not (objectsOk objects imageN) || ltb sinkMax (count imageN (savedAsSink objects))
   badBody (suc (suc zero)) = not (rootsOk imageN imageR objects rootWords)
   badBody (suc (suc (suc t))) = false
+
+  -- the body of the chunk of sinks among the chunks 3 to t - 1; no bytes where there is none
+  unfoldable pub sinksBefore : ℕ → List ℕ
+  sinksBefore zero = []
+  sinksBefore (suc t) = cond (leb 3 t && eqb (kindOf (past t image)) sinksKind) (bodyOf (past t image)) (sinksBefore t)
+
+  -- chunk t, of sinks, is a second one, or its body is not the sinks
+  unfoldable pub badSinks : ℕ → Bool
+  badSinks t = not (eqb (length (sinksBefore t)) 0) || not (sinksOk imageN (savedAsSink objects) (bodyOf (past t image)))
 
   -- the tests of the chunks from chunk t on, in number order at each; f is at least the number of chunks left
   unfoldable pub chunkTests : ℕ → ℕ → List Test
@@ -69,7 +81,8 @@ module _ (image : List ℕ) where
   chunkTests (suc f) t =
       let b = past t image in
       cond (eqb (length b) 0) ((26, ltb t 3) ∷ [])
-      ((26, cut b) ∷ (27, misplaced t (kindOf b) || (known (kindOf b) && badBody t)) ∷ (28, not (known (kindOf b)) && not (passed (kindOf b)))
+      ((26, cut b)
+      ∷ (27, misplaced t (kindOf b) || (known (kindOf b) && badBody t) || (eqb (kindOf b) sinksKind && badSinks t)) ∷ (28, not (known (kindOf b)) && not (passed (kindOf b)))
       ∷ chunkTests f (suc t))
 
   -- those of the whole image
@@ -84,10 +97,16 @@ module _ (image : List ℕ) where
   unfoldable pub loadedWord : ℕ → ℕ → ℕ
   loadedWord x k = cond (listed objects x && ltb k (savedWidth objects x)) (savedWord objects x k) 0
 
-  module _ (recs slots roots : List ℕ) where
+  -- the sinks: as their chunk lists them, and without one by number
+  unfoldable pub loadedSinks : List ℕ
+  loadedSinks =
+      let b = sinksBefore (suc (length image)) in
+      cond (eqb (length b) 0) (gather imageN (savedAsSink objects) (λ x. x ∷ [])) (savedList b)
+
+  module _ (recs slots roots list sets : List ℕ) where
     -- its tests in their order: slices that are too short come last
     unfoldable pub loadTests : List Test
-    loadTests = imageTests ++ ((2, short imageN recs || short (slotsLen imageN) slots || short imageR roots) ∷ [])
+    loadTests = imageTests ++ ((2, shortHeap imageN imageR recs slots roots list sets) ∷ [])
 
     -- limit and losses are 0; refused, it gives a control record of zeros
     unfoldable pub load : Outcome
@@ -96,5 +115,7 @@ module _ (image : List ℕ) where
         (gives (record { refusal = 0; control = withLast (savedLast sizes) (newControl imageN imageR) })
         (eachRecord imageN (λ x r. loadedRecord x) recs)
         (eachFrom 0 (slotsLen imageN) (λ j w. loadedWord (j / widthMax + 1) (j % widthMax)) slots)
-        (eachFrom 0 imageR (λ j w. savedRoot rootWords j) roots))
-        (λ k. gives (record { refusal = k; control = newControl 0 0 }) recs slots roots)
+        (eachFrom 0 imageR (λ j w. savedRoot rootWords j) roots)
+        (eachFrom 0 sinkMax (λ k y. getD loadedSinks k 0) list)
+        (zeros imageN sets))
+        (λ k. gives (record { refusal = k; control = newControl 0 0 }) recs slots roots list sets)

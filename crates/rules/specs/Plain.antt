@@ -4,7 +4,7 @@ use mathlib.Core.Bool.{Bool, true, false, not, cond, _&&_, _||_}
 use mathlib.Core.List.{List, [], _∷_, _++_, map}
 use lib.Dec.{leb, ltb, eqb}
 use lib.ListN.{length, getD, set, replicate}
-use Rattle.layout.specs.Limits.{widthMax, mapLen}
+use Rattle.layout.specs.Limits.{widthMax, sinkMax, mapLen}
 use Rattle.layout.specs.Word.{isNil, isPointer, legalWord}
 use Rattle.bitmap.specs.Bits.{wordOf}
 use Rattle.layout.specs.Refusal.{Test, outcome}
@@ -12,7 +12,7 @@ use Rattle.graph.specs.Numbers.{has, count, gather, lowest}
 use Rattle.graph.specs.Rounds.{rounds}
 use Rattle.rules.specs.Buffers.{eachFrom, numbers}
 use Rattle.rules.specs.Calls.{Call, allocate, allocateInPlace, read, show, write, writeInPlace, setRoot, declareSink, collect, analyse, save, load, Answer, gave, gotWord, gotWords, did, swept, savedAs}
-use Rattle.rules.specs.Image.{image, listed, savedSink, savedWords, savedRoot, savedLast}
+use Rattle.rules.specs.Image.{image, sinksChunk, listed, savedSink, savedWords, savedRoot, savedLast}
 use Rattle.rules.specs.Load.{imageTests, sizes, objects, rootWords, imageN, imageR}
 
 -- free, or an object: its words, as many as its width, and whether it is a sink
@@ -61,13 +61,17 @@ module _ (P : Plain) where
   unfoldable pub plainWords : ℕ → List ℕ
   plainWords x = wordsIn (cellAt (P .cells) x)
 
-  -- what the roots name, and the sinks
-  unfoldable pub plainStarts : List ℕ
-  plainStarts = P .roots ++ gather plainSize (λ x. isSink (cellAt (P .cells) x)) (λ x. x ∷ [])
-
-  -- what is kept: a path need pass no object twice, so n rounds find all
+  -- what is kept: a path from a root need pass no object twice, so n rounds find all
   unfoldable pub keptNumbers : List ℕ
-  keptNumbers = rounds plainSize plainWords plainSize plainStarts
+  keptNumbers = rounds plainSize plainWords plainSize (P .roots)
+
+  -- number x is a sink
+  unfoldable pub plainSink : ℕ → Bool
+  plainSink x = isSink (cellAt (P .cells) x)
+
+  -- the sinks, by number
+  unfoldable pub plainSinks : List ℕ
+  plainSinks = gather plainSize plainSink (λ x. x ∷ [])
 
   -- ---- tests
 
@@ -107,10 +111,13 @@ module _ (P : Plain) where
   unfoldable pub plainMap : List ℕ → List ℕ
   plainMap l = map (wordOf (plainFreed l)) (numbers 0 (mapLen plainSize))
 
--- its image ("Saves")
-unfoldable pub plainImage : Plain → List ℕ
-plainImage P =
-    image (plainSize P) (P .last) (λ x. not (isFree (cellAt (P .cells) x))) (λ x. isSink (cellAt (P .cells) x)) (plainWords P) (P .roots)
+-- the three chunks of its image ("Saves")
+unfoldable pub plainChunks : Plain → List ℕ
+plainChunks P = image (plainSize P) (P .last) (λ x. not (isFree (cellAt (P .cells) x))) (plainSink P) (plainWords P) (P .roots)
+
+-- its image with the sinks in this order
+unfoldable pub plainImage : Plain → List ℕ → List ℕ
+plainImage P sinks = plainChunks P ++ sinksChunk sinks
 
 -- number x of an image
 unfoldable pub cellFrom : List ℕ → ℕ → Cell
@@ -160,16 +167,19 @@ plainStep (setRoot j w) P =
     outcome ((7, leb (length (P .roots)) j) ∷ (6, not (isNil w || isPointer (plainSize P) w)) ∷ (23, namesFree P w) ∷ [])
     (answer (did 0) (record { last = P .last; roots = set (P .roots) j w; cells = P .cells }))
     (λ m. answer (did m) P)
-plainStep (declareSink i) P = outcome (objectTests P i) (answer (did 0) (withCell P i (object (plainWords P i) true))) (λ m. answer (did m) P)
+plainStep (declareSink i) P =
+    outcome (objectTests P i ++ ((29, not (plainSink P i) && leb sinkMax (length (plainSinks P))) ∷ []))
+    (answer (did 0) (withCell P i (object (plainWords P i) true)))
+    (λ m. answer (did m) P)
 plainStep (collect kind work map) P =
     let l = keptNumbers P in
     answer (swept 0 (count (plainSize P) (plainFreed P l)) (count (plainSize P) (λ x. has x l)) (plainMap P l))
     (record { last = P .last; roots = P .roots; cells = plainSwept P l })
 plainStep (analyse work) P = record { answers = []; after = P }
 plainStep (save out) P =
-    let b = plainImage P in
+    let b = plainImage P (plainSinks P) in
     outcome ((2, ltb (length out) (length b)) ∷ []) (answer (savedAs 0 (length b)) P) (λ m. answer (savedAs m 0) P)
-plainStep (load b recs slots roots) P = outcome (imageTests b) (answer (did 0) (plainLoaded b)) (λ m. answer (did m) P)
+plainStep (load b recs slots roots list sets) P = outcome (imageTests b) (answer (did 0) (plainLoaded b)) (λ m. answer (did m) P)
 
 -- the eight slots of a cell: its words, filled up with 0
 unfoldable pub eightOf : Cell → List ℕ

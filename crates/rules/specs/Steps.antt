@@ -19,66 +19,73 @@ use Rattle.rules.specs.Collect as Collect
 use Rattle.rules.specs.Save as Save
 use Rattle.rules.specs.Load as Load
 
--- the control record and the three buffers that are handed on from call to call
+-- the control record and the five buffers that are handed on from call to call
 pub record State : Type 0 where
   pub control : Control
   pub records : List ℕ
   pub slots : List ℕ
   pub roots : List ℕ
+  pub sinks : List ℕ
+  pub sets : List ℕ
 
 -- the state that create leaves
-unfoldable pub created : ℕ → ℕ → List ℕ → List ℕ → List ℕ → State
-created n r recs slots roots =
-    let o = Create.create n r recs slots roots in
-    record { control = o .answer .control; records = o .records; slots = o .slots; roots = o .roots }
+unfoldable pub created : ℕ → ℕ → List ℕ → List ℕ → List ℕ → List ℕ → List ℕ → State
+created n r recs slots roots list sets =
+    let o = Create.create n r recs slots roots list sets in
+    record { control = o .answer .control; records = o .records; slots = o .slots; roots = o .roots; sinks = o .sinks; sets = o .sets }
 
 -- the state that load leaves
-unfoldable pub loaded : List ℕ → List ℕ → List ℕ → List ℕ → State
-loaded image recs slots roots =
-    let o = Load.load image recs slots roots in
-    record { control = o .answer .control; records = o .records; slots = o .slots; roots = o .roots }
+unfoldable pub loaded : List ℕ → List ℕ → List ℕ → List ℕ → List ℕ → List ℕ → State
+loaded image recs slots roots list sets =
+    let o = Load.load image recs slots roots list sets in
+    record { control = o .answer .control; records = o .records; slots = o .slots; roots = o .roots; sinks = o .sinks; sets = o .sets }
 
 -- a call in a state: what the game sees of its answer, and the state after it, with the control record that the call answers or leaves in place
 unfoldable pub step : Call → State → Played State
 step (allocate width) s =
     let o = Allocate.allocate (s .control) width (s .records) (s .slots) in
     answer (gave (o .answer .refusal) (o .answer .object))
-    (record { control = o .answer .control; records = o .records; slots = o .slots; roots = s .roots })
+    (record { control = o .answer .control; records = o .records; slots = o .slots; roots = s .roots; sinks = s .sinks; sets = s .sets })
 step (allocateInPlace width) s =
     let o = Allocate.allocateInPlace (s .control) width (s .records) (s .slots) in
-    answer (gave (o .answer .refusal) (o .answer .object)) (record { control = o .control; records = o .records; slots = o .slots; roots = s .roots })
+    answer (gave (o .answer .refusal) (o .answer .object)) (record { control = o .control; records = o .records; slots = o .slots; roots = s .roots; sinks = s .sinks; sets = s .sets })
 step (read i k) s =
     let a = Read.read (s .control) i k (s .records) (s .slots) in
-    answer (gotWord (a .refusal) (a .word)) (record { control = a .control; records = s .records; slots = s .slots; roots = s .roots })
+    answer (gotWord (a .refusal) (a .word)) (record { control = a .control; records = s .records; slots = s .slots; roots = s .roots; sinks = s .sinks; sets = s .sets })
 step (show i) s =
     let o = Show.show (s .control) i (s .records) (s .slots) in
-    answer (gotWords (o .answer .refusal) (o .words)) (record { control = o .answer .control; records = s .records; slots = s .slots; roots = s .roots })
+    answer (gotWords (o .answer .refusal) (o .words)) (record { control = o .answer .control; records = s .records; slots = s .slots; roots = s .roots; sinks = s .sinks; sets = s .sets })
 step (write i k w) s =
-    let o = Write.write (s .control) i k w (s .records) (s .slots) in
-    answer (did (o .answer .refusal)) (record { control = o .answer .control; records = o .records; slots = o .slots; roots = s .roots })
+    let o = Write.write (s .control) i k w (s .records) (s .slots) (s .sinks) (s .sets) in
+    answer (did (o .answer .refusal))
+    (record { control = o .answer .control; records = o .records; slots = o .slots; roots = s .roots; sinks = s .sinks; sets = o .sets })
 step (writeInPlace i k w) s =
-    let o = Write.writeInPlace (s .control) i k w (s .records) (s .slots) in
-    answer (did (o .refusal)) (record { control = o .control; records = o .records; slots = o .slots; roots = s .roots })
+    let o = Write.writeInPlace (s .control) i k w (s .records) (s .slots) (s .sinks) (s .sets) in
+    answer (did (o .refusal)) (record { control = o .control; records = o .records; slots = o .slots; roots = s .roots; sinks = s .sinks; sets = o .sets })
 step (setRoot j w) s =
     let o = SetRoot.setRoot (s .control) j w (s .records) (s .roots) in
-    answer (did (o .answer .refusal)) (record { control = o .answer .control; records = s .records; slots = s .slots; roots = o .roots })
+    answer (did (o .answer .refusal)) (record { control = o .answer .control; records = s .records; slots = s .slots; roots = o .roots; sinks = s .sinks; sets = s .sets })
 step (declareSink i) s =
-    let o = DeclareSink.declareSink (s .control) i (s .records) (s .slots) (s .roots) in
-    answer (did (o .answer .refusal)) (record { control = o .answer .control; records = o .records; slots = s .slots; roots = s .roots })
+    let o = DeclareSink.declareSink (s .control) i (s .records) (s .slots) (s .roots) (s .sinks) (s .sets) in
+    answer (did (o .answer .refusal))
+    (record { control = o .answer .control; records = o .records; slots = s .slots; roots = s .roots; sinks = o .sinks; sets = o .sets })
 step (collect kind work map) s =
-    let o = Collect.collect kind (s .control) (s .records) (s .slots) (s .roots) work map in
+    let o = Collect.collect kind (s .control) (s .records) (s .slots) (s .roots) (s .sinks) (s .sets) work map in
     answer (swept (o .answer .refusal) (o .answer .freed) (o .answer .kept) (take (mapLen (s .control .n)) (o .map)))
-    (record { control = o .answer .control; records = o .records; slots = o .slots; roots = s .roots })
+    (record { control = o .answer .control; records = o .records; slots = o .slots; roots = s .roots; sinks = o .sinks; sets = o .sets })
 step (analyse work) s =
-    let o = Analyse.analyse (s .control) (s .records) (s .slots) (s .roots) work in
-    record { answers = []; after = record { control = o .answer .control; records = o .records; slots = s .slots; roots = s .roots } }
+    let o = Analyse.analyse (s .control) (s .records) (s .slots) (s .roots) (s .sinks) (s .sets) work in
+    record {
+      answers = [];
+      after = record { control = o .answer .control; records = o .records; slots = s .slots; roots = s .roots; sinks = s .sinks; sets = o .sets };
+    }
 step (save out) s =
-    let o = Save.save (s .control) (s .records) (s .slots) (s .roots) out in
-    answer (savedAs (o .answer .refusal) (o .answer .length)) (record { control = o .answer .control; records = s .records; slots = s .slots; roots = s .roots })
+    let o = Save.save (s .control) (s .records) (s .slots) (s .roots) (s .sinks) (s .sets) out in
+    answer (savedAs (o .answer .refusal) (o .answer .length)) (record { control = o .answer .control; records = s .records; slots = s .slots; roots = s .roots; sinks = s .sinks; sets = s .sets })
 -- where a load is refused the game goes on with the heap that it has
-step (load image recs slots roots) s =
-    let m = Load.load image recs slots roots .answer .refusal in
-    answer (did m) (by m (loaded image recs slots roots) (λ k. s))
+step (load image recs slots roots list sets) s =
+    let m = Load.load image recs slots roots list sets .answer .refusal in
+    answer (did m) (by m (loaded image recs slots roots list sets) (λ k. s))
 
 -- ---- lists of calls, of either heap
 

@@ -1,10 +1,13 @@
 -- The trials ("Trials"): calls from create on, or on buffers as they are given, and what comes of the last one, by computation.
 use Prim.Native.Nat.{ℕ, zero, suc, _+_, _*_}
 use mathlib.Core.List.{List, [], _∷_, _++_, map}
-use lib.ListN.{getD, replicate}
+use lib.ListN.{getD, take, replicate}
+use Rattle.layout.specs.Limits.{sinkMax}
 use Rattle.layout.specs.ControlRecord.{newControl, controlWith}
-use Rattle.records.specs.Record.{cluster}
+use Rattle.records.specs.Record.{isSink, cluster}
+use Rattle.graph.specs.Numbers.{gather}
 use Rattle.rules.specs.Buffers.{recOf, numbers}
+use Rattle.rules.specs.View.{heapIn, exactSets}
 use Rattle.rules.specs.Create as Create
 use Rattle.rules.specs.Allocate as Allocate
 use Rattle.rules.specs.Read as Read
@@ -37,22 +40,23 @@ answered (read i k) s =
 answered (show i) s =
     let o = Show.show (s .control) i (s .records) (s .slots) in
     o .answer .refusal ∷ o .words
-answered (write i k w) s = Write.write (s .control) i k w (s .records) (s .slots) .answer .refusal ∷ []
-answered (writeInPlace i k w) s = Write.writeInPlace (s .control) i k w (s .records) (s .slots) .refusal ∷ []
+answered (write i k w) s = Write.write (s .control) i k w (s .records) (s .slots) (s .sinks) (s .sets) .answer .refusal ∷ []
+answered (writeInPlace i k w) s = Write.writeInPlace (s .control) i k w (s .records) (s .slots) (s .sinks) (s .sets) .refusal ∷ []
 answered (setRoot j w) s = SetRoot.setRoot (s .control) j w (s .records) (s .roots) .answer .refusal ∷ []
-answered (declareSink i) s = DeclareSink.declareSink (s .control) i (s .records) (s .slots) (s .roots) .answer .refusal ∷ []
+answered (declareSink i) s = DeclareSink.declareSink (s .control) i (s .records) (s .slots) (s .roots) (s .sinks) (s .sets) .answer .refusal ∷ []
 answered (collect kind work map) s =
-    let o = Collect.collect kind (s .control) (s .records) (s .slots) (s .roots) work map in
+    let o = Collect.collect kind (s .control) (s .records) (s .slots) (s .roots) (s .sinks) (s .sets) work map in
     o .answer .refusal ∷ o .answer .freed ∷ o .answer .kept ∷ o .answer .scanned ∷ getD (o .map) 0 0 ∷ []
 answered (analyse work) s =
-    let a = Analyse.analyse (s .control) (s .records) (s .slots) (s .roots) work .answer in
+    let a = Analyse.analyse (s .control) (s .records) (s .slots) (s .roots) (s .sinks) (s .sets) work .answer in
     a .refusal ∷ a .clusters ∷ a .members ∷ a .control .limit ∷ a .control .«out_loss» ∷ []
 answered (save out) s =
-    let o = Save.save (s .control) (s .records) (s .slots) (s .roots) out in
+    let o = Save.save (s .control) (s .records) (s .slots) (s .roots) (s .sinks) (s .sets) out in
     o .answer .refusal ∷ o .answer .length ∷ o .image
-answered (load image recs slots roots) s =
-    let o = Load.load image recs slots roots in
-    (o .answer .refusal ∷ o .answer .control .n ∷ o .answer .control .r ∷ o .answer .control .last ∷ []) ++ o .records ++ o .slots ++ o .roots
+answered (load image recs slots roots list sets) s =
+    let o = Load.load image recs slots roots list sets in
+    (o .answer .refusal ∷ o .answer .control .n ∷ o .answer .control .r ∷ o .answer .control .last ∷ [])
+    ++ o .records ++ o .slots ++ o .roots ++ o .sinks ++ o .sets
 
 -- write loss, and the cluster of each object up to the last one given
 unfoldable pub standing : State → List ℕ
@@ -80,7 +84,7 @@ expected t = t .answers ∷ t .stands ∷ []
 
 -- a heap just created in buffers one word longer than asked for, and full of ones
 unfoldable pub new : ℕ → ℕ → State
-new n r = created n r (replicate (n + 1) 1) (replicate (8 * n + 1) 1) (replicate (r + 1) 1)
+new n r = created n r (replicate (n + 1) 1) (replicate (8 * n + 1) 1) (replicate (r + 1) 1) (replicate (sinkMax + 1) 1) (replicate (n + 1) 1)
 
 -- an analysis with just enough work
 unfoldable pub analysis : ℕ → Call
@@ -171,15 +175,27 @@ marked h =
 
 -- ---- heaps given as they are
 
--- records, slots and one root, with nothing past their lengths
-unfoldable pub stateWith : ℕ → ℕ → ℕ → List ℕ → List ℕ → ℕ → State
-stateWith n limit loss recs slots root =
+-- records, slots and one root, with nothing past their lengths, these sinks and these sets
+unfoldable pub stateOf : ℕ → ℕ → ℕ → List ℕ → List ℕ → ℕ → List ℕ → List ℕ → State
+stateOf n limit loss recs slots root list sets =
     record {
       control = controlWith n limit loss 0 (newControl n 1);
       records = recs;
       slots = slots;
       roots = root ∷ [];
+      sinks = list;
+      sets = sets;
     }
+
+-- a list of sinks, filled up with empty places
+unfoldable pub places : List ℕ → List ℕ
+places l = take sinkMax (l ++ replicate sinkMax 0)
+
+-- the same with the sinks listed by number, and exact sets
+unfoldable pub stateWith : ℕ → ℕ → ℕ → List ℕ → List ℕ → ℕ → State
+stateWith n limit loss recs slots root =
+    let list = places (gather n (λ x. isSink (recOf n recs x)) (λ x. x ∷ [])) in
+    stateOf n limit loss recs slots root list (exactSets (heapIn n recs slots list) (replicate n 0))
 
 -- the eight slots of an object with one pointer
 unfoldable pub one : ℕ → List ℕ
@@ -284,6 +300,89 @@ ownRows h =
     ∷ fresh full (write 1 0 2) (0 ∷ []) (2 ∷ 1 ∷ 1 ∷ [])
     ∷ []
 
+-- ---- the list of sinks and the sets
+
+-- a state, calls made from it, a last call, what it answers, the first four places of the list after it, and the set at head 1
+pub record Listing : Type 0 where
+  pub from : State
+  pub before : List Call
+  pub call : Call
+  pub answers : List ℕ
+  pub listed : List ℕ
+  pub atOne : ℕ
+
+-- what comes of it
+unfoldable pub listedAs : Listing → List (List ℕ)
+listedAs t =
+    let s = afterAll step (t .before) (t .from) in
+    let u = step (t .call) s .after in
+    answered (t .call) s ∷ take 4 (u .sinks) ∷ take 1 (u .sets) ∷ []
+
+-- what should come of it
+unfoldable pub listedAsGiven : Listing → List (List ℕ)
+listedAsGiven t = t .answers ∷ t .listed ∷ (t .atOne ∷ []) ∷ []
+
+-- such a row
+unfoldable pub listing : State → List Call → Call → List ℕ → List ℕ → ℕ → Listing
+listing s calls call answers listed atOne = record { from = s; before = calls; call = call; answers = answers; listed = listed; atOne = atOne }
+
+-- a world: 1 leads to 2, 3 and 4; 2 and 4 have type 5, 3 has type 6. The types are sinks, 6 in place 0 and 5 in place 1; 1 to 4 are a cluster
+unfoldable pub world : State
+world =
+    afterAll step
+    (allocate 3 ∷ allocate 1 ∷ allocate 1 ∷ allocate 1 ∷ allocate 0 ∷ allocate 0
+    ∷ write 1 0 2 ∷ write 1 1 3 ∷ write 1 2 4 ∷ write 2 0 5 ∷ write 3 0 6 ∷ write 4 0 5 ∷ setRoot 0 1
+    ∷ declareSink 6 ∷ declareSink 5 ∷ analysis 16 ∷ analysis 16 ∷ [])
+    (new 16 2)
+
+-- a cluster of 1 and 2 that is not connected: only 2, which nothing leads to, points at sink 3; 1 leads to 4, and 4 to 3
+unfoldable pub parted : State
+parted = stateWith 4 8 0 (recordWith 1 8 1 ∷ recordWith 1 0 1 ∷ recordWith 0 4 0 ∷ recordWith 1 0 0 ∷ []) (one 4 ++ one 3 ++ one 0 ++ one 3) 1
+
+-- that heap with another list and other sets
+unfoldable pub partedWith : List ℕ → ℕ → State
+partedWith list set =
+    stateOf 4 8 0 (recordWith 1 8 1 ∷ recordWith 1 0 1 ∷ recordWith 0 4 0 ∷ recordWith 1 0 0 ∷ []) (one 4 ++ one 3 ++ one 0 ++ one 3) 1
+    (places list) (set ∷ 0 ∷ 0 ∷ 0 ∷ [])
+
+-- the rows; w is the world
+unfoldable pub listingRows : State → List Listing
+listingRows w =
+    -- the types are reached through the set at head 1, and are the only ones scanned; when the world is left they are freed with it
+    listing w [] (clustered 16) (0 ∷ 0 ∷ 6 ∷ 2 ∷ 0 ∷ []) (6 ∷ 5 ∷ 0 ∷ 0 ∷ []) 3
+    ∷ listing w (setRoot 0 0 ∷ []) (clustered 16) (0 ∷ 6 ∷ 0 ∷ 0 ∷ 126 ∷ []) (0 ∷ 0 ∷ 0 ∷ 0 ∷ []) 0
+    ∷ listing w (setRoot 0 0 ∷ []) (plain 16) (0 ∷ 6 ∷ 0 ∷ 0 ∷ 126 ∷ []) (0 ∷ 0 ∷ 0 ∷ 0 ∷ []) 0
+    -- 2 loses its type, which 4 still has; then 4 loses it too
+    ∷ listing w [] (write 2 0 0) (0 ∷ []) (6 ∷ 5 ∷ 0 ∷ 0 ∷ []) 3
+    ∷ listing w (write 2 0 0 ∷ []) (write 4 0 0) (0 ∷ []) (6 ∷ 5 ∷ 0 ∷ 0 ∷ []) 1
+    ∷ listing w (write 2 0 0 ∷ write 4 0 0 ∷ []) (clustered 16) (0 ∷ 1 ∷ 5 ∷ 1 ∷ 32 ∷ []) (6 ∷ 0 ∷ 0 ∷ 0 ∷ []) 1
+    -- 6 is freed: its place is the first empty one, which the next sink gets
+    ∷ listing w (write 3 0 0 ∷ clustered 16 ∷ allocate 0 ∷ []) (declareSink 7) (0 ∷ []) (7 ∷ 5 ∷ 0 ∷ 0 ∷ []) 2
+    -- a member points at an object that becomes a sink; a member becomes one; one becomes one again
+    ∷ listing w (allocate 0 ∷ write 4 0 7 ∷ []) (declareSink 7) (0 ∷ []) (6 ∷ 5 ∷ 7 ∷ 0 ∷ []) 7
+    ∷ listing w [] (declareSink 2) (0 ∷ []) (6 ∷ 5 ∷ 2 ∷ 0 ∷ []) 0
+    ∷ listing w [] (declareSink 5) (0 ∷ []) (6 ∷ 5 ∷ 0 ∷ 0 ∷ []) 3
+    -- the cluster is dissolved: its set is empty
+    ∷ listing w [] (write 1 0 0) (0 ∷ []) (6 ∷ 5 ∷ 0 ∷ 0 ∷ []) 0
+    -- a plain collection frees the member that points at the sink, and its head stays; by clusters the member stays
+    ∷ listing parted [] (plain 4) (0 ∷ 1 ∷ 3 ∷ 3 ∷ 4 ∷ []) (3 ∷ 0 ∷ 0 ∷ 0 ∷ []) 0
+    ∷ listing parted [] (clustered 4) (0 ∷ 0 ∷ 4 ∷ 3 ∷ 0 ∷ []) (3 ∷ 0 ∷ 0 ∷ 0 ∷ []) 1
+    -- in another place; twice in the list, not in it, and with a number that is no sink; a bit too many, too few, and one at a number that heads nothing
+    ∷ listing (partedWith (0 ∷ 3 ∷ []) 2) [] (clustered 4) (0 ∷ 0 ∷ 4 ∷ 3 ∷ 0 ∷ []) (0 ∷ 3 ∷ 0 ∷ 0 ∷ []) 2
+    ∷ listing (partedWith (3 ∷ 3 ∷ []) 3) [] (clustered 4) (21 ∷ 0 ∷ 0 ∷ 0 ∷ 1 ∷ []) (3 ∷ 3 ∷ 0 ∷ 0 ∷ []) 3
+    ∷ listing (partedWith [] 0) [] (clustered 4) (21 ∷ 0 ∷ 0 ∷ 0 ∷ 1 ∷ []) (0 ∷ 0 ∷ 0 ∷ 0 ∷ []) 0
+    ∷ listing (partedWith (3 ∷ 4 ∷ []) 3) [] (clustered 4) (21 ∷ 0 ∷ 0 ∷ 0 ∷ 1 ∷ []) (3 ∷ 4 ∷ 0 ∷ 0 ∷ []) 3
+    ∷ listing (partedWith (3 ∷ []) 3) [] (clustered 4) (21 ∷ 0 ∷ 0 ∷ 0 ∷ 1 ∷ []) (3 ∷ 0 ∷ 0 ∷ 0 ∷ []) 3
+    ∷ listing (partedWith (3 ∷ []) 0) [] (clustered 4) (21 ∷ 0 ∷ 0 ∷ 0 ∷ 1 ∷ []) (3 ∷ 0 ∷ 0 ∷ 0 ∷ []) 0
+    -- a write goes by the list as it is: a number that is listed twice has both bits, one that is listed and no sink has its bit
+    ∷ listing (partedWith (3 ∷ 3 ∷ []) 0) [] (write 1 0 0) (0 ∷ []) (3 ∷ 3 ∷ 0 ∷ 0 ∷ []) 3
+    ∷ listing (partedWith (4 ∷ []) 0) [] (write 2 0 3) (0 ∷ []) (4 ∷ 0 ∷ 0 ∷ 0 ∷ []) 1
+    ∷ []
+
+-- a control record out of range, and no buffers
+unfoldable pub badControls : State
+badControls = stateOf 4096 0 0 [] [] 0 [] []
+
 -- ---- saves and loads, byte by byte
 
 -- object 1 points at 3 and holds an immediate, 2 is free, 3 is a sink of width 0; root 0 is 1
@@ -306,38 +405,63 @@ rootsChunk w = 4 ∷ 0 ∷ 0 ∷ 0 ∷ 3 ∷ 0 ∷ w ∷ 0 ∷ 0 ∷ 0 ∷ []
 unfoldable pub emptyChunk : ℕ → ℕ → List ℕ
 emptyChunk high low = 0 ∷ 0 ∷ 0 ∷ 0 ∷ low ∷ high ∷ []
 
+-- that of kind 0x8001, with this number
+unfoldable pub listChunk : ℕ → List ℕ
+listChunk y = 2 ∷ 0 ∷ 0 ∷ 0 ∷ 1 ∷ 0x80 ∷ y ∷ 0 ∷ []
+
+-- the three chunks that an image of it must have
+unfoldable pub pairChunks : List ℕ
+pairChunks = sizesChunk ++ objectsChunk 3 ++ rootsChunk 1
+
 -- its image
 unfoldable pub pairImage : List ℕ
-pairImage = sizesChunk ++ objectsChunk 3 ++ rootsChunk 1
+pairImage = pairChunks ++ listChunk 3
 
 -- a load into buffers one word longer than its heap, full of nines
 unfoldable pub loading : List ℕ → Call
-loading image = load image (replicate 4 9) (replicate 25 9) (replicate 2 9)
+loading image = load image (replicate 4 9) (replicate 25 9) (replicate 2 9) (replicate 65 9) (replicate 4 9)
 
 -- a load that is refused, with a control record of zeros and the buffers as they were
 unfoldable pub unloaded : ℕ → List ℕ → Trial
-unloaded k image = fresh pair (loading image) ((k ∷ 0 ∷ 0 ∷ 0 ∷ []) ++ replicate 4 9 ++ replicate 25 9 ++ replicate 2 9) (standing pair)
+unloaded k image = fresh pair (loading image) ((k ∷ 0 ∷ 0 ∷ 0 ∷ []) ++ replicate 100 9) (standing pair)
+
+-- a load of its image into buffers of these lengths, one of which is too short
+unfoldable pub shortLoad : ℕ → ℕ → ℕ → ℕ → ℕ → Trial
+shortLoad a b c d e =
+    fresh pair (load pairImage (replicate a 9) (replicate b 9) (replicate c 9) (replicate d 9) (replicate e 9))
+    ((2 ∷ 0 ∷ 0 ∷ 0 ∷ []) ++ replicate (a + b + c + d + e) 9) (standing pair)
+
+-- a load of an image of that heap
+unfoldable pub pairLoaded : State → List ℕ → Trial
+pairLoaded h image =
+    on h [] (loading image)
+    ((0 ∷ 3 ∷ 1 ∷ 3 ∷ 513 ∷ 0 ∷ 5 ∷ 9 ∷ 3 ∷ 0x80000005 ∷ replicate 22 0) ++ (9 ∷ 1 ∷ 9 ∷ 3 ∷ replicate 63 0) ++ (9 ∷ 0 ∷ 0 ∷ 0 ∷ 9 ∷ []))
+    (0 ∷ 0 ∷ 0 ∷ 0 ∷ [])
 
 -- saves, loads and their refusals; h is heap H
 unfoldable pub imageRows : State → List Trial
 imageRows h =
-    -- 46 bytes, and the one past them stays
-    fresh pair (save (replicate 47 9)) ((0 ∷ 46 ∷ []) ++ pairImage ++ (9 ∷ [])) (0 ∷ 0 ∷ 0 ∷ 0 ∷ [])
+    -- 54 bytes, and the one past them stays
+    fresh pair (save (replicate 55 9)) ((0 ∷ 54 ∷ []) ++ pairImage ++ (9 ∷ [])) (0 ∷ 0 ∷ 0 ∷ 0 ∷ [])
     -- one byte too few
-    ∷ fresh pair (save (replicate 45 9)) ((2 ∷ 0 ∷ []) ++ replicate 45 9) (0 ∷ 0 ∷ 0 ∷ 0 ∷ [])
+    ∷ fresh pair (save (replicate 53 9)) ((2 ∷ 0 ∷ []) ++ replicate 53 9) (0 ∷ 0 ∷ 0 ∷ 0 ∷ [])
     -- 20 and 2, 2 and 21, 21 and too little space
-    ∷ fresh (stateWith 4096 0 0 [] [] 0) (save []) (20 ∷ 0 ∷ []) (standing (stateWith 4096 0 0 [] [] 0))
+    ∷ fresh badControls (save []) (20 ∷ 0 ∷ []) (standing badControls)
     ∷ fresh (stateWith 2 0 0 (16 ∷ []) [] 0) (save []) (2 ∷ 0 ∷ []) (0 ∷ 0 ∷ 0 ∷ [])
     ∷ fresh (stateWith 1 0 0 (16 ∷ []) (one 0) 0) (save []) (21 ∷ 0 ∷ []) (0 ∷ 0 ∷ [])
     -- heap H loses its cluster, and its limit with it: a first analysis has nothing left
     ∷ on h (loading pairImage ∷ []) (analysis 3) (0 ∷ 0 ∷ 0 ∷ 8 ∷ 0 ∷ []) (0 ∷ 0 ∷ 0 ∷ 0 ∷ [])
-    -- the image loaded, alone and with two chunks behind it that are passed over
-    ∷ on h [] (loading pairImage)
-    (0 ∷ 3 ∷ 1 ∷ 3 ∷ 513 ∷ 0 ∷ 5 ∷ 9 ∷ 3 ∷ 0x80000005 ∷ (replicate 22 0 ++ (9 ∷ 1 ∷ 9 ∷ [])))
-    (0 ∷ 0 ∷ 0 ∷ 0 ∷ [])
-    ∷ on h [] (loading (pairImage ++ emptyChunk 0x80 0 ++ (1 ∷ 0 ∷ 0 ∷ 0 ∷ 0xFF ∷ 0xFF ∷ 7 ∷ [])))
-    (0 ∷ 3 ∷ 1 ∷ 3 ∷ 513 ∷ 0 ∷ 5 ∷ 9 ∷ 3 ∷ 0x80000005 ∷ (replicate 22 0 ++ (9 ∷ 1 ∷ 9 ∷ [])))
-    (0 ∷ 0 ∷ 0 ∷ 0 ∷ [])
+    -- the image loaded, alone, without its list, and with two chunks before the list that are passed over
+    ∷ pairLoaded h pairImage
+    ∷ pairLoaded h pairChunks
+    ∷ pairLoaded h (pairChunks ++ emptyChunk 0x80 0 ++ (1 ∷ 0 ∷ 0 ∷ 0 ∷ 0xFF ∷ 0xFF ∷ 7 ∷ []) ++ listChunk 3)
+    -- a list that is empty, has half a number, names no sink, names one twice, or comes twice; a sink that is not listed
+    ∷ unloaded 27 (pairChunks ++ emptyChunk 0x80 1)
+    ∷ unloaded 27 (pairChunks ++ (1 ∷ 0 ∷ 0 ∷ 0 ∷ 1 ∷ 0x80 ∷ 3 ∷ []))
+    ∷ unloaded 27 (pairChunks ++ listChunk 1)
+    ∷ unloaded 27 (pairChunks ++ (4 ∷ 0 ∷ 0 ∷ 0 ∷ 1 ∷ 0x80 ∷ 3 ∷ 0 ∷ 3 ∷ 0 ∷ []))
+    ∷ unloaded 27 (pairImage ++ listChunk 3)
+    ∷ unloaded 27 (pairChunks ++ listChunk 0)
     -- the input ends before its third chunk, in a front, or in a body; the length field at its greatest
     ∷ unloaded 26 []
     ∷ unloaded 26 (sizesChunk ++ objectsChunk 3)
@@ -359,10 +483,8 @@ imageRows h =
     ∷ unloaded 27 (pairImage ++ rootsChunk 1 ++ emptyChunk 0 4)
     ∷ unloaded 28 (pairImage ++ emptyChunk 0 4 ++ rootsChunk 1)
     -- 28 and 2, and 2 alone
-    ∷ fresh pair (load (pairImage ++ emptyChunk 0 4) [] [] []) (28 ∷ 0 ∷ 0 ∷ 0 ∷ []) (standing pair)
-    ∷ fresh pair (load pairImage (9 ∷ 9 ∷ []) (replicate 24 9) (9 ∷ [])) ((2 ∷ 0 ∷ 0 ∷ 0 ∷ []) ++ replicate 27 9) (standing pair)
-    ∷ fresh pair (load pairImage (replicate 3 9) (replicate 23 9) (9 ∷ [])) ((2 ∷ 0 ∷ 0 ∷ 0 ∷ []) ++ replicate 27 9) (standing pair)
-    ∷ fresh pair (load pairImage (replicate 3 9) (replicate 24 9) []) ((2 ∷ 0 ∷ 0 ∷ 0 ∷ []) ++ replicate 27 9) (standing pair)
+    ∷ fresh pair (load (pairImage ++ emptyChunk 0 4) [] [] [] [] []) (28 ∷ 0 ∷ 0 ∷ 0 ∷ []) (standing pair)
+    ∷ shortLoad 2 24 1 64 3 ∷ shortLoad 3 23 1 64 3 ∷ shortLoad 3 24 0 64 3 ∷ shortLoad 3 24 1 63 3 ∷ shortLoad 3 24 1 64 2
     ∷ []
 
 -- ---- two refusals that both hold: the first in the order is given
@@ -373,11 +495,7 @@ small a b = stateWith 2 0 0 (a ∷ b ∷ []) (one 2 ++ one 0) 1
 
 -- a sound control record, and no buffers
 unfoldable pub noBuffers : State
-noBuffers = stateWith 2 0 0 [] [] 0
-
--- a control record out of range, and no buffers
-unfoldable pub badControls : State
-badControls = stateWith 4096 0 0 [] [] 0
+noBuffers = stateOf 2 0 0 [] [] 0 [] []
 
 -- 1 and 2 are such a cluster, and 3 is free
 unfoldable pub lossy : State
@@ -422,6 +540,7 @@ refusals =
     ∷ refused (small 257 0) (write 3 0 0) (4 ∷ [])
     ∷ refused (small 257 0) (declareSink 3) (4 ∷ [])
     ∷ refused (small 257 0) (declareSink 2) (21 ∷ [])
+    ∷ refused (stateOf 2 0 0 (recordWith 0 0 0 ∷ 0 ∷ []) (replicate 16 0) 0 (replicate 64 0) (0 ∷ 0 ∷ [])) (declareSink 2) (22 ∷ [])
     -- 21 and 5, 22 and 5
     ∷ refused (small 16 0) (read 1 0) (21 ∷ 0 ∷ [])
     ∷ refused (small 16 0) (write 1 0 0) (21 ∷ [])
@@ -447,6 +566,10 @@ rows h = marked h ++ ownRows h ++ imageRows h ++ refusals
 unfoldable pub table : List Trial
 table = rows heapH
 
+-- the rows of the list and the sets
+unfoldable pub listings : List Listing
+listings = listingRows world
+
 -- create: 1 and 2 both hold, and 2 alone
 unfoldable pub createRefusals : List ℕ
-createRefusals = Create.create 0 1 [] [] [] .answer .refusal ∷ Create.create 1 1 [] [] [] .answer .refusal ∷ []
+createRefusals = Create.create 0 1 [] [] [] [] [] .answer .refusal ∷ Create.create 1 1 [] [] [] [] [] .answer .refusal ∷ []

@@ -2,17 +2,18 @@
 -- Assumes nothing.
 use Prim.Native.Nat.{ℕ, zero, suc, _+_, _-_, _*_, _/_, _%_, _≤_, _<_}
 use mathlib.Core.Path.{_≡_, refl, sym, ap, ap₂, _∙_}
-use mathlib.Core.Bool.{Bool, true, false, not, cond, _||_, or-false}
+use mathlib.Core.Bool.{Bool, true, false, not, cond, or-false}
 use mathlib.Core.Logic.{_≢_}
 use mathlib.Core.List.{List, [], _∷_, _++_, append-assoc, append-nil}
 use native.Mathlib.Nat.{add-zero}
 use native.Mathlib.Numerals.{add-one}
-use native.Mathlib.Decide.{decLe}
+use native.Mathlib.Decide.{decLe, ℕ-discrete}
 use native.Mathlib.Omega.{arith}
-use lib.ListN.{length, getD, take, drop, set, length-append, length-drop, drop-of-length-le}
+use lib.Dec.{eqb}
+use lib.ListN.{length, getD, take, drop, set, length-append, length-take, length-drop, drop-of-length-le}
 use lib.Seq.{sets, sets-eq, length-sets, take-suc, length-take-le, getD-drop}
 use borrow.Rule.Slice.PartMut.{putMid, post-is, midOf, mid-len}
-use borrow.Author.Tests.{lt-ltb, le-ltb, not-false}
+use borrow.Author.Tests.{eq-eqb, ne-eqb, lt-ltb, le-ltb, not-false}
 use Rattle.layout.specs.declared.answers.Control.{Control}
 use Rattle.layout.specs.ControlRecord.{badControl}
 use Rattle.layout.specs.Refusal.{Test, first}
@@ -20,26 +21,26 @@ use Rattle.layout.proofs.BoolLaws.{or-split}
 use Rattle.layout.proofs.ControlLaws.{control-facts}
 use Rattle.layout.proofs.RefusalLaws.{nil, cons, first-holds, first-fails, first-passed, first-front, first-skip, first-zero, outcome-zero, outcome-number}
 use Rattle.layout.specs.Field.{field, digit}
-use Rattle.layout.specs.Limits.{objectMax, rootMax, widthMax, slotsLen}
+use Rattle.layout.specs.Limits.{objectMax, rootMax, widthMax, sinkMax}
 use Rattle.records.specs.Record.{inUse, isSink, width}
-use Rattle.endian.specs.Bytes.{bytes, wordBytes}
-use Rattle.endian.proofs.BytesLaws.{length-bytes, length-words}
-use Rattle.rules.specs.Image.{headLen, chunk, sizesBody, objectBytes, objectsBody, image}
+use Rattle.endian.specs.Bytes.{bytes, bytesOf, wordBytes}
+use Rattle.endian.proofs.BytesLaws.{length-bytes, length-numbers}
+use Rattle.rules.specs.Image.{headLen, sinksKind, chunk, sizesBody, objectBytes, objectsBody, image, sinksChunk}
 use Rattle.graph.specs.Numbers.{sum, gather}
+use Rattle.graph.specs.Heap.{pointers}
 use Rattle.graph.proofs.NumberLaws.{sum-most}
-use Rattle.rules.specs.Buffers.{short, recOf, usedWords}
+use Rattle.graph.proofs.ReachLaws.{length-pointers}
+use Rattle.rules.specs.Buffers.{short, shortHeap, recOf, usedWords}
 use Rattle.rules.specs.WellFormed.{wellFormed}
-use Rattle.rules.specs.Save.{gives, heapImage, saveTests, save}
+use Rattle.rules.specs.Save.{gives, heapChunks, heapImage, saveTests, save}
 use Rattle.rules.proofs.ListLaws.{rec-get}
 use Rattle.rules.proofs.BufferLaws.{used-part}
 use Rattle.rules.proofs.WellFormedLaws.{formed-of, sane}
 use Rattle.rules.proofs.SaneLaws.{sane-width}
 use Rattle.rules.proofs.ImageLaws.{chunk-length}
-use Rattle.rules.proofs.WrittenLaws.{image-size}
-use Rattle.table.specs.Room.{heapShort}
 use Rattle.table.proofs.RoomLaws.{heap-long}
 use Rattle.wellformed.specs.Check.{heapTests}
-use Rattle.saves.specs.Saves.{recordLen, objectsLen, objectsTo, objectAt, Writable, ObjectRoom, ObjectPut, Savable}
+use Rattle.saves.specs.Saves.{recordLen, objectsLen, objectsTo, objectAt, sinksLen, Writable, ObjectRoom, ObjectPut, Savable}
 
 -- ---- stores
 
@@ -62,10 +63,15 @@ part-sets vs l a e q h =
     ap (λ (m : List ℕ). take a l ++ (vs ++ m)) (post-is a e l (omega arith) ∙ ap (λ (m : ℕ). drop m l) q)
     ∙ sym (append-assoc (take a l) vs (drop (a + length vs) l)) ∙ sym (sets-eq vs l a (omega arith))
 
-words-snoc : (l : List ℕ) (w : ℕ) → wordBytes (l ++ (w ∷ [])) ≡ wordBytes l ++ bytes 4 w
-unfolding wordBytes
-words-snoc [] w = append-nil (bytes 4 w)
-words-snoc (x ∷ l) w = ap (λ (r : List ℕ). bytes 4 x ++ r) (words-snoc l w) ∙ sym (append-assoc (bytes 4 x) (wordBytes l) (bytes 4 w))
+-- the bytes of two lists of numbers
+numbers-join : (k : ℕ) (l m : List ℕ) → bytesOf k (l ++ m) ≡ bytesOf k l ++ bytesOf k m
+unfolding bytesOf
+numbers-join k [] m = refl
+numbers-join k (x ∷ l) m = ap (λ (r : List ℕ). bytes k x ++ r) (numbers-join k l m) ∙ sym (append-assoc (bytes k x) (bytesOf k l) (bytesOf k m))
+
+one-number : (k v : ℕ) → bytesOf k (v ∷ []) ≡ bytes k v
+unfolding bytesOf
+one-number k v = append-nil (bytes k v)
 
 -- a word is put into its part
 pub word-part : (l : List ℕ) (at v : ℕ) → at + 4 ≤ length l → putMid at (at + 4 - at) l (sets (midOf at (at + 4 - at) l) 0 (bytes 4 v)) ≡ sets l at (bytes 4 v)
@@ -81,18 +87,18 @@ words-step b words from at j h =
     let d = drop from words in
     let w = getD words (from + j) 0 in
     let k : j < length d = (let x = length-drop from words in omega arith) in
-    let l : length (wordBytes (take j d)) ≡ 4 * j = length-words (take j d) ∙ ap (λ (m : ℕ). 4 * m) (length-take-le j d (omega arith)) in
+    let l : length (wordBytes (take j d)) ≡ 4 * j = length-numbers 4 (take j d) ∙ ap (λ (m : ℕ). 4 * m) (length-take-le j d (omega arith)) in
     sets-join (wordBytes (take j d)) (bytes 4 w) b at (at + 4 * j) (omega arith)
     ∙ ap (sets b at)
-    (sym (words-snoc (take j d) w)
+    (ap (λ (r : List ℕ). wordBytes (take j d) ++ r) (sym (one-number 4 w)) ∙ sym (numbers-join 4 (take j d) (w ∷ []))
     ∙ ap wordBytes (ap (λ (m : ℕ). take j d ++ (m ∷ [])) (sym (getD-drop from words j 0)) ∙ sym (ap (λ (m : ℕ). take m d) (add-one j) ∙ take-suc d j 0 k)))
 
 pub words-none : (b words : List ℕ) (from at : ℕ) → b ≡ sets b at (wordBytes (take 0 (drop from words)))
-unfolding wordBytes
+unfolding bytesOf
 words-none b words from at = refl
 
 pub roots-length : (r : ℕ) (roots : List ℕ) → r ≤ length roots → length (wordBytes (take r roots)) ≡ 4 * r
-roots-length r roots h = length-words (take r roots) ∙ ap (λ (m : ℕ). 4 * m) (length-take-le r roots h)
+roots-length r roots h = length-numbers 4 (take r roots) ∙ ap (λ (m : ℕ). 4 * m) (length-take-le r roots h)
 
 -- ---- a chunk: its front, and its body in the part behind
 pub chunk-put : (kind : ℕ) (body l : List ℕ) (at a e m : ℕ) → a ≡ at + 6 → e ≡ a + length body → m ≡ length body → e ≤ length l
@@ -199,7 +205,7 @@ module _ (i r : ℕ) (slots : List ℕ) (narrow : width r ≤ widthMax) (long : 
           ≡ cond b (headLen + 4 * width r) 0
       go true =
           length-append (bytes 2 (i + 1)) (length (take (width r) (drop (widthMax * i) slots)) ∷ digit (isSink r) ∷ wordBytes (take (width r) (drop (widthMax * i) slots)))
-          ∙ omega (arith, length-bytes 2 (i + 1), length-words (take (width r) (drop (widthMax * i) slots)), words-length)
+          ∙ omega (arith, length-bytes 2 (i + 1), length-numbers 4 (take (width r) (drop (widthMax * i) slots)), words-length)
       go false = refl
 
 module _ (n : ℕ) (recs : List ℕ) where
@@ -278,9 +284,119 @@ module _ (n : ℕ) (recs slots : List ℕ) where
         let j : i ≡ n = omega arith in
         e ∙ ap (λ (k : ℕ). sets b 0 (objectsTo n recs slots k)) j ∙ sets-all (objectsTo n recs slots n) b (omega (arith, to-length n (omega arith)))
 
+-- ---- the list of sinks
+
+-- one place more
+place-more : (l : List ℕ) (y : ℕ) → pointers (l ++ (y ∷ [])) ≡ pointers l ++ pointers (y ∷ [])
+unfolding pointers
+place-more [] y = refl
+place-more (x ∷ l) y = go (eqb x 0) (place-more l y)
+  where
+    go : (b : Bool) → pointers (l ++ (y ∷ [])) ≡ pointers l ++ pointers (y ∷ [])
+        → cond b (pointers (l ++ (y ∷ []))) (x ∷ pointers (l ++ (y ∷ []))) ≡ cond b (pointers l) (x ∷ pointers l) ++ pointers (y ∷ [])
+    go true e = e
+    go false e = ap (λ (r : List ℕ). x ∷ r) e
+
+pub place-empty : (y : ℕ) → y ≡ 0 → pointers (y ∷ []) ≡ []
+unfolding pointers
+place-empty y e = rw (eq-eqb y 0 e) refl
+
+pub place-filled : (y : ℕ) → y ≢ 0 → pointers (y ∷ []) ≡ y ∷ []
+unfolding pointers
+place-filled y d = rw (ne-eqb y 0 d) refl
+
+pub place-most : (y : ℕ) → length (pointers (y ∷ [])) ≤ 1
+place-most y = go (ℕ-discrete y 0)
+  where
+    go : Dec (y ≡ 0) → length (pointers (y ∷ [])) ≤ 1
+    go (yes e) = rw (place-empty y e) (omega arith)
+    go (no d) = rw (place-filled y d) (omega arith)
+
+module _ (list : List ℕ) where
+  -- the sinks in the first i places
+  abbrev pub firstSinks : ℕ → List ℕ
+  firstSinks i = pointers (take i list)
+
+  pub sinks-none : firstSinks 0 ≡ []
+  unfolding pointers
+  sinks-none = refl
+
+  pub sinks-start : (b : List ℕ) → b ≡ sets b 0 (bytesOf 2 (firstSinks 0))
+  unfolding pointers bytesOf
+  sinks-start b = refl
+
+  pub sinks-step : (i : ℕ) → i < length list → firstSinks (i + 1) ≡ firstSinks i ++ pointers (getD list i 0 ∷ [])
+  sinks-step i h = ap pointers (ap (λ (m : ℕ). take m list) (add-one i) ∙ take-suc list i 0 h) ∙ place-more (take i list) (getD list i 0)
+
+  pub count-step : (i : ℕ) → i < length list → length (firstSinks (i + 1)) ≡ length (firstSinks i) + length (pointers (getD list i 0 ∷ []))
+  count-step i h = ap length (sinks-step i h) ∙ length-append (firstSinks i) (pointers (getD list i 0 ∷ []))
+
+  pub count-most : (i : ℕ) → length (firstSinks i) ≤ i
+  count-most i = omega (arith, length-pointers (take i list), length-take i list)
+
+  -- the places behind i list no fewer
+  pub count-mono : (i k : ℕ) → i + k ≤ length list → length (firstSinks i) ≤ length (firstSinks (i + k))
+  count-mono i zero h = let e : i + 0 ≡ i = omega arith in rw e (omega arith)
+  count-mono i (suc k) h =
+      let r = count-mono i k (omega arith) in
+      let e : i + suc k ≡ i + k + 1 = omega arith in
+      rw e (omega (arith, count-step (i + k) (omega arith), r))
+
+  -- a turn of the loop over the places
+  pub sinks-turn : (i at : ℕ) (b : List ℕ) → i < length list → at ≡ 2 * length (firstSinks i)
+      → sets (sets b 0 (bytesOf 2 (firstSinks i))) at (bytesOf 2 (pointers (getD list i 0 ∷ []))) ≡ sets b 0 (bytesOf 2 (firstSinks (i + 1)))
+  sinks-turn i at b h e =
+      sets-join (bytesOf 2 (firstSinks i)) (bytesOf 2 (pointers (getD list i 0 ∷ []))) b 0 at (omega (arith, e, length-numbers 2 (firstSinks i)))
+      ∙ ap (sets b 0) (sym (ap (bytesOf 2) (sinks-step i h) ∙ numbers-join 2 (firstSinks i) (pointers (getD list i 0 ∷ []))))
+
+  pub sinks-room : (i at : ℕ) → i < 64 → 64 ≤ length list → at ≡ 2 * length (firstSinks i) → at + 2 * length (pointers (getD list i 0 ∷ [])) ≤ 2 * length (firstSinks 64)
+  sinks-room i at p h e =
+      let m : i + 1 + (63 - i) ≡ 64 = omega arith in
+      let r = count-mono (i + 1) (63 - i) (omega arith) in
+      omega (arith, e, count-step i (omega arith), r, ap (λ (k : ℕ). length (firstSinks k)) m)
+
+-- a sink in its place
+pub place-put : (y at : ℕ) (body body′ : List ℕ) → y ≢ 0 → body′ ≡ sets body at (bytes 2 y)
+    → (at + 2 ≡ at + 2 * length (pointers (y ∷ []))) × (body′ ≡ sets body at (bytesOf 2 (pointers (y ∷ []))))
+place-put y at body body′ d e = rw (place-filled y d) (refl, e ∙ ap (sets body at) (sym (one-number 2 y)))
+
+pub place-skip : (y at : ℕ) (body : List ℕ) → y ≡ 0 → (at ≡ at + 2 * length (pointers (y ∷ []))) × (body ≡ sets body at (bytesOf 2 (pointers (y ∷ []))))
+unfolding bytesOf
+place-skip y at body e = rw (place-empty y e) (omega arith, refl)
+
+-- their chunk
+pub len-zero : (k : ℕ) → k ≡ 0 → 0 ≡ sinksLen k
+unfolding sinksLen
+len-zero k e = sym (ap sinksLen e)
+
+pub len-some : (k : ℕ) → k ≢ 0 → 6 + 2 * k ≡ sinksLen k
+unfolding sinksLen
+len-some zero d = absurd (d refl)
+len-some (suc k) d = refl
+
+pub sinks-small : (k : ℕ) → k ≤ sinkMax → sinksLen k ≤ 134
+unfolding sinksLen
+sinks-small zero p = omega arith
+sinks-small (suc k) p = omega arith
+
+pub chunk-none : (l : List ℕ) → length l ≡ 0 → sinksChunk l ≡ []
+unfolding sinksChunk
+chunk-none [] e = refl
+chunk-none (y ∷ l) e = absurd (omega arith)
+
+pub chunk-some : (l : List ℕ) → length l ≢ 0 → sinksChunk l ≡ chunk sinksKind (bytesOf 2 l)
+unfolding sinksChunk
+chunk-some [] d = absurd (d refl)
+chunk-some (y ∷ l) d = refl
+
+sinks-chunk-length : (l : List ℕ) → length (sinksChunk l) ≡ sinksLen (length l)
+unfolding sinksLen sinksChunk
+sinks-chunk-length [] = refl
+sinks-chunk-length (y ∷ l) = chunk-length sinksKind (bytesOf 2 (y ∷ l)) ∙ omega (arith, length-numbers 2 (y ∷ l))
+
 -- ---- the whole image
 
-module _ (c : Control) (len : ℕ) (recs slots roots : List ℕ) (S : Savable c len recs slots roots) where
+module _ (c : Control) (len k : ℕ) (recs slots roots list : List ℕ) (S : Savable c len k recs slots roots list) where
   abbrev sizes : List ℕ
   sizes = chunk 1 (sizesBody (c .n) (c .r) (c .last))
 
@@ -297,87 +413,106 @@ module _ (c : Control) (len : ℕ) (recs slots roots : List ℕ) (S : Savable c 
   objects-len =
       chunk-length 2 (objectsTo (c .n) recs slots (c .n)) ∙ ap (λ (k : ℕ). 6 + k) (to-length (c .n) recs slots (S .heap) (c .n) (omega arith) ∙ sym (S .len-is))
 
-  image-parts : heapImage c recs slots roots ≡ sizes ++ objects ++ rooted
-  unfolding heapImage image objectsTo
-  image-parts = ap (λ (k : ℕ). chunk 1 (sizesBody (c .n) k (c .last)) ++ objects ++ rooted) (length-take-le (c .r) roots (S .roots-long))
+  abbrev sunk : List ℕ
+  sunk = sinksChunk (pointers (take sinkMax list))
 
-  pub image-length : length (heapImage c recs slots roots) ≡ 26 + len + 4 * c .r
-  unfolding heapImage objectsTo
+  rooted-len : length rooted ≡ 6 + 4 * c .r
+  rooted-len = chunk-length 3 (wordBytes (take (c .r) roots)) ∙ ap (λ (m : ℕ). 6 + m) (roots-length (c .r) roots (S .roots-long))
+
+  sunk-len : length sunk ≡ sinksLen k
+  sunk-len = sinks-chunk-length (pointers (take sinkMax list)) ∙ ap sinksLen (sym (S .listed))
+
+  image-parts : heapImage c recs slots roots list ≡ sizes ++ objects ++ rooted ++ sunk
+  unfolding heapImage heapChunks image objectsTo
+  image-parts = ap (λ (m : ℕ). chunk 1 (sizesBody (c .n) m (c .last)) ++ objects ++ rooted ++ sunk) (length-take-le (c .r) roots (S .roots-long))
+
+  pub image-length : length (heapImage c recs slots roots list) ≡ 26 + len + 4 * c .r + sinksLen k
   image-length =
-      image-size (c .n) (λ x. inUse (recOf (c .n) recs x)) (λ x. isSink (recOf (c .n) recs x)) (usedWords (c .n) recs slots) (c .last) (take (c .r) roots)
-      ∙ omega (arith, to-length (c .n) recs slots (S .heap) (c .n) (omega arith), S .len-is, length-take-le (c .r) roots (S .roots-long))
+      ap length image-parts
+      ∙ omega (arith, length-append (sizes ++ objects ++ rooted) sunk, length-append (sizes ++ objects) rooted, length-append sizes objects, sizes-len, objects-len, rooted-len, sunk-len)
+
+  pub list-few : k ≤ sinkMax
+  list-few = omega (arith, S .listed, count-most list sinkMax)
 
   -- it is short enough for a word
-  pub image-small : 26 + len + 4 * c .r ≤ 26 + 64 * objectMax + 4 * rootMax
-  image-small = omega (arith, len-most (c .n) recs (c .n), S .heap .room .most, S .few, S .len-is)
+  pub image-small : 26 + len + 4 * c .r + sinksLen k ≤ 26 + 64 * objectMax + 4 * rootMax + 134
+  image-small = omega (arith, len-most (c .n) recs (c .n), S .heap .room .most, S .few, S .len-is, sinks-small k list-few)
 
-  pub image-put : (out : List ℕ) → sets (sets (sets out 0 sizes) 14 objects) (20 + len) rooted ≡ sets out 0 (heapImage c recs slots roots)
-  image-put out =
-      ap (λ (m : List ℕ). sets m (20 + len) rooted) (sets-join sizes objects out 0 14 (omega (arith, sizes-len)))
-      ∙ sets-join (sizes ++ objects) rooted out 0 (20 + len) (omega (arith, length-append sizes objects, sizes-len, objects-len)) ∙ ap (sets out 0) (sym image-parts)
+  pub image-put : (out one two three four : List ℕ) → one ≡ sets out 0 sizes → two ≡ sets one 14 objects → three ≡ sets two (20 + len) rooted
+      → four ≡ sets three (20 + len + 6 + 4 * c .r) sunk → four ≡ sets out 0 (heapImage c recs slots roots list)
+  image-put out one two three four e f g h =
+      h
+      ∙ ap (λ (m : List ℕ). sets m (20 + len + 6 + 4 * c .r) sunk)
+      (g
+      ∙ ap (λ (m : List ℕ). sets m (20 + len) rooted) (f ∙ ap (λ (m : List ℕ). sets m 14 objects) e ∙ sets-join sizes objects out 0 14 (omega (arith, sizes-len)))
+      ∙ sets-join (sizes ++ objects) rooted out 0 (20 + len) (omega (arith, length-append sizes objects, sizes-len, objects-len)))
+      ∙ sets-join (sizes ++ objects ++ rooted) sunk out 0 (20 + len + 6 + 4 * c .r)
+      (omega (arith, length-append (sizes ++ objects) rooted, length-append sizes objects, sizes-len, objects-len, rooted-len)) ∙ ap (sets out 0) (sym image-parts)
 
 -- ---- the call
 
-module _ (c : Control) (recs slots roots out : List ℕ) where
+module _ (c : Control) (recs slots roots list clusterSets out : List ℕ) where
   abbrev answer : ℕ
-  answer = first (heapTests c recs slots roots false)
+  answer = first (heapTests c recs slots roots list clusterSets false)
 
   abbrev last-test : List Test
-  last-test = (2, short (length (heapImage c recs slots roots)) out) ∷ []
+  last-test = (2, short (length (heapImage c recs slots roots list)) out) ∷ []
 
-  save-tests : saveTests c recs slots roots out ≡ heapTests c recs slots roots false ++ last-test
-  unfolding saveTests heapTests heapShort
+  save-tests : saveTests c recs slots roots list clusterSets out ≡ heapTests c recs slots roots list clusterSets false ++ last-test
+  unfolding saveTests heapTests
   save-tests =
-      ap (λ (b : Bool). (20, badControl c) ∷ (2, b) ∷ (21, not (wellFormed c recs slots roots)) ∷ last-test)
-      (sym (or-false (short (c .n) recs || short (slotsLen (c .n)) slots || short (c .r) roots)))
+      ap (λ (b : Bool). (20, badControl c) ∷ (2, b) ∷ (21, not (wellFormed c recs slots roots list clusterSets)) ∷ last-test)
+      (sym (or-false (shortHeap (c .n) (c .r) recs slots roots list clusterSets)))
 
-  pub refused : (k : ℕ) → k ≡ answer → k ≢ 0 → gives (record { refusal = k; length = 0; control = c }) out ≡ save c recs slots roots out
+  pub refused : (k : ℕ) → k ≡ answer → k ≢ 0 → gives (record { refusal = k; length = 0; control = c }) out ≡ save c recs slots roots list clusterSets out
   unfolding save
   refused k e d =
-      sym (outcome-number _ _ (saveTests c recs slots roots out) k (ap first save-tests ∙ first-front (heapTests c recs slots roots false) last-test (λ z. d (e ∙ z)) ∙ sym e) d)
+      sym (outcome-number _ _ (saveTests c recs slots roots list clusterSets out) k (ap first save-tests ∙ first-front (heapTests c recs slots roots list clusterSets false) last-test (λ z. d (e ∙ z)) ∙ sym e) d)
 
   module _ (k : ℕ) (e : k ≡ answer) (z : k ≡ 0) where
-    passed : first (saveTests c recs slots roots out) ≡ first last-test
+    passed : first (saveTests c recs slots roots list clusterSets out) ≡ first last-test
     unfolding heapTests
     passed =
         ap first save-tests
-        ∙ first-skip (heapTests c recs slots roots false) last-test
-        (first-zero (heapTests c recs slots roots false) (cons (omega arith) (cons (omega arith) (cons (omega arith) nil))) (sym e ∙ z))
+        ∙ first-skip (heapTests c recs slots roots list clusterSets false) last-test
+        (first-zero (heapTests c recs slots roots list clusterSets false) (cons (omega arith) (cons (omega arith) (cons (omega arith) nil))) (sym e ∙ z))
 
-    pub savable : (len : ℕ) → len ≡ objectsLen (c .n) recs (c .n) → Savable c len recs slots roots
+    pub savable : (len m : ℕ) → len ≡ objectsLen (c .n) recs (c .n) → m ≡ length (pointers (take sinkMax list)) → Savable c len m recs slots roots list
     unfolding heapTests
-    savable len q =
+    savable len m q p =
         let a = first-passed 19 _ _ (sym e ∙ z) in
         let b = first-passed 1 _ _ (a .1) in
-        let l = heap-long (c .n) (c .r) recs slots roots (or-split _ _ (b .0) .0) in
+        let l = heap-long (c .n) (c .r) recs slots roots list clusterSets (or-split _ _ (b .0) .0) in
         let s = control-facts c (a .0) .sizes in
         record {
           heap = record {
-            room = record { most = s .most; recs-long = l .0; slots-long = l .1 };
-            widths = sane-width (sane _ _ _ _ _ (formed-of c recs slots roots (not-false _ (first-passed 20 _ _ (b .1) .0))));
+            room = record { most = s .most; recs-long = l .recs-long; slots-long = l .slots-long };
+            widths = sane-width (sane _ _ _ _ _ (formed-of c recs slots roots list clusterSets (not-false _ (first-passed 20 _ _ (b .1) .0))));
           };
           few = s .roots;
-          roots-long = l .2;
+          roots-long = l .roots-long;
           len-is = q;
+          list-long = l .sinks-long;
+          listed = p;
         }
 
-    module _ (len : ℕ) (q : len ≡ objectsLen (c .n) recs (c .n)) where
-      pub too-small : length out < 26 + len + 4 * c .r → gives (record { refusal = 2; length = 0; control = c }) out ≡ save c recs slots roots out
+    module _ (len m : ℕ) (q : len ≡ objectsLen (c .n) recs (c .n)) (p : m ≡ length (pointers (take sinkMax list))) where
+      pub too-small : length out < 26 + len + 4 * c .r + sinksLen m → gives (record { refusal = 2; length = 0; control = c }) out ≡ save c recs slots roots list clusterSets out
       unfolding save short
       too-small h =
-          let b = heapImage c recs slots roots in
+          let b = heapImage c recs slots roots list in
           sym
-          (outcome-number _ _ (saveTests c recs slots roots out) 2
-          (passed ∙ first-holds 2 [] (short (length b) out) (lt-ltb (length out) (length b) (omega (arith, image-length c len recs slots roots (savable len q)))))
+          (outcome-number _ _ (saveTests c recs slots roots list clusterSets out) 2
+          (passed ∙ first-holds 2 [] (short (length b) out) (lt-ltb (length out) (length b) (omega (arith, image-length c len m recs slots roots list (savable len m q p)))))
           (λ z. omega arith))
 
-      pub saved : 26 + len + 4 * c .r ≤ length out → (out′ : List ℕ) → out′ ≡ sets out 0 (heapImage c recs slots roots)
-          → gives (record { refusal = 0; length = 26 + len + 4 * c .r; control = c }) out′ ≡ save c recs slots roots out
+      pub saved : 26 + len + 4 * c .r + sinksLen m ≤ length out → (out′ : List ℕ) → out′ ≡ sets out 0 (heapImage c recs slots roots list)
+          → gives (record { refusal = 0; length = 26 + len + 4 * c .r + sinksLen m; control = c }) out′ ≡ save c recs slots roots list clusterSets out
       unfolding save short first
       saved h out′ s =
-          let b = heapImage c recs slots roots in
-          let m = image-length c len recs slots roots (savable len q) in
-          ap₂ (λ (j : ℕ) (l : List ℕ). gives (record { refusal = 0; length = j; control = c }) l) (sym m) (s ∙ sets-front b out (omega arith))
+          let b = heapImage c recs slots roots list in
+          let e = image-length c len m recs slots roots list (savable len m q p) in
+          ap₂ (λ (j : ℕ) (l : List ℕ). gives (record { refusal = 0; length = j; control = c }) l) (sym e) (s ∙ sets-front b out (omega arith))
           ∙ sym
-          (outcome-zero _ _ (saveTests c recs slots roots out)
+          (outcome-zero _ _ (saveTests c recs slots roots list clusterSets out)
           (passed ∙ first-fails 2 [] (short (length b) out) (le-ltb (length out) (length b) (omega arith))))

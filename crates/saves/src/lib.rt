@@ -1,24 +1,30 @@
-// Save ("Saves"): the heap as three chunks. Each body is written into the part of the image after its length and kind.
+// Save ("Saves"): the heap as three chunks, and a fourth that lists its sinks if it has any. Each body is written into the part of the image after its length and kind.
 ghost use mathlib.Core.Path.{_≡_};
 ghost use Prim.Native.Nat.{_+_, _*_, _≤_, _<_};
 ghost use mathlib.Core.List.{[], _∷_, _++_};
 ghost use lib.ListN.{length, take, drop};
 ghost use lib.Seq.{sets};
 ghost use Rattle.layout.specs.Field.{digit};
-ghost use Rattle.endian.specs.Bytes.{bytes, wordBytes};
-ghost use Rattle.rules.specs.Image.{frontLen, chunk, sizesBody};
+ghost use Rattle.layout.specs.Limits.{sinkMax};
+ghost use Rattle.endian.specs.Bytes.{bytes, bytesOf, wordBytes};
+ghost use Rattle.graph.specs.Heap.{pointers};
+ghost use Rattle.rules.specs.Image.{frontLen, chunk, sizesBody, sinksChunk};
 ghost use Rattle.rules.specs.Save.{heapImage};
 ghost use Rattle.rules.specs.Save as Save;
-ghost use Rattle.saves.specs.Saves.{recordLen, objectsLen, objectsTo, Writable, ObjectRoom, ObjectPut, Savable};
+ghost use Rattle.saves.specs.Saves.{recordLen, objectsLen, objectsTo, sinksLen, Writable, ObjectRoom, ObjectPut, Savable};
 use endian::put2;
 use endian::put4;
 use layout::answers::Control;
 use layout::answers::Saved;
+use layout::limits::SINK_MAX;
 use layout::refusals::TOO_SHORT;
 use records::in_use;
 use records::is_sink;
 use records::width_of;
 use wellformed::heap_refusal;
+
+// The kind of the chunk of sinks.
+const SINKS: u32 = 0x8001;
 
 // ---- lengths
 
@@ -42,6 +48,36 @@ fn objects_len(n: u32, records: &[u32]) -> u32
         i += 1;
     }
     total
+}
+
+// How many sinks a place lists.
+fn place_count(y: u32) -> u32
+    ensures { λ k. ⌜ k ≡ length (pointers (y ∷ [])) ⌝ }
+{
+    if y == 0 { 0 } else { 1 }
+}
+
+// How many the 64 places list.
+fn sinks_count(sinks: &[u32]) -> u32
+    requires { ⌜ sinkMax ≤ length (now sinks) ⌝ }
+    ensures { λ k. ⌜ k ≡ length (pointers (take sinkMax (now (sinks .entry)))) ⌝ }
+{
+    let mut total: u32 = 0;
+    let mut i: u32 = 0;
+    while i < SINK_MAX {
+        let at = i as usize;
+        total += place_count(sinks[at]);
+        i += 1;
+    }
+    total
+}
+
+// The bytes of the chunk that lists k sinks.
+fn sinks_len(k: u32) -> u32
+    requires { ⌜ k ≤ sinkMax ⌝ }
+    ensures { λ v. ⌜ v ≡ sinksLen k ⌝ }
+{
+    if k == 0 { 0 } else { 6 + 2 * k }
 }
 
 // ---- bodies
@@ -126,6 +162,32 @@ fn write_roots(r: u32, roots: &[u32], body: &mut [u8])
     put_words(roots, 0, r as usize, body, 0);
 }
 
+// The sink that a place lists, if it does, at place `at`; answers the place after it.
+fn put_place(y: u32, body: &mut [u8], at: usize) -> usize
+    requires { ⌜ at + 2 * length (pointers (y ∷ [])) ≤ length (now body) ⌝ }
+    ensures { λ e. ⌜ (e ≡ at + 2 * length (pointers (y ∷ []))) × (now (body .exit) ≡ sets (now (body .entry)) at (bytesOf 2 (pointers (y ∷ [])))) ⌝ }
+{
+    if y == 0 {
+        return at;
+    }
+    put2(body, at, y);
+    at + 2
+}
+
+// The body of kind 0x8001.
+fn write_sinks(sinks: &[u32], body: &mut [u8])
+    requires { ⌜ (sinkMax ≤ length (now sinks)) × (length (now body) ≡ 2 * length (pointers (take sinkMax (now sinks)))) ⌝ }
+    ensures { λ _. ⌜ now (body .exit) ≡ bytesOf 2 (pointers (take sinkMax (now (sinks .entry)))) ⌝ }
+{
+    let mut at: usize = 0;
+    let mut i: u32 = 0;
+    while i < SINK_MAX {
+        let k = i as usize;
+        at = put_place(sinks[k], body, at);
+        i += 1;
+    }
+}
+
 // ---- chunks
 
 // The length and the kind of a chunk.
@@ -168,21 +230,55 @@ fn put_roots(r: u32, roots: &[u32], image: &mut [u8], at: usize)
     write_roots(r, roots, &mut image[a..e]);
 }
 
-// The three chunks, one after the other; the objects take len bytes.
-fn put_image(c: Control, len: u32, records: &[u32], slots: &[u32], roots: &[u32], image: &mut [u8])
-    requires { ⌜ Savable c len (now records) (now slots) (now roots) × (26 + len + 4 * c .r ≤ length (now image)) ⌝ }
-    ensures { λ _. ⌜ now (image .exit) ≡ sets (now (image .entry)) 0 (heapImage c (now (records .entry)) (now (slots .entry)) (now (roots .entry))) ⌝ }
+// The chunk of the k sinks that are listed, if there are any.
+fn put_sinks(k: u32, sinks: &[u32], image: &mut [u8], at: usize)
+    requires { ⌜ (sinkMax ≤ length (now sinks)) × (k ≡ length (pointers (take sinkMax (now sinks)))) × (at + sinksLen k ≤ length (now image)) ⌝ }
+    ensures { λ _. ⌜ now (image .exit) ≡ sets (now (image .entry)) at (sinksChunk (pointers (take sinkMax (now (sinks .entry))))) ⌝ }
+{
+    if k == 0 {
+        return;
+    }
+    put_front(SINKS, 2 * k, image, at);
+    let a = at + 6;
+    let e = a + 2 * k as usize;
+    write_sinks(sinks, &mut image[a..e]);
+}
+
+// The chunks, one after the other; the objects take len bytes, and k sinks are listed.
+fn put_image(
+    c: Control,
+    len: u32,
+    k: u32,
+    records: &[u32],
+    slots: &[u32],
+    roots: &[u32],
+    sinks: &[u32],
+    image: &mut [u8],
+)
+    requires { ⌜ Savable c len k (now records) (now slots) (now roots) (now sinks) × (26 + len + 4 * c .r + sinksLen k ≤ length (now image)) ⌝ }
+    ensures { λ _. ⌜ now (image .exit) ≡ sets (now (image .entry)) 0 (heapImage c (now (records .entry)) (now (slots .entry)) (now (roots .entry)) (now (sinks .entry))) ⌝ }
 {
     put_sizes(c, image);
     put_objects(c.n, len, records, slots, image, 14);
-    put_roots(c.r, roots, image, 20 + len as usize);
+    let third = 20 + len as usize;
+    put_roots(c.r, roots, image, third);
+    put_sinks(k, sinks, image, third + 6 + 4 * c.r as usize);
 }
 
 // Saves the heap. No byte is stored before the last test has passed.
-pub fn save(c: Control, records: &[u32], slots: &[u32], roots: &[u32], image: &mut [u8]) -> Saved
-    ensures { λ a. ⌜ Save.gives a (now (image .exit)) ≡ Save.save c (now (records .entry)) (now (slots .entry)) (now (roots .entry)) (now (image .entry)) ⌝ }
+pub fn save(
+    c: Control,
+    records: &[u32],
+    slots: &[u32],
+    roots: &[u32],
+    sinks: &[u32],
+    sets: &[u64],
+    image: &mut [u8],
+) -> Saved
+    ensures { λ a. ⌜ Save.gives a (now (image .exit))
+        ≡ Save.save c (now (records .entry)) (now (slots .entry)) (now (roots .entry)) (now (sinks .entry)) (now (sets .entry)) (now (image .entry)) ⌝ }
 {
-    let refusal = heap_refusal(c, records, slots, roots, false);
+    let refusal = heap_refusal(c, records, slots, roots, sinks, sets, false);
     if refusal != 0 {
         return Saved {
             refusal: refusal,
@@ -191,7 +287,8 @@ pub fn save(c: Control, records: &[u32], slots: &[u32], roots: &[u32], image: &m
         };
     }
     let objects = objects_len(c.n, records);
-    let length = 26 + objects + 4 * c.r;
+    let listed = sinks_count(sinks);
+    let length = 26 + objects + 4 * c.r + sinks_len(listed);
     if image.len() < length as usize {
         return Saved {
             refusal: TOO_SHORT,
@@ -199,7 +296,7 @@ pub fn save(c: Control, records: &[u32], slots: &[u32], roots: &[u32], image: &m
             control: c,
         };
     }
-    put_image(c, objects, records, slots, roots, image);
+    put_image(c, objects, listed, records, slots, roots, sinks, image);
     Saved {
         refusal: 0,
         length: length,

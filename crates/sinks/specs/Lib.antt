@@ -1,2 +1,2 @@
--- What the function between the call and its tests is held to.
+-- What the functions between the call and its tests are held to.
 pub mod Sinks

@@ -11,17 +11,17 @@ use lib.Bits.{bitAnd}
 use lib.Count.{trailingZeros}
 use lib.ListN.{length, getD, take, drop, set, drop-of-length-le}
 use lib.Seq.{set-out, drop-cons}
-use Rattle.layout.specs.Limits.{mapLen, slotsLen}
+use Rattle.layout.specs.Limits.{sinkMax, mapLen, slotsLen}
 use Rattle.records.specs.Record.{inUse, isMarked}
 use Rattle.graph.specs.Numbers.{bit}
-use Rattle.bitmap.specs.Bits.{setBits, numbersIn, bitsOf}
+use Rattle.bitmap.specs.Bits.{setBits, numbersIn, bitsOf, holds}
 use Rattle.bitmap.proofs.BitLaws.{bitsOf-lt, setBits-step, setBits-none}
-use Rattle.rules.specs.Buffers.{recOf, zeros}
+use Rattle.rules.specs.Buffers.{recOf, eachFrom, zeros}
 use Rattle.rules.specs.Sweep.{freed}
 use Rattle.rules.proofs.PassLaws.{passFrom}
 use Rattle.rules.proofs.BufferLaws.{zeros-from}
 use Rattle.table.specs.Cleared.{cleared}
-use Rattle.sweep.specs.Sweep.{markedAt, freedAt, inTurn, clearRecord, clearSlots}
+use Rattle.sweep.specs.Sweep.{markedAt, freedAt, inTurn, clearRecord, clearSlots, emptied}
 
 -- ---- the test
 
@@ -168,3 +168,16 @@ module _ (f : ℕ → List ℕ → List ℕ) (map s₀ : List ℕ) where
 
     pub mapping-end : length map ≤ j → s ≡ inTurn f (numbersIn 0 map) s₀
     mapping-end p = left-end f j map s p ∙ h .same
+
+-- ---- the places
+
+-- by whether the bit is set
+pub place-empty : (y : ℕ) (b h : Bool) → b ≡ h → b ≡ true → 0 ≡ cond h 0 y
+place-empty y b h e t = rw (← e, t) refl
+
+pub place-left : (y : ℕ) (b h : Bool) → b ≡ h → b ≡ false → y ≡ cond h 0 y
+place-left y b h e t = rw (← e, t) refl
+
+pub emptied-start : (map list : List ℕ) → eachFrom 0 sinkMax (λ k y. cond (holds y map) 0 y) list ≡ emptied map list
+unfolding emptied
+emptied-start map list = refl

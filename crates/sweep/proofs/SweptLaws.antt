@@ -3,24 +3,30 @@ use Prim.Native.Nat.{ℕ, zero, suc, _+_, _-_, _*_, _/_, _≤_, _<_}
 use mathlib.Core.Path.{_≡_, refl, sym, ap, ap₂, _∙_, fun-ext}
 use mathlib.Core.Bool.{Bool, true, false, not, cond, _&&_}
 use mathlib.Core.List.{List, [], _∷_, _++_, append-nil}
+use native.Mathlib.Decide.{decLe}
 use native.Mathlib.Omega.{arith}
+use lib.Dec.{leb}
 use lib.ListN.{length, getD, take, drop, set, length-set, length-append, length-take, take-append-drop}
 use lib.Seq.{length-take-le, take-all}
 use borrow.Author.Tests.{le-leb, lt-leb, lt-ltb, le-ltb}
-use Rattle.layout.specs.Limits.{slotsLen, mapLen}
+use Rattle.layout.specs.Limits.{objectMax, sinkMax, slotsLen, mapLen}
 use Rattle.layout.specs.Field.{field, flag}
 use Rattle.records.specs.Record.{inUse}
-use Rattle.bitmap.specs.Bits.{numbersIn, wordOf, mapMax}
-use Rattle.bitmap.proofs.BitLaws.{passers, passers-add, numbersIn-words}
+use Rattle.bitmap.specs.Bits.{numbersIn, wordOf, holds, mapMax}
+use Rattle.bitmap.proofs.BitLaws.{passers, passers-add, numbersIn-words, holds-past, wordOf-holds}
 use Rattle.graph.specs.Numbers.{bit, sum, count}
 use Rattle.rules.specs.Buffers.{short, recOf, eachFrom, eachRecord, eachSlot}
-use Rattle.rules.specs.Sweep.{Swept, freed, keptRecord, sweptRecord, sweep}
-use Rattle.rules.proofs.SweepLaws.{sweep-alike}
-use Rattle.rules.proofs.ListLaws.{length-each, get-each, take-each, each-same, each-id, recOf-above}
+use Rattle.rules.specs.View.{view, listing, heapIn, exactSets}
+use Rattle.rules.specs.WellFormed.{once}
+use Rattle.rules.specs.Sweep.{Swept, freed, keptRecord, sweptRecord, sweptRecords, sweptSlots, sweptSinks, sweep}
+use Rattle.rules.proofs.SweepLaws.{sweep-alike, once-cleared}
+use Rattle.rules.proofs.ListLaws.{length-each, get-each, take-each, each-map, each-same, each-id, recOf-above}
 use Rattle.rules.proofs.PassLaws.{passFrom, pass-begin, pass-turn, pass-skip, pass-end}
 use Rattle.rules.proofs.StoreLaws.{recOf-zero}
+use Rattle.places.specs.Places.{lastPlaces}
+use Rattle.places.proofs.LatestLaws.{places-same}
 use Rattle.table.specs.Cleared.{cleared}
-use Rattle.sweep.specs.Sweep.{unflaggedRecord, unflagged, markedAt, markedCount, freedAt, byMarks, fits, AfterSweep, Marked, inTurn, clearRecord, clearSlots}
+use Rattle.sweep.specs.Sweep.{unflaggedRecord, unflagged, markedAt, markedCount, freedAt, byMarks, setsByMarks, fits, AfterSweep, Marked, inTurn, clearRecord, clearSlots, emptied}
 use Rattle.sweep.proofs.UnflaggedLaws.{unflagged-used, unflagged-freed, unflagged-kept, rec-unflagged}
 use Rattle.sweep.proofs.FreedLaws.{eight-pass}
 use Rattle.rules.proofs.ListLaws.{each-each}
@@ -150,19 +156,43 @@ module _ (n : ℕ) (recs : List ℕ) where
   unfolding freed flag field
   unused x e = rw e refl
 
-  freed-numbers : (map : List ℕ) → mapLen n ≤ length map
-      → numbersIn 0 (take (mapLen n) (eachFrom 0 (mapLen n) (λ j w. wordOf (freedAt n recs) j) map)) ≡ passers (freedAt n recs) 1 n
-  freed-numbers map p =
-      let k = mapLen n in
-      let f : ℕ → ℕ → ℕ = λ j w. wordOf (freedAt n recs) j in
-      let ws = take k (eachFrom 0 k f map) in
-      let same : ws ≡ eachFrom 0 k f (take k map) = take-each 0 k f map k (omega arith) in
-      let size : length ws ≡ k = length-take-le k (eachFrom 0 k f map) (let a = length-each 0 k f map in omega arith) in
-      let long : length (take k map) ≡ k = length-take-le k map p in
-      let word : (i : ℕ) → i < length ws → getD ws i 0 ≡ wordOf (freedAt n recs) (0 + i) =
-      λ i q. ap (λ (l : List ℕ). getD l i 0) same ∙ get-each 0 k f (take k map) i 0 (omega (arith, size)) (omega (arith, size, long)) in
-      numbersIn-words (freedAt n recs) ws 0 word ∙ ap (λ (m : ℕ). passers (freedAt n recs) 0 (64 * m)) size
-      ∙ within-n (freedAt n recs) n (64 * k) (unused 0 (recOf-zero n recs)) (λ x q. unused x (recOf-above n recs x q)) (more n)
+  -- the lent part of the filled map
+  module _ (map : List ℕ) (p : mapLen n ≤ length map) where
+    abbrev filled : List ℕ
+    filled = take (mapLen n) (eachFrom 0 (mapLen n) (λ j w. wordOf (freedAt n recs) j) map)
+
+    filled-long : length filled ≡ mapLen n
+    filled-long =
+        let f : ℕ → ℕ → ℕ = λ j w. wordOf (freedAt n recs) j in
+        length-take-le (mapLen n) (eachFrom 0 (mapLen n) f map) (let a = length-each 0 (mapLen n) f map in omega arith)
+
+    filled-word : (i : ℕ) → i < mapLen n → getD filled i 0 ≡ wordOf (freedAt n recs) i
+    filled-word i q =
+        let k = mapLen n in
+        let f : ℕ → ℕ → ℕ = λ j w. wordOf (freedAt n recs) j in
+        let long : length (take k map) ≡ k = length-take-le k map p in
+        let z : 0 + i ≡ i = omega arith in
+        ap (λ (l : List ℕ). getD l i 0) (take-each 0 k f map k (omega arith))
+        ∙ get-each 0 k f (take k map) i 0 q (omega (arith, long))
+        ∙ ap (wordOf (freedAt n recs)) z
+
+    freed-numbers : numbersIn 0 filled ≡ passers (freedAt n recs) 1 n
+    freed-numbers =
+        numbersIn-words (freedAt n recs) filled 0 (λ i q. let z : i ≡ 0 + i = omega arith in filled-word i (omega (arith, filled-long)) ∙ ap (wordOf (freedAt n recs)) z)
+        ∙ ap (λ (m : ℕ). passers (freedAt n recs) 0 (64 * m)) filled-long
+        ∙ within-n (freedAt n recs) n (64 * mapLen n) (unused 0 (recOf-zero n recs)) (λ x q. unused x (recOf-above n recs x q)) (more n)
+
+    -- it has the freed and no other number
+    freed-held : (y : ℕ) → holds y filled ≡ freedAt n recs y
+    freed-held y = go (decLe (mapLen n) (y / 64))
+      where
+        go : Dec (mapLen n ≤ y / 64) → holds y filled ≡ freedAt n recs y
+        go (yes q) = holds-past y filled (omega (arith, filled-long)) ∙ sym (unused y (recOf-above n recs y (omega (arith, more n))))
+        go (no q) = wordOf-holds (freedAt n recs) y filled (filled-word (y / 64) (omega (arith, q)))
+
+    emptied-freed : (list : List ℕ) → emptied filled list ≡ sweptSinks n recs (markedAt n recs) list
+    unfolding emptied sweptSinks
+    emptied-freed list = each-same 0 64 (λ k y. cond (holds y filled) 0 y) (λ k y. cond (freedAt n recs y) 0 y) list (λ k y a b. ap (λ (d : Bool). cond d 0 y) (freed-held y))
 
   module _ (long : n ≤ length recs) where
     abbrev m : ℕ → Bool
@@ -192,12 +222,25 @@ module _ (n : ℕ) (recs : List ℕ) where
   unfolding slotsLen eachSlot
   swept-slots slots p = slots-cleared (freedAt n recs) n 0 slots (omega arith) ∙ pass-begin 0 (8 * n) (clearedAt (freedAt n recs)) slots
 
+-- ---- the list
+
+-- no number is in it twice, where none was
+once-swept : (n : ℕ) (recs : List ℕ) (kept : ℕ → Bool) (list : List ℕ) → once (take sinkMax list) ≡ true
+    → once (take sinkMax (sweptSinks n recs kept list)) ≡ true
+unfolding sweptSinks
+once-swept n recs kept list h =
+    ap once (take-each 0 64 (λ k y. cond (freed n recs kept y) 0 y) list 64 (omega arith)
+    ∙ each-map 0 64 (λ y. cond (freed n recs kept y) 0 y) (take sinkMax list) (let e = length-take sinkMax list in omega arith))
+    ∙ once-cleared (freed n recs kept) (take sinkMax list) h
+
 -- ---- where the slices are long enough, and where one is not
 
-module _ (n : ℕ) (recs slots map : List ℕ) where
-  pub refused : fits n recs slots map ≡ false → AfterSweep n recs slots map recs slots map 0
-  refused e = record { records = rw e refl; slotWords = rw e refl; mapWords = rw e refl; freed = rw e refl }
+pub refused : (n : ℕ) (recs slots list sets map : List ℕ) → fits n recs slots map ≡ false
+    → AfterSweep n recs slots list sets map recs slots list sets map 0
+refused n recs slots list sets map e =
+    record { records = rw e refl; slotWords = rw e refl; sinks = rw e refl; setWords = rw e refl; mapWords = rw e refl; freed = rw e refl }
 
+module _ (n : ℕ) (recs slots map : List ℕ) where
   pub too-many : 4095 < n → fits n recs slots map ≡ false
   unfolding fits
   too-many p = rw (lt-leb n 4095 p) refl
@@ -225,44 +268,92 @@ module _ (n : ℕ) (recs slots map : List ℕ) where
               rw
               (le-leb n 4095 most, le-ltb (length recs) n long, le-ltb (length slots) (slotsLen n) wide, le-ltb (length map) (mapLen n) room) refl
 
-          pub swept : (recs₁ recs₂ recs₃ slots₁ map₁ part : List ℕ) (k : ℕ)
+          pub swept : (list sets recs₁ recs₂ recs₃ slots₁ list₁ sets₁ map₁ part : List ℕ) (k : ℕ)
               → map₁ ≡ eachFrom 0 (mapLen n) (λ j w. wordOf (freedAt n recs) j) map → part ≡ take (mapLen n) map₁
               → k ≡ length (numbersIn 0 (take mapMax part)) → recs₁ ≡ eachRecord n (λ x r. keptRecord (markedAt n recs) r) recs
               → recs₂ ≡ inTurn clearRecord (numbersIn 0 part) recs₁ → slots₁ ≡ inTurn clearSlots (numbersIn 0 part) slots
-              → recs₃ ≡ unflagged n recs₂ → AfterSweep n recs slots map recs₃ slots₁ map₁ k
-          unfolding sweep
-          swept recs₁ recs₂ recs₃ slots₁ map₁ part k em ep ek e₁ e₂ es e₃ =
-              let t = freedAt n recs in
-              let nums : numbersIn 0 part ≡ passers t 1 n = ap (numbersIn 0) (ep ∙ ap (take (mapLen n)) em) ∙ freed-numbers n recs map room in
-              let whole : take mapMax part ≡ part = part-whole n map₁ part most ep in
-              let f = freed-same n recs long in
+              → list₁ ≡ emptied part list → recs₃ ≡ unflagged n recs₂
+              → sets₁ ≡ cond (leb n objectMax) (exactSets (heapIn n recs₃ slots₁ (lastPlaces list₁)) sets) sets
+              → AfterSweep n recs slots list sets map recs₃ slots₁ list₁ sets₁ map₁ k
+          unfolding sweep sweptRecords sweptSlots sweptSinks
+          swept list sets recs₁ recs₂ recs₃ slots₁ list₁ sets₁ map₁ part k em ep ek e₁ e₂ es el e₃ et =
               record {
-                records = rw all-fit (e₃ ∙ ap (unflagged n) (e₂ ∙ ap₂ (inTurn clearRecord) nums e₁) ∙ swept-records n recs long);
-                slotWords = rw all-fit (es ∙ ap (λ l. inTurn clearSlots l slots) nums ∙ swept-slots n recs slots wide
-                    ∙ ap (λ (d : ℕ → Bool). eachSlot n (λ x w. cond (d x) 0 w) slots) f);
+                records = rw all-fit ruled-records;
+                slotWords = rw all-fit ruled-slots;
+                sinks = rw all-fit ruled-sinks;
+                setWords = rw all-fit ruled-sets;
                 mapWords = rw all-fit (em ∙ ap (λ (d : ℕ → Bool). eachFrom 0 (mapLen n) (λ j w. wordOf d j) map) f);
                 freed = rw all-fit (ek ∙ ap (λ l. length (numbersIn 0 l)) whole ∙ ap length nums ∙ passers-count t n ∙ ap (count n) f);
               }
+            where
+              t : ℕ → Bool
+              t = freedAt n recs
+
+              part-is : part ≡ filled n recs map room
+              part-is = ep ∙ ap (take (mapLen n)) em
+
+              nums : numbersIn 0 part ≡ passers t 1 n
+              nums = ap (numbersIn 0) part-is ∙ freed-numbers n recs map room
+
+              whole : take mapMax part ≡ part
+              whole = part-whole n map₁ part most ep
+
+              f : t ≡ freed n (unflagged n recs) (markedAt n recs)
+              f = freed-same n recs long
+
+              ruled-records : recs₃ ≡ sweptRecords n (unflagged n recs) (markedAt n recs) (markedAt n recs)
+              ruled-records = e₃ ∙ ap (unflagged n) (e₂ ∙ ap₂ (inTurn clearRecord) nums e₁) ∙ swept-records n recs long
+
+              ruled-slots : slots₁ ≡ sweptSlots n (unflagged n recs) (markedAt n recs) slots
+              ruled-slots =
+                  es ∙ ap (λ l. inTurn clearSlots l slots) nums ∙ swept-slots n recs slots wide ∙ ap (λ (d : ℕ → Bool). eachSlot n (λ x w. cond (d x) 0 w) slots) f
+
+              ruled-sinks : list₁ ≡ sweptSinks n (unflagged n recs) (markedAt n recs) list
+              ruled-sinks =
+                  el ∙ ap (λ (l : List ℕ). emptied l list) part-is ∙ emptied-freed n recs map room list
+                  ∙ ap (λ (d : ℕ → Bool). eachFrom 0 sinkMax (λ k y. cond (d y) 0 y) list) f
+
+              ruled-sets : sets₁ ≡ setsByMarks n recs slots list sets map
+              ruled-sets =
+                  et ∙ rw (le-leb n objectMax most) (λ i. exactSets (heapIn n (ruled-records i) (ruled-slots i) (lastPlaces (ruled-sinks i))) sets)
 
 -- ---- where the marks say who is kept and whose head is reached, it is the sweep of the rules by that
 
-module _ (n : ℕ) (recs₀ recs slots map : List ℕ) (kept heads : ℕ → Bool) (h : Marked n recs₀ recs kept heads) where
-  marked-sweep : byMarks n recs slots map ≡ sweep n recs₀ slots map kept heads
-  marked-sweep =
-      ap (λ (l : List ℕ). sweep n l slots map (markedAt n recs) (markedAt n recs)) (h .same)
-      ∙ sym (sweep-alike n recs₀ slots map kept heads (markedAt n recs) (markedAt n recs) (h .kept-is) (h .heads-is))
+module _ (n : ℕ) (recs₀ recs slots list sets map : List ℕ) (kept heads : ℕ → Bool) (h : Marked n recs₀ recs kept heads) where
+  abbrev ruled : Swept
+  ruled = sweep n recs₀ slots list sets map kept heads
 
-  pub kept-ruled : markedCount n recs ≡ sweep n recs₀ slots map kept heads .kept
+  marked-sweep : byMarks n recs slots list sets map ≡ ruled
+  marked-sweep =
+      ap (λ (l : List ℕ). sweep n l slots list sets map (markedAt n recs) (markedAt n recs)) (h .same)
+      ∙ sym (sweep-alike n recs₀ slots list sets map kept heads (markedAt n recs) (markedAt n recs) (h .kept-is) (h .heads-is))
+
+  pub kept-ruled : markedCount n recs ≡ sweep n recs₀ slots list sets map kept heads .kept
   unfolding markedCount sweep
   kept-ruled = ap (λ (s : Swept). s .kept) marked-sweep
 
-  pub sweep-ruled : n ≤ 4095 → n ≤ length recs → slotsLen n ≤ length slots → mapLen n ≤ length map → (recs′ slots′ map′ : List ℕ) (k : ℕ)
-      → AfterSweep n recs slots map recs′ slots′ map′ k
-      → let s = sweep n recs₀ slots map kept heads in (recs′ ≡ s .records) × (slots′ ≡ s .slots) × (map′ ≡ s .map) × (k ≡ s .freed)
-  sweep-ruled most long wide room recs′ slots′ map′ k l =
-      let f = all-fit n recs slots map most long wide room in (
-        (rw f at (l .records)) ∙ ap (λ (s : Swept). s .records) marked-sweep,
-        (rw f at (l .slotWords)) ∙ ap (λ (s : Swept). s .slots) marked-sweep,
-        (rw f at (l .mapWords)) ∙ ap (λ (s : Swept). s .map) marked-sweep,
-        (rw f at (l .freed)) ∙ ap (λ (s : Swept). s .freed) marked-sweep,
-      )
+  -- what a sweep leaves is what the rules say
+  pub record Ruled (recs′ slots′ list′ sets′ map′ : List ℕ) (k : ℕ) : Type 0 where
+    pub records : recs′ ≡ sweep n recs₀ slots list sets map kept heads .records
+    pub slotWords : slots′ ≡ sweep n recs₀ slots list sets map kept heads .slots
+    pub sinks : list′ ≡ sweep n recs₀ slots list sets map kept heads .sinks
+    pub setWords : sets′ ≡ sweep n recs₀ slots list sets map kept heads .sets
+    pub mapWords : map′ ≡ sweep n recs₀ slots list sets map kept heads .map
+    pub freed : k ≡ sweep n recs₀ slots list sets map kept heads .freed
+
+  pub sweep-ruled : n ≤ 4095 → n ≤ length recs → slotsLen n ≤ length slots → mapLen n ≤ length map → once (take sinkMax list) ≡ true
+      → (recs′ slots′ list′ sets′ map′ : List ℕ) (k : ℕ) → AfterSweep n recs slots list sets map recs′ slots′ list′ sets′ map′ k
+      → Ruled recs′ slots′ list′ sets′ map′ k
+  unfolding sweep sweptSinks
+  sweep-ruled most long wide room o recs′ slots′ list′ sets′ map′ k l =
+      let once-sets = ap (λ (m : List ℕ). exactSets (listing m (view n (byMarks n recs slots list sets map .records) (byMarks n recs slots list sets map .slots))) sets)
+      (places-same (byMarks n recs slots list sets map .sinks) (once-swept n (unflagged n recs) (markedAt n recs) list o)) in
+      let f = all-fit n recs slots map most long wide room in
+      record {
+        records = (rw f at (l .records)) ∙ ap (λ (s : Swept). s .records) marked-sweep;
+        slotWords = (rw f at (l .slotWords)) ∙ ap (λ (s : Swept). s .slots) marked-sweep;
+        sinks = (rw f at (l .sinks)) ∙ ap (λ (s : Swept). s .sinks) marked-sweep;
+        setWords = (rw f at (l .setWords)) ∙ once-sets ∙ ap (λ (s : Swept). s .sets) marked-sweep;
+        mapWords = (rw f at (l .mapWords)) ∙ ap (λ (s : Swept). s .map) marked-sweep;
+        freed = (rw f at (l .freed)) ∙ ap (λ (s : Swept). s .freed) marked-sweep;
+      }

@@ -6,11 +6,14 @@ use mathlib.Core.Logic.{_≢_}
 use mathlib.Core.List.{List, [], _∷_}
 use lib.Dec.{eqb, leb}
 use lib.ListN.{set}
-use Rattle.layout.specs.Limits.{objectMax, widthMax, slotsLen, mapLen}
+use Rattle.layout.specs.Limits.{objectMax, widthMax, sinkMax, slotsLen, mapLen}
 use Rattle.records.specs.Record.{isMarked, isReached, withMarked, withPostponed, withReached, cluster}
 use Rattle.graph.specs.Numbers.{Obj, count}
-use Rattle.rules.specs.Buffers.{short, recOf, eachRecord}
+use Rattle.bitmap.specs.Bits.{holds}
+use Rattle.rules.specs.Buffers.{short, recOf, eachFrom, eachRecord}
+use Rattle.rules.specs.View.{heapIn, exactSets}
 use Rattle.rules.specs.Sweep.{Swept, freed, sweep}
+use Rattle.places.specs.Places.{lastPlaces}
 use Rattle.table.specs.Cleared.{cleared}
 
 -- a record without the three flags of a walk, bits 4 to 6
@@ -47,19 +50,26 @@ module _ (n : ℕ) (recs : List ℕ) where
   freedAt = freed n recs markedAt
 
   -- the sweep that keeps the marked, of objects and of heads
-  abbrev pub byMarks : List ℕ → List ℕ → Swept
-  byMarks slots map = sweep n unflagged slots map markedAt markedAt
+  abbrev pub byMarks : List ℕ → List ℕ → List ℕ → List ℕ → Swept
+  byMarks slots list sets map = sweep n unflagged slots list sets map markedAt markedAt
+
+  -- the sets of what it leaves: those of the sweep, but a number that is in the list twice counts in its last place
+  abbrev pub setsByMarks : List ℕ → List ℕ → List ℕ → List ℕ → List ℕ
+  setsByMarks slots list sets map =
+      let s = byMarks slots list sets map in exactSets (heapIn n (s .records) (s .slots) (lastPlaces (s .sinks))) sets
 
   -- where this fails nothing is swept
   unfoldable pub fits : List ℕ → List ℕ → Bool
   fits slots map = leb n objectMax && (not (short n recs) && (not (short (slotsLen n) slots) && not (short (mapLen n) map)))
 
 -- what a sweep leaves, and how many it freed
-pub record AfterSweep (n : ℕ) (recs slots map recs′ slots′ map′ : List ℕ) (k : ℕ) : Type 0 where
-  pub records : recs′ ≡ cond (fits n recs slots map) (byMarks n recs slots map .records) recs
-  pub slotWords : slots′ ≡ cond (fits n recs slots map) (byMarks n recs slots map .slots) slots
-  pub mapWords : map′ ≡ cond (fits n recs slots map) (byMarks n recs slots map .map) map
-  pub freed : k ≡ cond (fits n recs slots map) (byMarks n recs slots map .freed) 0
+pub record AfterSweep (n : ℕ) (recs slots list sets map recs′ slots′ list′ sets′ map′ : List ℕ) (k : ℕ) : Type 0 where
+  pub records : recs′ ≡ cond (fits n recs slots map) (byMarks n recs slots list sets map .records) recs
+  pub slotWords : slots′ ≡ cond (fits n recs slots map) (byMarks n recs slots list sets map .slots) slots
+  pub sinks : list′ ≡ cond (fits n recs slots map) (byMarks n recs slots list sets map .sinks) list
+  pub setWords : sets′ ≡ cond (fits n recs slots map) (setsByMarks n recs slots list sets map) sets
+  pub mapWords : map′ ≡ cond (fits n recs slots map) (byMarks n recs slots list sets map .map) map
+  pub freed : k ≡ cond (fits n recs slots map) (byMarks n recs slots list sets map .freed) 0
 
 -- the marks in recs say which objects of the heap in recs₀ are kept and, of its clusters, whose heads are reached
 pub record Marked (n : ℕ) (recs₀ recs : List ℕ) (kept heads : ℕ → Bool) : Type 0 where
@@ -83,3 +93,7 @@ clearRecord (suc i) recs = set recs i 0
 unfoldable pub clearSlots : ℕ → List ℕ → List ℕ
 clearSlots zero slots = slots
 clearSlots (suc i) slots = cleared (widthMax * i) (widthMax * i + widthMax) slots
+
+-- the places of the list whose numbers are in the set become empty
+unfoldable pub emptied : List ℕ → List ℕ → List ℕ
+emptied map list = eachFrom 0 sinkMax (λ k y. cond (holds y map) 0 y) list

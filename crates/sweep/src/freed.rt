@@ -1,13 +1,16 @@
 // The freed map, and the freeing by it.
 ghost use mathlib.Core.Path.{_≡_};
+ghost use mathlib.Core.Bool.{cond};
 ghost use Prim.Native.Nat.{_≤_};
 ghost use lib.ListN.{length};
 ghost use Rattle.layout.specs.Limits.{objectMax, mapLen};
-ghost use Rattle.bitmap.specs.Bits.{wordOf, setBits, numbersIn};
+ghost use Rattle.bitmap.specs.Bits.{wordOf, setBits, numbersIn, holds};
 ghost use Rattle.rules.specs.Buffers.{eachFrom};
 ghost use Rattle.sweep.specs.Sweep as S;
+use bitmap::has_bit;
 use bitmap::lowest_bit;
 use bitmap::without_lowest;
+use layout::limits::SINK_MAX;
 use layout::limits::map_len;
 use layout::limits::slots_len;
 use records::in_use;
@@ -99,5 +102,27 @@ pub(crate) fn free_all(map: &[u64], records: &mut [u32], slots: &mut [u32])
     while j < map.len() {
         free_word(64 * j as u32, map[j], records, slots);
         j += 1;
+    }
+}
+
+// What stays in a place that has y: y, or nothing where its bit is set in the map.
+fn left_in_place(y: u32, map: &[u64]) -> u32
+    ensures { λ z. ⌜ z ≡ cond (holds y (now (map .entry))) 0 y ⌝ }
+{
+    if has_bit(map, y as usize) {
+        return 0;
+    }
+    y
+}
+
+// Empties the places of the sinks whose bits are set in the map.
+pub(crate) fn empty_places(map: &[u64], sinks: &mut [u32])
+    ensures { λ _. ⌜ now (sinks .exit) ≡ S.emptied (now (map .entry)) (now (sinks .entry)) ⌝ }
+{
+    let m = SINK_MAX as usize;
+    let mut k: usize = 0;
+    while k < m && k < sinks.len() {
+        sinks[k] = left_in_place(sinks[k], map);
+        k += 1;
     }
 }

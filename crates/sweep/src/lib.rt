@@ -7,6 +7,7 @@ use bitmap::ones;
 use layout::limits::OBJECT_MAX;
 use layout::limits::map_len;
 use layout::limits::slots_len;
+use places::fill_sets;
 use records::cluster_of;
 use records::is_marked;
 use records::is_reached;
@@ -18,6 +19,7 @@ use table::clusters::record_of;
 
 mod freed;
 
+use freed::empty_places;
 use freed::fill_map;
 use freed::free_all;
 
@@ -118,10 +120,19 @@ fn dissolve(n: u32, records: &mut [u32])
 
 // ---- the sweep
 
-// Frees what is in use and not marked, dissolves the clusters whose heads are not marked, takes the marks off, and answers how many
-// objects it freed; the map tells which. Where n is above 4,095 or a slice is too short it does nothing.
-pub fn sweep(n: u32, records: &mut [u32], slots: &mut [u32], map: &mut [u64]) -> u32
-    ensures { λ k. ⌜ S.AfterSweep n (now (records .entry)) (now (slots .entry)) (now (map .entry)) (now (records .exit)) (now (slots .exit)) (now (map .exit)) k ⌝ }
+// Frees what is in use and not marked, dissolves the clusters whose heads are not marked, takes the marks off, empties the places of
+// freed sinks, makes every set exact, and answers how many objects it freed; the map tells which. Where n is above 4,095, or records,
+// slots or map are too short, it does nothing.
+pub fn sweep(
+    n: u32,
+    records: &mut [u32],
+    slots: &mut [u32],
+    sinks: &mut [u32],
+    sets: &mut [u64],
+    map: &mut [u64],
+) -> u32
+    ensures { λ k. ⌜ S.AfterSweep n (now (records .entry)) (now (slots .entry)) (now (sinks .entry)) (now (sets .entry)) (now (map .entry))
+        (now (records .exit)) (now (slots .exit)) (now (sinks .exit)) (now (sets .exit)) (now (map .exit)) k ⌝ }
 {
     if OBJECT_MAX < n {
         return 0;
@@ -140,6 +151,8 @@ pub fn sweep(n: u32, records: &mut [u32], slots: &mut [u32], map: &mut [u64]) ->
     let freed = ones(&map[0..k]);
     dissolve(n, records);
     free_all(&map[0..k], records, slots);
+    empty_places(&map[0..k], sinks);
     clear_marks(n, records);
+    fill_sets(n, records, slots, sinks, sets);
     freed
 }

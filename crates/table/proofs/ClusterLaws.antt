@@ -103,7 +103,7 @@ module _ (n c : ℕ) (recs : List ℕ) where
 
 -- ---- the out bit
 
-eight-from : (x : ℕ) (slots : List ℕ) → 1 ≤ x → (from : ℕ) → from ≡ slotsLen (x - 1) → eight slots x ≡ take 8 (drop from slots)
+pub eight-from : (x : ℕ) (slots : List ℕ) → 1 ≤ x → (from : ℕ) → from ≡ slotsLen (x - 1) → eight slots x ≡ take 8 (drop from slots)
 unfolding eight slotsLen
 eight-from zero slots p from f = absurd (omega arith)
 eight-from (suc y) slots p from f = let z : suc y - 1 ≡ y = omega arith in rw (f, z) refl

@@ -5,18 +5,34 @@ use mathlib.Core.Bool.{false}
 use mathlib.Core.List.{List}
 use lib.ListN.{length}
 use borrow.Author.Tests.{ltb-false}
-use Rattle.layout.specs.Limits.{objectMax, slotsLen}
+use Rattle.layout.specs.Limits.{objectMax, sinkMax, slotsLen}
 use Rattle.layout.proofs.BoolLaws.{or-split}
-use Rattle.rules.specs.Buffers.{short}
-use Rattle.table.specs.Room.{Room, heapShort}
+use Rattle.rules.specs.Buffers.{short, shortHeap}
+use Rattle.table.specs.Room.{Room}
 
-pub heap-long : (n r : ℕ) (recs slots roots : List ℕ) → heapShort n r recs slots roots ≡ false
-    → (n ≤ length recs) × (8 * n ≤ length slots) × (r ≤ length roots)
-unfolding heapShort short slotsLen
-heap-long n r recs slots roots e =
-    let a = or-split _ _ e in
-    let b = or-split _ _ (a .0) in
-    (ltb-false _ _ (b .0), ltb-false _ _ (b .1), ltb-false _ _ (a .1))
+-- each slice has the words that it needs
+pub record Long (n r : ℕ) (recs slots roots list sets : List ℕ) : Type 0 where
+  pub recs-long : n ≤ length recs
+  pub slots-long : 8 * n ≤ length slots
+  pub roots-long : r ≤ length roots
+  pub sinks-long : sinkMax ≤ length list
+  pub sets-long : n ≤ length sets
 
-pub room-of : (n r : ℕ) (recs slots roots : List ℕ) → n ≤ objectMax → heapShort n r recs slots roots ≡ false → Room n recs slots
-room-of n r recs slots roots l e = let k = heap-long n r recs slots roots e in record { most = l; recs-long = k .0; slots-long = k .1 }
+module _ (n r : ℕ) (recs slots roots list sets : List ℕ) (e : shortHeap n r recs slots roots list sets ≡ false) where
+  pub heap-long : Long n r recs slots roots list sets
+  unfolding shortHeap short slotsLen
+  heap-long =
+      let a = or-split _ _ e in
+      let b = or-split _ _ (a .0) in
+      let d = or-split _ _ (b .0) in
+      let f = or-split _ _ (d .0) in
+      record {
+        recs-long = ltb-false _ _ (f .0);
+        slots-long = ltb-false _ _ (f .1);
+        roots-long = ltb-false _ _ (d .1);
+        sinks-long = ltb-false _ _ (b .1);
+        sets-long = ltb-false _ _ (a .1);
+      }
+
+  pub room-of : n ≤ objectMax → Room n recs slots
+  room-of l = record { most = l; recs-long = heap-long .recs-long; slots-long = heap-long .slots-long }

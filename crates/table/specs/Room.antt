@@ -1,23 +1,19 @@
 -- The lent words suffice for n objects.
 use Prim.Native.Nat.{ℕ, _+_, _*_, _/_, _≤_}
 use mathlib.Core.Path.{_≡_}
-use mathlib.Core.Bool.{Bool, true, cond, _||_}
+use mathlib.Core.Bool.{true, cond}
 use lib.Dec.{ltb}
 use mathlib.Core.List.{List}
 use lib.ListN.{length}
-use Rattle.layout.specs.Limits.{objectMax, rootMax, widthMax, slotsLen}
+use Rattle.layout.specs.Limits.{objectMax, rootMax, widthMax, sinkMax}
 use Rattle.layout.specs.declared.answers.Control.{Control}
 use Rattle.records.specs.Record.{width}
-use Rattle.rules.specs.Buffers.{short, recOf}
+use Rattle.rules.specs.Buffers.{recOf}
 use Rattle.rules.specs.WellFormed.{wellFormed}
 
 -- for how many objects a words of records and b of slots suffice ("The heap")
 unfoldable pub roomOf : ℕ → ℕ → ℕ
 roomOf a b = cond (ltb a (b / widthMax)) a (b / widthMax)
-
--- a slice is too short for n objects and r roots
-unfoldable pub heapShort : ℕ → ℕ → List ℕ → List ℕ → List ℕ → Bool
-heapShort n r recs slots roots = short n recs || short (slotsLen n) slots || short r roots
 
 -- there are records and slots for n objects
 pub record Room (n : ℕ) (recs slots : List ℕ) : Type 0 where
@@ -32,8 +28,10 @@ pub record Sized (n : ℕ) (recs slots work : List ℕ) : Type 0 where
   pub widths : (x : ℕ) → width (recOf n recs x) ≤ widthMax
 
 -- what is known of the arguments of a call that walks the heap when no test refuses
-pub record Accepted (c : Control) (recs slots roots work : List ℕ) : Type 0 where
+pub record Accepted (c : Control) (recs slots roots list sets work : List ℕ) : Type 0 where
   pub room : Room (c .n) recs slots
   pub roots-long : c .r ≤ length roots
+  pub sinks-long : sinkMax ≤ length list
+  pub sets-long : c .n ≤ length sets
   pub work-long : 10 * c .n + rootMax ≤ length work
-  pub formed : wellFormed c recs slots roots ≡ true
+  pub formed : wellFormed c recs slots roots list sets ≡ true

@@ -24,6 +24,17 @@ pub fn zero(words: &mut [u32], k: usize)
     clear(words, 0, k);
 }
 
+// The first k sets of sinks become 0.
+pub fn zero_sets(sets: &mut [u64], k: usize)
+    ensures { λ _. ⌜ now (sets .exit) ≡ zeros k (now (sets .entry)) ⌝ }
+{
+    let mut i: usize = 0;
+    while i < sets.len() && i < k {
+        sets[i] = 0;
+        i += 1;
+    }
+}
+
 // Eight words that are all there become 0.
 // The stores are written one by one because a loop would become a call of memset, which takes longer than they do.
 fn store_eight(words: &mut [u32], at: usize)

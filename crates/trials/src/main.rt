@@ -41,7 +41,17 @@ fn creating(n: u32) -> u32 {
     let mut records = [0u32; 4096];
     let mut slots = [0u32; 32768];
     let mut roots = [0u32; 1];
-    create(n, 1, &mut records, &mut slots, &mut roots).refusal
+    let mut sinks = [0u32; 64];
+    let mut sets = [0u64; 4096];
+    create(
+        n,
+        1,
+        &mut records,
+        &mut slots,
+        &mut roots,
+        &mut sinks,
+        &mut sets,
+    ).refusal
 }
 
 // The refusal of an analysis of one free object.
@@ -49,8 +59,18 @@ fn analysing(work: &mut [u32]) -> u32 {
     let mut records = [0u32; 1];
     let mut slots = [0u32; 8];
     let mut roots = [0u32; 1];
-    let c = create(1, 1, &mut records, &mut slots, &mut roots).control;
-    analyse(c, &mut records, &slots, &roots, work).refusal
+    let mut sinks = [0u32; 64];
+    let mut sets = [0u64; 1];
+    let c = create(
+        1,
+        1,
+        &mut records,
+        &mut slots,
+        &mut roots,
+        &mut sinks,
+        &mut sets,
+    ).control;
+    analyse(c, &mut records, &slots, &roots, &sinks, &mut sets, work).refusal
 }
 
 // The refusal of a collection of one free object, by clusters or plainly.
@@ -58,14 +78,26 @@ fn collecting(by_clusters: bool, work: &mut [u32]) -> u32 {
     let mut records = [0u32; 1];
     let mut slots = [0u32; 8];
     let mut roots = [0u32; 1];
+    let mut sinks = [0u32; 64];
+    let mut sets = [0u64; 1];
     let mut map = [0u64; 1];
-    let c = create(1, 1, &mut records, &mut slots, &mut roots).control;
+    let c = create(
+        1,
+        1,
+        &mut records,
+        &mut slots,
+        &mut roots,
+        &mut sinks,
+        &mut sets,
+    ).control;
     collect(
         by_clusters,
         c,
         &mut records,
         &mut slots,
         &roots,
+        &mut sinks,
+        &mut sets,
         work,
         &mut map,
     ).refusal
@@ -76,7 +108,17 @@ fn allocating(width: u32) -> u32 {
     let mut records = [0u32; 1];
     let mut slots = [0u32; 8];
     let mut roots = [0u32; 1];
-    let c = create(1, 1, &mut records, &mut slots, &mut roots).control;
+    let mut sinks = [0u32; 64];
+    let mut sets = [0u64; 1];
+    let c = create(
+        1,
+        1,
+        &mut records,
+        &mut slots,
+        &mut roots,
+        &mut sinks,
+        &mut sets,
+    ).control;
     allocate(c, width, &mut records, &mut slots).refusal
 }
 
@@ -85,9 +127,28 @@ fn writing(word: u32) -> u32 {
     let mut records = [0u32; 1];
     let mut slots = [0u32; 8];
     let mut roots = [0u32; 1];
-    let c = create(1, 1, &mut records, &mut slots, &mut roots).control;
+    let mut sinks = [0u32; 64];
+    let mut sets = [0u64; 1];
+    let c = create(
+        1,
+        1,
+        &mut records,
+        &mut slots,
+        &mut roots,
+        &mut sinks,
+        &mut sets,
+    ).control;
     let a = allocate(c, 1, &mut records, &mut slots);
-    write(a.control, a.object, 0, word, &mut records, &mut slots).refusal
+    write(
+        a.control,
+        a.object,
+        0,
+        word,
+        &mut records,
+        &mut slots,
+        &sinks,
+        &mut sets,
+    ).refusal
 }
 
 // The size limit after an analysis that finds write loss above out loss.
@@ -95,9 +156,19 @@ fn halved(limit: u32) -> u32 {
     let mut records = [0u32; 1];
     let slots = [0u32; 8];
     let roots = [0u32; 1];
+    let sinks = [0u32; 64];
+    let mut sets = [0u64; 1];
     let mut work = [0u32; 74];
     let c = with_write_loss(with_analysis(new_control(1, 1), limit, 0), 1);
-    analyse(c, &mut records, &slots, &roots, &mut work)
+    analyse(
+            c,
+            &mut records,
+            &slots,
+            &roots,
+            &sinks,
+            &mut sets,
+            &mut work,
+        )
         .control
         .limit
 }
@@ -118,10 +189,28 @@ fn first_limit(used: u32) -> u32 {
     let mut records = [0u32; 144];
     let mut slots = [0u32; 1152];
     let mut roots = [0u32; 1];
+    let mut sinks = [0u32; 64];
+    let mut sets = [0u64; 144];
     let mut work = [0u32; 1504];
-    let c = create(144, 1, &mut records, &mut slots, &mut roots).control;
+    let c = create(
+        144,
+        1,
+        &mut records,
+        &mut slots,
+        &mut roots,
+        &mut sinks,
+        &mut sets,
+    ).control;
     let d = allocate_times(c, used, &mut records, &mut slots);
-    analyse(d, &mut records, &slots, &roots, &mut work)
+    analyse(
+            d,
+            &mut records,
+            &slots,
+            &roots,
+            &sinks,
+            &mut sets,
+            &mut work,
+        )
         .control
         .limit
 }

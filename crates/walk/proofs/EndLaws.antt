@@ -2,26 +2,26 @@
 -- Assumes nothing.
 use Prim.Native.Nat.{ℕ, suc, _+_, _-_, _*_, _^_, _<_, _≤_}
 use mathlib.Core.Path.{_≡_, refl, sym, ap, _∙_, subst}
-use mathlib.Core.Logic.{_≢_, _⊎_, inl, inr}
+use mathlib.Core.Logic.{_⊎_, inl, inr}
 use mathlib.Core.Bool.{Bool, true, false, cond, true≢false}
 use mathlib.Core.List.{List, [], _∷_, _++_, append-assoc, append-nil, List·Memᴰ, List·Memᴰ·head, List·Memᴰ·tail, List·Memᴰ·append-cases, List·Memᴰ·not-nil}
 use native.Mathlib.Omega.{arith}
 use lib.ListN.{length, getD, take, drop}
 use lib.Seq.{drop-cons, take-suc}
-use Rattle.graph.specs.Numbers.{Obj, gather, lowest}
+use Rattle.graph.specs.Numbers.{Obj, lowest}
 use Rattle.graph.specs.Heap.{Heap, pointers}
 use Rattle.graph.specs.Trace.{postponed, Walk, visit, step, stepBy, needed, finish}
 use Rattle.graph.specs.Trace as T
 use Rattle.graph.proofs.LowestLaws.{lowest-passes, lowest-none}
-use Rattle.graph.proofs.TraceSafe.{Safe}
+use Rattle.graph.proofs.TraceSafe.{Ranged, words-ranged, Safe}
 use Rattle.graph.proofs.TraceEnds.{Ended, Falls, visit-falls, step-falls, finish-step, finish-ended}
 use Rattle.rules.specs.View.{view}
-use Rattle.rules.proofs.ViewLaws.{view-ranged}
+use Rattle.rules.proofs.ViewLaws.{view-closed}
 use Rattle.sweep.specs.Sweep.{unflagged}
 use Rattle.postponed.specs.Postponed as P
 use Rattle.postponed.proofs.PostponedLaws.{lowest-is}
 use Rattle.walk.specs.Marks.{flagsOf}
-use Rattle.walk.specs.State.{walkedHeap, heapFor, walkAt, endFrom, stepsFrom, pending, Objects, State, Ready, Moved, Followed, Drained, Finished}
+use Rattle.walk.specs.State.{Way, walkedHeap, heapFor, walkAt, endFrom, stepsFrom, pending, Objects, State, Listing, Ready, Moved, Followed, Drained, Finished}
 use Rattle.walk.proofs.MarkLaws.{view-same, flag-object}
 use Rattle.walk.proofs.PendingLaws.{pointers-append}
 use Rattle.walk.proofs.VisitLaws.{ready-moved}
@@ -44,7 +44,7 @@ objects-cons n o b f g x (List·Memᴰ·tail m) = g x m
 
 -- ---- the heap
 
-module _ (by : Bool) (n : ℕ) (slots recs recs′ : List ℕ) (long : n ≤ length recs) (kept : unflagged n recs′ ≡ unflagged n recs) where
+module _ (by : Way) (n : ℕ) (slots recs recs′ : List ℕ) (long : n ≤ length recs) (kept : unflagged n recs′ ≡ unflagged n recs) where
   heap-same : walkedHeap by n recs′ slots ≡ walkedHeap by n recs slots
   heap-same = ap (heapFor by) (view-same n recs recs′ long kept slots)
 
@@ -55,14 +55,26 @@ module _ (by : Bool) (n : ℕ) (slots recs recs′ : List ℕ) (long : n ≤ len
   steps-same : (todo : List ℕ) → stepsFrom by n slots recs′ todo ≡ needed (walkedHeap by n recs slots) (walkAt n recs′ todo)
   steps-same todo = ap (λ (H : Heap). needed H (walkAt n recs′ todo)) heap-same
 
+-- it is in range, as the list is
+walked-ranged : (by : Way) (n : ℕ) (recs slots : List ℕ) → Listing by n recs slots → Ranged (walkedHeap by n recs slots)
+unfolding view
+walked-ranged by n recs slots g =
+    words-ranged (walkedHeap by n recs slots) (view-closed n recs slots)
+    (λ y m nz. let t = g .listed y m nz in (t .0, none (by .clustered) (t .1)))
+  where
+    none : (b : Bool) {c : ℕ} → c ≡ 0 → cond b c 0 ≡ 0
+    none true e = e
+    none false e = refl
+
 -- ---- a visit
 
 module _
-    (by : Bool)
+    (by : Way)
     (n : ℕ)
     (slots recs work : List ℕ)
     (top o : ℕ)
     (s : State n recs slots work top)
+    (g : Listing by n recs slots)
     (io : Obj n o)
     (recs′ work′ : List ℕ)
     (top′ : ℕ)
@@ -82,12 +94,12 @@ module _
     end-visit =
         end-same by n slots recs recs′ (s .sized .room .recs-long) (v .kept) (pending n work′ top′ ++ more)
         ∙ ap (finish (walkedHeap by n recs slots)) (sym (v .same more))
-        ∙ finish-step (walkedHeap by n recs slots) (view-ranged n recs slots) (walkAt n recs (o ∷ (pending n work top ++ more))) safe
+        ∙ finish-step (walkedHeap by n recs slots) (walked-ranged by n recs slots g) (walkAt n recs (o ∷ (pending n work top ++ more))) safe
 
     steps-visit : stepsFrom by n slots recs′ (pending n work′ top′ ++ more) < stepsFrom by n slots recs (o ∷ (pending n work top ++ more))
     unfolding view
     steps-visit =
-        let f = visit-falls (walkedHeap by n recs slots) (walkAt n recs (o ∷ behind)) o behind refl io in
+        let f = visit-falls (walkedHeap by n recs slots) (walked-ranged by n recs slots g) (walkAt n recs (o ∷ behind)) o behind refl io in
         omega (
           arith,
           f .0,
@@ -97,7 +109,7 @@ module _
 
 -- ---- the loop that visits what is pending
 
-module _ (by : Bool) (n : ℕ) (recs slots work : List ℕ) (top : ℕ) (r : Ready by n recs slots work top) (some : top < 8 * n) where
+module _ (by : Way) (n : ℕ) (recs slots work : List ℕ) (top : ℕ) (r : Ready by n recs slots work top) (some : top < 8 * n) where
   next-pending : pending n work top ≡ getD work top 0 ∷ pending n work (top + 1)
   next-pending =
       let e : 8 * n - top ≡ suc (8 * n - (top + 1)) = omega arith in
@@ -124,9 +136,10 @@ module _ (by : Bool) (n : ℕ) (recs slots work : List ℕ) (top : ℕ) (r : Rea
               mapped = s .mapped;
             };
         linked = r .linked;
+        listing = r .listing;
       }
 
-pub record Draining (by : Bool) (n : ℕ) (slots recs₀ work₀ : List ℕ) (top₀ : ℕ) (recs work : List ℕ) (top : ℕ) : Type 0 where
+pub record Draining (by : Way) (n : ℕ) (slots recs₀ work₀ : List ℕ) (top₀ : ℕ) (recs work : List ℕ) (top : ℕ) : Type 0 where
   pub same : (more : List ℕ) → Objects n more → endFrom by n slots recs (pending n work top ++ more) ≡ endFrom by n slots recs₀ (pending n work₀ top₀ ++ more)
   pub ready : Ready by n recs slots work top
   pub kept : unflagged n recs ≡ unflagged n recs₀
@@ -134,7 +147,7 @@ pub record Draining (by : Bool) (n : ℕ) (slots recs₀ work₀ : List ℕ) (to
   pub recs-length : length recs ≡ length recs₀
   pub work-length : length work ≡ length work₀
 
-module _ (by : Bool) (n : ℕ) (slots recs₀ work₀ : List ℕ) (top₀ : ℕ) where
+module _ (by : Way) (n : ℕ) (slots recs₀ work₀ : List ℕ) (top₀ : ℕ) where
   pub draining-here : Ready by n recs₀ slots work₀ top₀ → Draining by n slots recs₀ work₀ top₀ recs₀ work₀ top₀
   draining-here r =
       record { same = λ more h. refl; ready = r; kept = refl; fewer = omega arith; recs-length = refl; work-length = refl }
@@ -162,7 +175,7 @@ module _ (by : Bool) (n : ℕ) (slots recs₀ work₀ : List ℕ) (top₀ : ℕ)
 
       pub draining-less : stepsFrom by n slots recs′ (pending n work′ top′) < stepsFrom by n slots recs (pending n work top)
       draining-less =
-          let f = steps-visit by n slots recs work (top + 1) o (popped .state) object recs′ work′ top′ v [] (objects-none n) in
+          let f = steps-visit by n slots recs work (top + 1) o (popped .state) (popped .listing) object recs′ work′ top′ v [] (objects-none n) in
           omega (
             arith,
             f,
@@ -174,10 +187,10 @@ module _ (by : Bool) (n : ℕ) (slots recs₀ work₀ : List ℕ) (top₀ : ℕ)
       draining-on a b =
           record {
             same = λ more h.
-                end-visit by n slots recs work (top + 1) o (popped .state) object recs′ work′ top′ v more h
+                end-visit by n slots recs work (top + 1) o (popped .state) (popped .listing) object recs′ work′ top′ v more h
                 ∙ ap (λ (l : List ℕ). endFrom by n slots recs (l ++ more)) list
                 ∙ g .same more h;
-            ready = ready-moved by n slots recs work (top + 1) _ recs′ work′ top′ (g .ready .state .sized .room .recs-long) (g .ready .linked) v;
+            ready = ready-moved by n slots recs work (top + 1) _ recs′ work′ top′ popped v;
             kept = v .kept ∙ g .kept;
             fewer = omega (arith, draining-less, g .fewer);
             recs-length = a ∙ g .recs-length;
@@ -205,7 +218,7 @@ module _ (by : Bool) (n : ℕ) (slots recs₀ work₀ : List ℕ) (top₀ : ℕ)
 pub none-pending : (n : ℕ) (work : List ℕ) → pending n work (8 * n) ≡ []
 none-pending n work = let z : 8 * n - 8 * n ≡ 0 = omega arith in ap (λ (k : ℕ). take k (drop (8 * n) work)) z
 
-module _ (by : Bool) (n : ℕ) (slots recs work : List ℕ) (r : Ready by n recs slots work (8 * n)) where
+module _ (by : Way) (n : ℕ) (slots recs work : List ℕ) (r : Ready by n recs slots work (8 * n)) where
   -- one object visited, and what is then pending
   pub followed-visit : (o : ℕ) → Obj n o → (recs₁ work₁ : List ℕ) (top₁ : ℕ)
       → Moved n slots recs work (8 * n) (visit (walkedHeap by n recs slots) o) recs₁ work₁ top₁ → (recs₂ work₂ : List ℕ)
@@ -214,7 +227,7 @@ module _ (by : Bool) (n : ℕ) (slots recs work : List ℕ) (r : Ready by n recs
       record {
         same = λ more h.
             d .followed .same more h
-            ∙ end-visit by n slots recs work (8 * n) o (r .state) io recs₁ work₁ top₁ v more h
+            ∙ end-visit by n slots recs work (8 * n) o (r .state) (r .listing) io recs₁ work₁ top₁ v more h
             ∙ ap (λ (l : List ℕ). endFrom by n slots recs (o ∷ (l ++ more))) (none-pending n work);
         ready = d .followed .ready;
         kept = d .followed .kept ∙ v .kept;
@@ -224,12 +237,12 @@ module _ (by : Bool) (n : ℕ) (slots recs work : List ℕ) (r : Ready by n recs
   pub followed-none : (from : List ℕ) → from ≡ [] → Followed by n slots recs from recs work
   followed-none from e = record { same = λ more h. rw e refl; ready = r; kept = refl }
 
-pub followed-as : (by : Bool) (n : ℕ) (slots recs from from′ recs′ work′ : List ℕ) → from′ ≡ from → Followed by n slots recs from recs′ work′
+pub followed-as : (by : Way) (n : ℕ) (slots recs from from′ recs′ work′ : List ℕ) → from′ ≡ from → Followed by n slots recs from recs′ work′
     → Followed by n slots recs from′ recs′ work′
 followed-as by n slots recs from from′ recs′ work′ e f = rw e f
 
 -- some starts, then others
-pub followed-then : (by : Bool) (n : ℕ) (slots recs a b recs₁ work₁ recs₂ work₂ : List ℕ) → Objects n b
+pub followed-then : (by : Way) (n : ℕ) (slots recs a b recs₁ work₁ recs₂ work₂ : List ℕ) → Objects n b
     → Followed by n slots recs a recs₁ work₁ → Followed by n slots recs₁ b recs₂ work₂ → Followed by n slots recs (a ++ b) recs₂ work₂
 followed-then by n slots recs a b recs₁ work₁ recs₂ work₂ ob f g =
     record {
@@ -241,21 +254,12 @@ followed-then by n slots recs a b recs₁ work₁ recs₂ work₂ ob f g =
       kept = g .kept ∙ f .kept;
     }
 
--- ---- the roots by index, and the sinks by number
+-- ---- the roots by index
 
 pub roots-next : (roots : List ℕ) (i : ℕ) → i < length roots → pointers (take (i + 1) roots) ≡ pointers (take i roots) ++ pointers (getD roots i 0 ∷ [])
 roots-next roots i l =
     let t : i + 1 ≡ suc i = omega arith in
     ap (λ (k : ℕ). pointers (take k roots)) t ∙ ap pointers (take-suc roots i 0 l) ∙ pointers-append (take i roots) (getD roots i 0 ∷ [])
-
--- the next sink
-pub sinks-next : (t : ℕ → Bool) (x : ℕ) → gather (x + 1) t (λ y. y ∷ []) ≡ gather x t (λ y. y ∷ []) ++ cond (t (x + 1)) ((x + 1) ∷ []) []
-unfolding gather
-sinks-next t x = let e : x + 1 ≡ suc x = omega arith in rw e refl
-
-pub sink-object : (n x : ℕ) (b : Bool) → Obj n x → Objects n (cond b (x ∷ []) [])
-sink-object n x true o = objects-cons n x [] o (objects-none n)
-sink-object n x false o = objects-none n
 
 -- ---- the lowest postponed object
 
@@ -264,13 +268,13 @@ abbrev pub lowestPostponed : ℕ → List ℕ → ℕ
 lowestPostponed n recs = lowest (flagsOf n recs postponed) n
 
 -- the lowest postponed object was taken up, and what it leads to was visited
-record Retaken (by : Bool) (n : ℕ) (slots recs recs′ work′ : List ℕ) : Type 0 where
+record Retaken (by : Way) (n : ℕ) (slots recs recs′ work′ : List ℕ) : Type 0 where
   same : endFrom by n slots recs′ [] ≡ endFrom by n slots recs []
   ready : Ready by n recs′ slots work′ (8 * n)
   kept : unflagged n recs′ ≡ unflagged n recs
   less : stepsFrom by n slots recs′ [] < stepsFrom by n slots recs []
 
-module _ (by : Bool) (n : ℕ) (slots recs work : List ℕ) (r : Ready by n recs slots work (8 * n)) where
+module _ (by : Way) (n : ℕ) (slots recs work : List ℕ) (r : Ready by n recs slots work (8 * n)) where
   abbrev here : Walk
   here = walkAt n recs []
 
@@ -295,7 +299,7 @@ module _ (by : Bool) (n : ℕ) (slots recs work : List ℕ) (r : Ready by n recs
         (v : Moved n slots recs work (8 * n) (T.take (walkedHeap by n recs slots) o) recs₁ work₁ top₁)
       where
         ready-taken : Ready by n recs₁ slots work₁ top₁
-        ready-taken = ready-moved by n slots recs work (8 * n) _ recs₁ work₁ top₁ (r .state .sized .room .recs-long) (r .linked) v
+        ready-taken = ready-moved by n slots recs work (8 * n) _ recs₁ work₁ top₁ r v
 
         stepped : step (walkedHeap by n recs slots) here ≡ walkAt n recs₁ (pending n work₁ top₁)
         unfolding step stepBy view
@@ -307,7 +311,7 @@ module _ (by : Bool) (n : ℕ) (slots recs work : List ℕ) (r : Ready by n recs
 
         falls : needed (walkedHeap by n recs slots) (step (walkedHeap by n recs slots) here) < needed (walkedHeap by n recs slots) here
         unfolding view
-        falls = at (step-falls (walkedHeap by n recs slots) here calm)
+        falls = at (step-falls (walkedHeap by n recs slots) (walked-ranged by n recs slots (r .listing)) here calm)
           where
             at : Ended (walkedHeap by n recs slots) here ⊎ Falls (walkedHeap by n recs slots) here (step (walkedHeap by n recs slots) here)
                 → needed (walkedHeap by n recs slots) (step (walkedHeap by n recs slots) here) < needed (walkedHeap by n recs slots) here
@@ -323,7 +327,7 @@ module _ (by : Bool) (n : ℕ) (slots recs work : List ℕ) (r : Ready by n recs
                   ∙ ap (endFrom by n slots recs₁) (append-nil (pending n work₁ top₁))
                   ∙ end-same by n slots recs recs₁ long (v .kept) (pending n work₁ top₁)
                   ∙ ap (finish (walkedHeap by n recs slots)) (sym stepped)
-                  ∙ finish-step (walkedHeap by n recs slots) (view-ranged n recs slots) here calm;
+                  ∙ finish-step (walkedHeap by n recs slots) (walked-ranged by n recs slots (r .listing)) here calm;
               ready = d .followed .ready;
               kept = d .followed .kept ∙ v .kept;
               less =
@@ -337,7 +341,7 @@ module _ (by : Bool) (n : ℕ) (slots recs work : List ℕ) (r : Ready by n recs
             }
 
 -- the loop that takes them up
-pub record Retaking (by : Bool) (n : ℕ) (slots recs₀ work₀ recs work : List ℕ) (o : ℕ) : Type 0 where
+pub record Retaking (by : Way) (n : ℕ) (slots recs₀ work₀ recs work : List ℕ) (o : ℕ) : Type 0 where
   pub same : endFrom by n slots recs [] ≡ endFrom by n slots recs₀ []
   pub ready : Ready by n recs slots work (8 * n)
   pub kept : unflagged n recs ≡ unflagged n recs₀
@@ -345,7 +349,7 @@ pub record Retaking (by : Bool) (n : ℕ) (slots recs₀ work₀ recs work : Lis
   pub recs-length : length recs ≡ length recs₀
   pub work-length : length work ≡ length work₀
 
-module _ (by : Bool) (n : ℕ) (slots recs₀ work₀ : List ℕ) where
+module _ (by : Way) (n : ℕ) (slots recs₀ work₀ : List ℕ) where
   pub retaking-here : (o : ℕ) → Ready by n recs₀ slots work₀ (8 * n) → ((i : ℕ) → getD work₀ i 0 < 2 ^ 32) → o ≡ P.lowest n work₀ → Retaking by n slots recs₀ work₀ recs₀ work₀ o
   retaking-here o r f l =
       record { same = refl; ready = r; kept = refl; lowest-now = lowest-there by n slots recs₀ work₀ r o f l; recs-length = refl; work-length = refl }

@@ -4,6 +4,7 @@ pub mod MarkLaws
 pub mod PendingLaws
 pub mod MoveLaws
 pub mod VisitLaws
+pub mod SinkLaws
 -- ---- from the starts to the end
 pub mod EndLaws
 pub mod TraceLaws

@@ -136,7 +136,7 @@ module _ (n : ℕ) (recs recs′ : List ℕ) (long : n ≤ length recs) (e : unf
   pub out-same : (x : ℕ) → isOut (recOf n recs′ x) ≡ isOut (recOf n recs x)
   out-same = low-same 3 (omega arith)
 
-  pub sink-same : (x : ℕ) → isSink (recOf n recs′ x) ≡ isSink (recOf n recs x)
+  sink-same : (x : ℕ) → isSink (recOf n recs′ x) ≡ isSink (recOf n recs x)
   sink-same = low-same 2 (omega arith)
 
   -- the heap is the same
@@ -148,6 +148,7 @@ module _ (n : ℕ) (recs recs′ : List ℕ) (long : n ≤ length recs) (e : unf
         n = n;
         kids = λ x. map (target n) (take (width-same x i) (eight slots x));
         sink = λ x. sink-same x i;
+        listed = [];
         written = λ x. low-same 1 (omega arith) x i;
         cluster = λ x. cluster-same x i;
         out = λ x. out-same x i;

@@ -14,10 +14,11 @@ use Rattle.graph.specs.Heap.{Heap, targets}
 use Rattle.graph.specs.Trace.{Flag, marked, postponed, reached, Flags, setFlag, Walk, scan, postpone, unpostpone, arrive}
 use Rattle.graph.proofs.FlagLaws.{marked≢postponed, reached≢postponed, reached≢marked, postponed≢marked, setFlag-same, setFlag-other, setFlag-apart}
 use Rattle.graph.proofs.FlagLaws.{rest, rest-set, rest-other, count-set, count-other}
+use Rattle.graph.proofs.MemberLaws.{pointer-word, pointer-nonzero}
 use Rattle.rules.specs.Buffers.{recOf}
 use Rattle.rules.specs.View.{view}
 use Rattle.rules.proofs.BufferLaws.{used-part}
-use Rattle.rules.proofs.ViewLaws.{view-ranged}
+use Rattle.rules.proofs.ViewLaws.{view-closed}
 use Rattle.table.specs.Room.{Sized}
 use Rattle.postponed.proofs.PostponedLaws.{put-mapped, put-kept, mapped-kept}
 use Rattle.postponed.specs.Postponed as P
@@ -187,7 +188,9 @@ module _ (n : ℕ) (recs slots work : List ℕ) (top : ℕ) (s : State n recs sl
 
       own-in : Objects n ks
       unfolding view
-      own-in y m = view-ranged n recs slots o y io (subst (λ (l : List ℕ). List·Memᴰ y l) (sym own) m)
+      own-in y m =
+          let t : List·Memᴰ y (targets H o) = subst (λ (l : List ℕ). List·Memᴰ y l) (sym own) m in
+          (omega (arith, pointer-nonzero (H .kids o) y t), view-closed n recs slots o y (pointer-word (H .kids o) y t))
 
       pub scan-pushable : Pushable n slots (8 * (o - 1)) k work top
       scan-pushable =

@@ -4,21 +4,20 @@ use Prim.Native.Nat.{ℕ, _+_, _-_, _*_, _<_, _≤_}
 use mathlib.Core.Path.{_≡_, refl, sym, ap, _∙_, subst}
 use mathlib.Core.Logic.{_≢_}
 use mathlib.Core.Bool.{Bool, true, false, not, cond, true≢false}
-use mathlib.Core.List.{List, [], _∷_, _++_, append-nil, List·Memᴰ, List·Memᴰ·head, List·Memᴰ·tail, List·Memᴰ·not-nil, List·Memᴰ·eq-of-singleton}
+use mathlib.Core.List.{List, [], _∷_, _++_, append-nil, List·Memᴰ, List·Memᴰ·head, List·Memᴰ·not-nil}
 use native.Mathlib.Omega.{arith}
 use borrow.Author.Tests.{ne-eqb}
 use borrow.Rule.Slice.PartMut.{midOf, postOf, putMid, mid-len}
 use lib.ListN.{length, getD, take, drop, length-drop}
 use lib.Seq.{getD-append-add, getD-drop, getD-take, take-at, drop-at, take-add, length-take-le}
 use Rattle.layout.specs.Limits.{workLen}
-use Rattle.records.specs.Record.{isSink}
-use Rattle.graph.specs.Numbers.{Obj, count, gather}
-use Rattle.graph.specs.Heap.{Heap, pointers, targets, starts}
+use Rattle.graph.specs.Numbers.{Obj, count}
+use Rattle.graph.specs.Heap.{pointers, targets}
 use Rattle.graph.specs.Trace.{Flags, marked, postponed, Walk, noFlags, begin, finish, traced}
-use Rattle.graph.proofs.NumberLaws.{sum-most, count-none, gather-from, in-left, in-right}
+use Rattle.graph.proofs.NumberLaws.{sum-most, count-none, in-left, in-right}
 use Rattle.graph.proofs.ReachLaws.{length-pointers}
-use Rattle.rules.specs.Buffers.{recOf, zeros}
-use Rattle.rules.specs.View.{view, startsIn}
+use Rattle.rules.specs.Buffers.{zeros}
+use Rattle.rules.specs.View.{view}
 use Rattle.rules.proofs.ViewLaws.{view-kids}
 use Rattle.rules.proofs.ListLaws.{length-each, get-each}
 use Rattle.links.specs.Links.{linkedAt, linkWord, links, linkable}
@@ -26,10 +25,10 @@ use Rattle.links.proofs.LinkLaws.{linked}
 use Rattle.table.specs.Cleared.{cleared}
 use Rattle.postponed.proofs.PostponedLaws.{mapped-none}
 use Rattle.walk.specs.Marks.{flagsOf}
-use Rattle.walk.specs.State.{walkedHeap, walkAt, endFrom, Objects, linkAt, Linked, Ready, Followed, Finished, Traceable, Walked}
-use Rattle.walk.proofs.MarkLaws.{unflagged-flags, sink-same, view-same}
+use Rattle.walk.specs.State.{Way, walkedHeap, walkAt, endFrom, Objects, linkAt, Linked, Ready, Followed, Finished, Traceable, Walked}
+use Rattle.walk.proofs.MarkLaws.{unflagged-flags}
 use Rattle.walk.proofs.PendingLaws.{pointers-append}
-use Rattle.walk.proofs.EndLaws.{objects-none, roots-next, sinks-next, sink-object, followed-none, followed-as, followed-then, none-pending}
+use Rattle.walk.proofs.EndLaws.{objects-none, roots-next, followed-none, followed-as, followed-then, none-pending}
 
 -- ---- one root
 
@@ -46,7 +45,7 @@ root-named n w e h = h w (subst (λ (l : List ℕ). List·Memᴰ w l) (sym (root
 
 -- ---- the loops over the starts
 
-module _ (by : Bool) (n : ℕ) (slots recs₀ : List ℕ) where
+module _ (by : Way) (n : ℕ) (slots recs₀ : List ℕ) where
   pub roots-begin : (work roots : List ℕ) → Ready by n recs₀ slots work (8 * n) → Followed by n slots recs₀ (pointers (take 0 roots)) recs₀ work
   unfolding pointers
   roots-begin work roots r = followed-none by n slots recs₀ work r (pointers (take 0 roots)) refl
@@ -87,34 +86,8 @@ module _ (by : Bool) (n : ℕ) (slots recs₀ : List ℕ) where
     root-followed e recs₁ work₁ recs₂ work₂ f g =
         roots-on recs₁ work₁ recs₂ work₂ f (followed-as by n slots recs₁ _ _ recs₂ work₂ (root-one (getD roots i 0) e) g)
 
-  pub sinks-begin : (work : List ℕ) (t : ℕ → Bool) → Ready by n recs₀ slots work (8 * n) → Followed by n slots recs₀ (gather 0 t (λ y. y ∷ [])) recs₀ work
-  unfolding gather
-  sinks-begin work t r = followed-none by n slots recs₀ work r (gather 0 t (λ y. y ∷ [])) refl
-
-  sinks-on : n ≤ length recs₀ → (x : ℕ) → x < n → (recs₁ work₁ recs₂ work₂ : List ℕ)
-      → Followed by n slots recs₀ (gather x (view n recs₀ slots .sink) (λ y. y ∷ [])) recs₁ work₁
-      → Followed by n slots recs₁ (cond (isSink (recOf n recs₁ (x + 1))) ((x + 1) ∷ []) []) recs₂ work₂
-      → Followed by n slots recs₀ (gather (x + 1) (view n recs₀ slots .sink) (λ y. y ∷ [])) recs₂ work₂
-  unfolding view
-  sinks-on long x less recs₁ work₁ recs₂ work₂ f g =
-      followed-as by n slots recs₀ _ _ recs₂ work₂ (sinks-next (λ y. isSink (recOf n recs₀ y)) x)
-      (followed-then by n slots recs₀ (gather x (λ y. isSink (recOf n recs₀ y)) (λ y. y ∷ [])) (cond (isSink (recOf n recs₀ (x + 1))) ((x + 1) ∷ []) [])
-      recs₁ work₁ recs₂ work₂ (sink-object n (x + 1) (isSink (recOf n recs₀ (x + 1))) (omega arith)) f
-      (subst (λ (b : Bool). Followed by n slots recs₁ (cond b ((x + 1) ∷ []) []) recs₂ work₂) (sink-same n recs₀ recs₁ long (f .kept) (x + 1)) g))
-
-  module _ (long : n ≤ length recs₀) (x : ℕ) (less : x < n) (recs₁ work₁ : List ℕ)
-      (f : Followed by n slots recs₀ (gather x (view n recs₀ slots .sink) (λ y. y ∷ [])) recs₁ work₁) where
-    -- object x + 1 is no sink
-    pub sink-passed : isSink (recOf n recs₁ (x + 1)) ≡ false → Followed by n slots recs₀ (gather (x + 1) (view n recs₀ slots .sink) (λ y. y ∷ [])) recs₁ work₁
-    sink-passed e = sinks-on long x less recs₁ work₁ recs₁ work₁ f (followed-none by n slots recs₁ work₁ (f .ready) _ (rw e refl))
-
-    -- it is one
-    pub sink-followed : isSink (recOf n recs₁ (x + 1)) ≡ true → (recs₂ work₂ : List ℕ) → Followed by n slots recs₁ ((x + 1) ∷ []) recs₂ work₂
-        → Followed by n slots recs₀ (gather (x + 1) (view n recs₀ slots .sink) (λ y. y ∷ [])) recs₂ work₂
-    sink-followed e recs₂ work₂ g = sinks-on long x less recs₁ work₁ recs₂ work₂ f (rw e g)
-
 -- a loop that has come to its end
-pub followed-at : (by : Bool) (n : ℕ) (slots recs : List ℕ) (from : ℕ → List ℕ) (i k : ℕ) (recs′ work′ : List ℕ) → i ≤ k → k ≤ i
+pub followed-at : (by : Way) (n : ℕ) (slots recs : List ℕ) (from : ℕ → List ℕ) (i k : ℕ) (recs′ work′ : List ℕ) → i ≤ k → k ≤ i
     → Followed by n slots recs (from i) recs′ work′ → Followed by n slots recs (from k) recs′ work′
 followed-at by n slots recs from i k recs′ work′ a b f =
     let e : k ≡ i = omega arith in
@@ -139,26 +112,18 @@ module _ (a b : ℕ) (l : List ℕ) (fits : a ≤ length l) where
       ∙ ap (λ (x : List ℕ). getD x (i - a) 0) (drop-at (take a l) (zeros (b - a) (drop a l)) a (length-take-le a l fits))
       ∙ get-each 0 (b - a) (λ x w. 0) (drop a l) (i - a) 0 (omega arith) (omega (arith, length-drop a l))
 
--- a list of objects has no other word
-all-pointers : (n : ℕ) (l : List ℕ) → Objects n l → pointers l ≡ l
-unfolding pointers
-all-pointers n [] h = refl
-all-pointers n (w ∷ l) h =
-    let b = h w (List·Memᴰ·head refl) in
-    rw (ne-eqb w 0 (omega arith)) (ap (λ (m : List ℕ). w ∷ m) (all-pointers n l (λ x m. h x (List·Memᴰ·tail m))))
-
 unless-le : (b : Bool) (x : ℕ) → cond b 0 x ≤ x
 unless-le true x = omega arith
 unless-le false x = omega arith
 
-module _ (by : Bool) (n : ℕ) (from recs slots work : List ℕ) (t : Traceable n from recs slots work) where
+module _ (by : Way) (n : ℕ) (from recs slots work : List ℕ) (t : Traceable by n from recs slots work) where
   clear-flags : flagsOf n recs ≡ noFlags
   clear-flags = unflagged-flags n recs (t .sized .room .recs-long) (t .clear)
 
   targets-short : (x : ℕ) → length (targets (view n recs slots) x) ≤ 8
   targets-short x = omega (arith, length-pointers (view n recs slots .kids x), view-kids n recs slots x)
 
-  pub trace-ready : (work₁ work₂ : List ℕ) → Linked by n recs work₁ → length work₁ ≡ length work → work₂ ≡ cleared (9 * n) (workLen n) work₁
+  pub trace-ready : (work₁ work₂ : List ℕ) → Linked (by .clustered) n recs work₁ → length work₁ ≡ length work → work₂ ≡ cleared (9 * n) (workLen n) work₁
       → length work₂ ≡ length work₁ → Ready by n recs slots work₂ (8 * n)
   unfolding workLen noFlags
   trace-ready work₁ work₂ l e₁ c e₂ =
@@ -186,6 +151,7 @@ module _ (by : Bool) (n : ℕ) (from recs slots work : List ℕ) (t : Traceable 
                   ∙ cleared-under (9 * n) (10 * n + 64) work₁ (omega arith) (8 * n + (x - 1)) (omega arith)
                   ∙ l .links e x b;
             };
+        listing = t .listing;
       }
 
   -- ---- the end
@@ -209,35 +175,6 @@ module _ (by : Bool) (n : ℕ) (from recs slots work : List ℕ) (t : Traceable 
           ∙ a .same [] (objects-none n)
           ∙ ap (endFrom by n slots recs) (append-nil (pointers from))
           ∙ ap (finish (walkedHeap by n recs slots)) walk-begin
-
--- ---- the starts: what the roots name, then the sinks
-
-module _ (n r : ℕ) (recs slots roots : List ℕ) where
-  abbrev H : Heap
-  H = view n recs slots
-
-  abbrev sinks : List ℕ
-  sinks = gather n (H .sink) (λ y. y ∷ [])
-
-  sinks-in : Objects n sinks
-  sinks-in x m =
-      let f = gather-from n (H .sink) (λ y. y ∷ []) x m in
-      subst (λ (y : ℕ). Obj n y) (sym (List·Memᴰ·eq-of-singleton (f .3))) (f .1)
-
-  starts-are : pointers (startsIn n r recs slots roots) ≡ pointers (take r roots) ++ sinks
-  unfolding starts view
-  starts-are = pointers-append (take r roots) sinks ∙ ap (λ (l : List ℕ). pointers (take r roots) ++ l) (all-pointers n sinks sinks-in)
-
-  pub starts-roots : Objects n (pointers (startsIn n r recs slots roots)) → Objects n (pointers (take r roots))
-  starts-roots h x m = h x (subst (λ (l : List ℕ). List·Memᴰ x l) (sym starts-are) (in-left x (pointers (take r roots)) sinks m))
-
-  pub starts-followed : (by : Bool) → n ≤ length recs → (recs₁ work₁ recs₂ work₂ : List ℕ) → Followed by n slots recs (pointers (take r roots)) recs₁ work₁
-      → Followed by n slots recs₁ (gather n (view n recs₁ slots .sink) (λ y. y ∷ [])) recs₂ work₂
-      → Followed by n slots recs (pointers (startsIn n r recs slots roots)) recs₂ work₂
-  starts-followed by long recs₁ work₁ recs₂ work₂ a b =
-      followed-as by n slots recs _ _ recs₂ work₂ starts-are
-      (followed-then by n slots recs (pointers (take r roots)) sinks recs₁ work₁ recs₂ work₂ sinks-in a
-      (subst (λ (G : Heap). Followed by n slots recs₁ (gather n (G .sink) (λ y. y ∷ [])) recs₂ work₂) (view-same n recs recs₁ long (a .kept) slots) b))
 
 -- ---- the links
 

@@ -3,12 +3,15 @@ ghost use mathlib.Core.Path.{_≡_};
 ghost use mathlib.Core.Bool.{true, false};
 ghost use Prim.Native.Nat.{_*_, _≤_};
 ghost use lib.ListN.{length, take, drop};
+ghost use Rattle.layout.specs.Limits.{sinkMax};
 ghost use Rattle.graph.specs.Numbers.{Obj};
 ghost use Rattle.graph.specs.Trace as T;
 ghost use Rattle.rules.specs.View.{view};
 ghost use Rattle.walk.specs.Marks.{flagsOf};
-ghost use Rattle.walk.specs.State.{pointersIn, linkAt, Pushable, Pushed, State, Ready, Moved};
+ghost use Rattle.walk.specs.State.{pointersIn, Objects, sinksIn, linkAt, Linked, Pushable, Pushed, State, Moved};
 use crate::marks::put_bit;
+use bitmap::lowest_bit;
+use bitmap::without_lowest;
 use layout::limits::within;
 use links::next_member;
 use links::top_member;
@@ -84,6 +87,32 @@ pub(crate) fn scan_unmarked(
     scan(n, records, slots, work, top, x)
 }
 
+// Scans the sinks in the places of a set that are not marked, by place.
+pub(crate) fn scan_sinks(
+    n: u32,
+    records: &mut [u32],
+    slots: &[u32],
+    sinks: &[u32],
+    work: &mut [u32],
+    top: usize,
+    set: u64,
+) -> usize
+    requires { ⌜ State n (now records) (now slots) (now work) top ⌝ }
+    requires { ⌜ (sinkMax ≤ length (now sinks)) × Objects n (sinksIn (now sinks) set) ⌝ }
+    ensures { λ r. ⌜ Moved n (now (slots .entry)) (now (records .entry)) (now (work .entry)) top
+        (T.scanAll (view n (now (records .entry)) (now (slots .entry))) (sinksIn (now (sinks .entry)) set))
+        (now (records .exit)) (now (work .exit)) r ⌝ }
+{
+    let mut at = top;
+    let mut rest = set;
+    while rest != 0 {
+        let k = lowest_bit(rest) as usize;
+        at = scan_unmarked(n, records, slots, work, at, sinks[k]);
+        rest = without_lowest(rest);
+    }
+    at
+}
+
 // The link word of object x.
 fn link_of(n: u32, work: &[u32], x: u32) -> u32
     requires { ⌜ Obj n x × (9 * n ≤ length (now work)) ⌝ }
@@ -101,7 +130,8 @@ pub(crate) fn scan_outs(
     top: usize,
     h: u32,
 ) -> usize
-    requires { ⌜ Ready true n (now records) (now slots) (now work) top ⌝ }
+    requires { ⌜ State n (now records) (now slots) (now work) top ⌝ }
+    requires { ⌜ Linked true n (now records) (now work) ⌝ }
     requires { ⌜ Obj n h ⌝ }
     ensures { λ r. ⌜ Moved n (now (slots .entry)) (now (records .entry)) (now (work .entry)) top
         (T.scanOuts (view n (now (records .entry)) (now (slots .entry))) h n)

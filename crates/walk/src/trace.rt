@@ -1,48 +1,70 @@
 // The walk of a collection: the starts one after the other, each with all that it leads to, then the postponed objects.
-ghost use mathlib.Core.Path.{_≡_};
-ghost use mathlib.Core.Bool.{cond};
 ghost use mathlib.Core.List.{[], _∷_};
 ghost use Prim.Native.Nat.{_*_, _≤_};
 ghost use lib.ListN.{length, take};
 ghost use Rattle.layout.specs.Limits.{objectMax};
-ghost use Rattle.records.specs.Record.{isSink};
-ghost use Rattle.graph.specs.Numbers.{Obj, gather};
+ghost use Rattle.graph.specs.Numbers.{Obj};
 ghost use Rattle.graph.specs.Heap.{pointers};
-ghost use Rattle.rules.specs.Buffers.{recOf};
-ghost use Rattle.rules.specs.View.{view, startsIn};
-ghost use Rattle.walk.specs.State.{pending, Objects, Linked, Ready, Followed, Drained, Finished, Traceable, Walked};
+ghost use Rattle.rules.specs.View.{startsIn};
+ghost use Rattle.walk.specs.State.{way, pending, Objects, Linked, Ready, Followed, Drained, Finished, Traceable, Walked};
 use crate::visit::take_up;
 use crate::visit::visit;
 use crate::visit::visit_pending;
 use layout::limits::work_len;
 use links::link;
 use postponed::lowest;
-use records::is_sink;
 use table::buffers::clear;
-use table::clusters::record_of;
 
 // Visits the pending objects, and what they lead to, until none is left.
-fn drain(by: bool, n: u32, records: &mut [u32], slots: &[u32], work: &mut [u32], top: usize)
-    requires { ⌜ Ready by n (now records) (now slots) (now work) top ⌝ }
-    ensures { λ _. ⌜ Drained by n (now (slots .entry)) (now (records .entry)) (pending n (now (work .entry)) top)
+fn drain(
+    by: bool,
+    n: u32,
+    records: &mut [u32],
+    slots: &[u32],
+    sinks: &[u32],
+    sets: &[u64],
+    work: &mut [u32],
+    top: usize,
+)
+    requires { ⌜ Ready (way by (now sinks) (now sets)) n (now records) (now slots) (now work) top ⌝ }
+    ensures { λ _. ⌜ Drained (way by (now (sinks .entry)) (now (sets .entry))) n (now (slots .entry)) (now (records .entry)) (pending n (now (work .entry)) top)
         (now (records .exit)) (now (work .exit)) ⌝ }
 {
     let end = 8 * (n as usize);
     let mut at = top;
     while at < end {
         let x = work[at];
-        at = visit_pending(by, n, records, slots, work, at + 1, x);
+        at = visit_pending(by, n, records, slots, sinks, sets, work, at + 1, x);
     }
 }
 
 // Visits object x and what it leads to.
-fn follow(by: bool, n: u32, records: &mut [u32], slots: &[u32], work: &mut [u32], x: u32)
-    requires { ⌜ Ready by n (now records) (now slots) (now work) (8 * n) ⌝ }
+fn follow(
+    by: bool,
+    n: u32,
+    records: &mut [u32],
+    slots: &[u32],
+    sinks: &[u32],
+    sets: &[u64],
+    work: &mut [u32],
+    x: u32,
+)
+    requires { ⌜ Ready (way by (now sinks) (now sets)) n (now records) (now slots) (now work) (8 * n) ⌝ }
     requires { ⌜ Obj n x ⌝ }
-    ensures { λ _. ⌜ Followed by n (now (slots .entry)) (now (records .entry)) (x ∷ []) (now (records .exit)) (now (work .exit)) ⌝ }
+    ensures { λ _. ⌜ Followed (way by (now (sinks .entry)) (now (sets .entry))) n (now (slots .entry)) (now (records .entry)) (x ∷ []) (now (records .exit)) (now (work .exit)) ⌝ }
 {
-    let top = visit(by, n, records, slots, work, 8 * (n as usize), x);
-    drain(by, n, records, slots, work, top);
+    let top = visit(
+        by,
+        n,
+        records,
+        slots,
+        sinks,
+        sets,
+        work,
+        8 * (n as usize),
+        x,
+    );
+    drain(by, n, records, slots, sinks, sets, work, top);
 }
 
 // Visits the objects that the first r roots name, by index.
@@ -53,11 +75,13 @@ fn follow_roots(
     records: &mut [u32],
     slots: &[u32],
     roots: &[u32],
+    sinks: &[u32],
+    sets: &[u64],
     work: &mut [u32],
 )
-    requires { ⌜ Ready by n (now records) (now slots) (now work) (8 * n) ⌝ }
+    requires { ⌜ Ready (way by (now sinks) (now sets)) n (now records) (now slots) (now work) (8 * n) ⌝ }
     requires { ⌜ (r ≤ length (now roots)) × Objects n (pointers (take r (now roots))) ⌝ }
-    ensures { λ _. ⌜ Followed by n (now (slots .entry)) (now (records .entry)) (pointers (take r (now (roots .entry))))
+    ensures { λ _. ⌜ Followed (way by (now (sinks .entry)) (now (sets .entry))) n (now (slots .entry)) (now (records .entry)) (pointers (take r (now (roots .entry))))
         (now (records .exit)) (now (work .exit)) ⌝ }
 {
     let mut i: usize = 0;
@@ -65,36 +89,28 @@ fn follow_roots(
         let w = roots[i];
         i += 1;
         if w != 0 {
-            follow(by, n, records, slots, work, w);
-        }
-    }
-}
-
-// Visits the sinks, by number.
-fn follow_sinks(by: bool, n: u32, records: &mut [u32], slots: &[u32], work: &mut [u32])
-    requires { ⌜ Ready by n (now records) (now slots) (now work) (8 * n) ⌝ }
-    ensures { λ _. ⌜ Followed by n (now (slots .entry)) (now (records .entry))
-        (gather n (view n (now (records .entry)) (now (slots .entry)) .sink) (λ x. x ∷ []))
-        (now (records .exit)) (now (work .exit)) ⌝ }
-{
-    let mut x: u32 = 0;
-    while x < n {
-        x += 1;
-        if is_sink(record_of(n, x, records)) {
-            follow(by, n, records, slots, work, x);
+            follow(by, n, records, slots, sinks, sets, work, w);
         }
     }
 }
 
 // Takes up the postponed objects, the lowest first, until none is left.
-fn follow_postponed(by: bool, n: u32, records: &mut [u32], slots: &[u32], work: &mut [u32])
-    requires { ⌜ Ready by n (now records) (now slots) (now work) (8 * n) ⌝ }
-    ensures { λ _. ⌜ Finished by n (now (slots .entry)) (now (records .entry)) (now (records .exit)) ⌝ }
+fn follow_postponed(
+    by: bool,
+    n: u32,
+    records: &mut [u32],
+    slots: &[u32],
+    sinks: &[u32],
+    sets: &[u64],
+    work: &mut [u32],
+)
+    requires { ⌜ Ready (way by (now sinks) (now sets)) n (now records) (now slots) (now work) (8 * n) ⌝ }
+    ensures { λ _. ⌜ Finished (way by (now (sinks .entry)) (now (sets .entry))) n (now (slots .entry)) (now (records .entry)) (now (records .exit)) ⌝ }
 {
     let mut x = lowest(n, work);
     while x != 0 {
         let top = take_up(by, n, records, slots, work, x);
-        drain(by, n, records, slots, work, top);
+        drain(by, n, records, slots, sinks, sets, work, top);
         x = lowest(n, work);
     }
 }
@@ -111,7 +127,7 @@ fn link_clusters(by: bool, n: u32, records: &[u32], work: &mut [u32])
     link(true, n, records, &mut work[8 * m..9 * m]);
 }
 
-// Walks the heap from its roots and sinks, by clusters or without them, and leaves the flags in the records.
+// Walks the heap from its roots, by clusters or without them, and leaves the flags in the records.
 pub(crate) fn trace(
     by: bool,
     n: u32,
@@ -119,16 +135,17 @@ pub(crate) fn trace(
     records: &mut [u32],
     slots: &[u32],
     roots: &[u32],
+    sinks: &[u32],
+    sets: &[u64],
     work: &mut [u32],
 )
-    requires { ⌜ Traceable n (startsIn n r (now records) (now slots) (now roots)) (now records) (now slots) (now work) ⌝ }
+    requires { ⌜ Traceable (way by (now sinks) (now sets)) n (startsIn r (now roots)) (now records) (now slots) (now work) ⌝ }
     requires { ⌜ r ≤ length (now roots) ⌝ }
-    ensures { λ _. ⌜ Walked by n (startsIn n r (now (records .entry)) (now (slots .entry)) (now (roots .entry)))
+    ensures { λ _. ⌜ Walked (way by (now (sinks .entry)) (now (sets .entry))) n (startsIn r (now (roots .entry)))
         (now (records .entry)) (now (slots .entry)) (now (records .exit)) ⌝ }
 {
     link_clusters(by, n, records, work);
     clear(work, 9 * (n as usize), work_len(n));
-    follow_roots(by, n, r, records, slots, roots, work);
-    follow_sinks(by, n, records, slots, work);
-    follow_postponed(by, n, records, slots, work);
+    follow_roots(by, n, r, records, slots, roots, sinks, sets, work);
+    follow_postponed(by, n, records, slots, sinks, sets, work);
 }

@@ -8,12 +8,13 @@ ghost use Rattle.records.specs.Record.{cluster};
 ghost use Rattle.graph.specs.Numbers.{Obj};
 ghost use Rattle.graph.specs.Trace as T;
 ghost use Rattle.rules.specs.Buffers.{recOf};
-ghost use Rattle.rules.specs.View.{view};
+ghost use Rattle.rules.specs.View.{heapIn};
 ghost use Rattle.walk.specs.Marks.{flagsOf};
-ghost use Rattle.walk.specs.State.{walkedHeap, State, Ready, Moved, MemberVisited};
+ghost use Rattle.walk.specs.State.{way, walkedHeap, State, Ready, Moved, MemberVisited, TakenUp};
 use crate::marks::put_bit;
 use crate::scan::scan;
 use crate::scan::scan_outs;
+use crate::scan::scan_sinks;
 use crate::scan::scan_unmarked;
 use postponed::put;
 use records::POSTPONED;
@@ -45,27 +46,30 @@ fn is_settled(by: bool, n: u32, x: u32, records: &[u32]) -> bool
     is_reached(record_of(n, cluster_seen(by, n, x, records), records))
 }
 
-// Visits h, the head of its cluster.
+// Visits h, the head of its cluster: the sinks of its set, then its out members.
 fn visit_head(
     n: u32,
     records: &mut [u32],
     slots: &[u32],
+    sinks: &[u32],
+    sets: &[u64],
     work: &mut [u32],
     top: usize,
     h: u32,
 ) -> usize
-    requires { ⌜ Ready true n (now records) (now slots) (now work) top ⌝ }
+    requires { ⌜ Ready (way true (now sinks) (now sets)) n (now records) (now slots) (now work) top ⌝ }
     requires { ⌜ Obj n h ⌝ }
     ensures { λ r. ⌜ Moved n (now (slots .entry)) (now (records .entry)) (now (work .entry)) top
-        (T.visitBy (view n (now (records .entry)) (now (slots .entry))) false true
+        (T.visitBy (heapIn n (now (records .entry)) (now (slots .entry)) (now (sinks .entry))) false true
         (flagsOf n (now (records .entry)) T.marked h) (flagsOf n (now (records .entry)) T.reached h) h)
         (now (records .exit)) (now (work .exit)) r ⌝ }
 {
     if is_reached(record_of(n, h, records)) {
         return top;
     }
+    let at = scan_sinks(n, records, slots, sinks, work, top, sets[h as usize - 1]);
     put_bit(records, h, REACHED, true);
-    scan_outs(n, records, slots, work, top, h)
+    scan_outs(n, records, slots, work, at, h)
 }
 
 // Visits x, a member of a cluster that is not its head.
@@ -86,14 +90,16 @@ pub(crate) fn visit(
     n: u32,
     records: &mut [u32],
     slots: &[u32],
+    sinks: &[u32],
+    sets: &[u64],
     work: &mut [u32],
     top: usize,
     x: u32,
 ) -> usize
-    requires { ⌜ Ready by n (now records) (now slots) (now work) top ⌝ }
+    requires { ⌜ Ready (way by (now sinks) (now sets)) n (now records) (now slots) (now work) top ⌝ }
     requires { ⌜ Obj n x ⌝ }
     ensures { λ r. ⌜ Moved n (now (slots .entry)) (now (records .entry)) (now (work .entry)) top
-        (T.visit (walkedHeap by n (now (records .entry)) (now (slots .entry))) x)
+        (T.visit (walkedHeap (way by (now (sinks .entry)) (now (sets .entry))) n (now (records .entry)) (now (slots .entry))) x)
         (now (records .exit)) (now (work .exit)) r ⌝ }
 {
     let c = cluster_seen(by, n, x, records);
@@ -101,7 +107,7 @@ pub(crate) fn visit(
         return scan_unmarked(n, records, slots, work, top, x);
     }
     if c == x {
-        return visit_head(n, records, slots, work, top, x);
+        return visit_head(n, records, slots, sinks, sets, work, top, x);
     }
     visit_member(n, records, work, x);
     top
@@ -124,14 +130,16 @@ pub(crate) fn visit_pending(
     n: u32,
     records: &mut [u32],
     slots: &[u32],
+    sinks: &[u32],
+    sets: &[u64],
     work: &mut [u32],
     top: usize,
     x: u32,
 ) -> usize
-    requires { ⌜ Ready by n (now records) (now slots) (now work) top ⌝ }
+    requires { ⌜ Ready (way by (now sinks) (now sets)) n (now records) (now slots) (now work) top ⌝ }
     requires { ⌜ Obj n x ⌝ }
     ensures { λ r. ⌜ Moved n (now (slots .entry)) (now (records .entry)) (now (work .entry)) top
-        (T.visit (walkedHeap by n (now (records .entry)) (now (slots .entry))) x)
+        (T.visit (walkedHeap (way by (now (sinks .entry)) (now (sets .entry))) n (now (records .entry)) (now (slots .entry))) x)
         (now (records .exit)) (now (work .exit)) r ⌝ }
 {
     if is_scanned(by, n, x, records) {
@@ -140,7 +148,7 @@ pub(crate) fn visit_pending(
     if !by {
         return scan_unmarked(n, records, slots, work, top, x);
     }
-    visit(by, n, records, slots, work, top, x)
+    visit(by, n, records, slots, sinks, sets, work, top, x)
 }
 
 // Takes up the postponed object x, where nothing is pending: it is dropped or scanned.
@@ -154,9 +162,7 @@ pub(crate) fn take_up(
 ) -> usize
     requires { ⌜ State n (now records) (now slots) (now work) (8 * n) ⌝ }
     requires { ⌜ Obj n x ⌝ }
-    ensures { λ r. ⌜ Moved n (now (slots .entry)) (now (records .entry)) (now (work .entry)) (8 * n)
-        (T.take (walkedHeap by n (now (records .entry)) (now (slots .entry))) x)
-        (now (records .exit)) (now (work .exit)) r ⌝ }
+    ensures { λ r. ⌜ TakenUp by n x (now (slots .entry)) (now (records .entry)) (now (work .entry)) (now (records .exit)) (now (work .exit)) r ⌝ }
 {
     let settled = is_settled(by, n, x, records);
     put_bit(records, x, POSTPONED, false);

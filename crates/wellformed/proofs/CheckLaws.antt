@@ -10,29 +10,30 @@ use native.Mathlib.Numerals.{add-one}
 use lib.Dec.{eqb, leb}
 use lib.ListN.{length, getD, take, drop, length-take, drop-of-length-le}
 use lib.Seq.{drop-cons, getD-take, getD-drop, take-nil, length-take-le}
-use borrow.Author.Tests.{le-leb, lt-leb, ltb-false, eqb-true, eq-eqb, ne-eqb, not-false}
+use borrow.Author.Tests.{le-leb, lt-leb, eqb-true, eq-eqb, ne-eqb, not-false}
 use borrow.Rule.Slice.PartMut.{midOf, mid-len}
 use Rattle.layout.specs.declared.answers.Control.{Control}
 use Rattle.layout.specs.ControlRecord.{badControl}
-use Rattle.layout.specs.Limits.{objectMax, slotsLen, workLen}
+use Rattle.layout.specs.Limits.{objectMax, sinkMax, workLen}
 use Rattle.layout.specs.Refusal.{first}
 use Rattle.layout.proofs.BoolLaws.{or-split}
 use Rattle.layout.proofs.ControlLaws.{control-facts}
 use Rattle.layout.proofs.RefusalLaws.{first-passed}
-use Rattle.records.specs.Record.{inUse, isOut, width, cluster, free, legal}
+use Rattle.records.specs.Record.{inUse, isSink, isOut, width, cluster, free, legal}
 use Rattle.layout.specs.Word.{isNil, isPointer, isImmediate, legalWord, sortOf}
 use Rattle.layout.specs.declared.words.Word.{Word}
 use Rattle.layout.specs.declared.words.Word.the-variants.{Nil, Object, Immediate, Illegal}
 use Rattle.layout.proofs.WordLaws.{sort-nil, sort-pointer, sort-immediate, sort-illegal, pointer-not-immediate}
 use Rattle.graph.specs.Clusters.{outCount, outBit}
-use Rattle.rules.specs.Buffers.{short, recOf, eight, usedWords, otherWords, allOf, allTo}
+use Rattle.rules.specs.Buffers.{shortHeap, recOf, eight, usedWords, otherWords, allOf, allTo}
 use Rattle.rules.specs.View.{view, exactOut}
-use Rattle.rules.specs.WellFormed.{names, legalAt, emptyAt, wordsAt, headAt, outAt, rootsNamed, formed, wellFormed, checked}
+use Rattle.rules.specs.WellFormed.{names, legalAt, emptyAt, wordsAt, headAt, outAt, rootsNamed, once, listOk, setsOk, formed, wellFormed, checked}
 use Rattle.rules.proofs.ListLaws.{length-eight}
 use Rattle.rules.proofs.BufferLaws.{recOf-get}
-use Rattle.rules.proofs.WellFormedLaws.{Sane, formed-of, sane, allTo-and, allTo-fails, allTo-more, names-used}
+use Rattle.rules.proofs.ListedLaws.{lists-facts}
+use Rattle.rules.proofs.WellFormedLaws.{Sane, Sinks, formed-of, sinks-of, sane, allTo-and, allTo-fails, allTo-more, names-used}
 use Rattle.rules.proofs.SaneLaws.{sane-width}
-use Rattle.table.specs.Room.{Room, Sized, Accepted, heapShort}
+use Rattle.table.specs.Room.{Room, Sized, Accepted}
 use Rattle.wellformed.specs.Check.{recordOk, headOk, slotOk, memberLeaves, outOk, objectOk, objectsOk, heapTests}
 use Rattle.table.specs.Clusters.{wordLeaves, anyLeaves}
 use Rattle.table.proofs.RoomLaws.{heap-long}
@@ -372,50 +373,68 @@ module _ (n r : ℕ) (recs roots : List ℕ) where
 
 -- ---- the ends of the whole check
 
-module _ (c : Control) (recs slots roots : List ℕ) where
-  pub no-size : objectMax < c .n → false ≡ checked c recs slots roots
+module _ (n r : ℕ) (recs slots roots : List ℕ) (b : Bool) (f : b ≡ objectsOk n recs slots) where
+  pub bad-objects : b ≡ false → b ≡ formed n r recs slots roots
+  bad-objects g = g ∙ sym (formed-parts n r recs slots roots ∙ ap (λ (x : Bool). x && rootsNamed n r recs roots) (sym f ∙ g))
+
+  pub by-roots : (d : Bool) → b ≡ true → d ≡ rootsNamed n r recs roots → d ≡ formed n r recs slots roots
+  by-roots d t g = g ∙ sym (formed-parts n r recs slots roots ∙ ap (λ (x : Bool). x && rootsNamed n r recs roots) (sym f ∙ t))
+
+module _ (c : Control) (recs slots roots list sets : List ℕ) where
+  pub no-size : objectMax < c .n → false ≡ checked c recs slots roots list sets
   unfolding checked
   no-size l = rw (lt-leb (c .n) objectMax l) refl
 
-  module _ (l : c .n ≤ objectMax) (h : Bool) (eh : h ≡ heapShort (c .n) (c .r) recs slots roots) where
-    pub too-short : h ≡ true → false ≡ checked c recs slots roots
-    unfolding checked heapShort
+  module _ (l : c .n ≤ objectMax) (h : Bool) (eh : h ≡ shortHeap (c .n) (c .r) recs slots roots list sets) where
+    pub too-short : h ≡ true → false ≡ checked c recs slots roots list sets
+    unfolding checked
     too-short t = rw (le-leb (c .n) objectMax l, sym eh ∙ t) refl
 
     module _ (t : h ≡ false) where
-      pub checked-is : checked c recs slots roots ≡ wellFormed c recs slots roots
-      unfolding checked heapShort
+      pub checked-is : checked c recs slots roots list sets ≡ wellFormed c recs slots roots list sets
+      unfolding checked
       checked-is = rw (le-leb (c .n) objectMax l, sym eh ∙ t) refl
 
-      parts : checked c recs slots roots ≡ (objectsOk (c .n) recs slots && rootsNamed (c .n) (c .r) recs roots)
-      unfolding wellFormed
-      parts = checked-is ∙ formed-parts (c .n) (c .r) recs slots roots
+      module _ (a : Bool) (f : a ≡ formed (c .n) (c .r) recs slots roots) where
+        pub bad-formed : a ≡ false → false ≡ checked c recs slots roots list sets
+        unfolding wellFormed
+        bad-formed g = sym (checked-is ∙ rw (← f, g) refl)
 
-      module _ (b : Bool) (f : b ≡ objectsOk (c .n) recs slots) where
-        pub bad-objects : b ≡ false → b ≡ checked c recs slots roots
-        bad-objects g = g ∙ sym (parts ∙ ap (λ (x : Bool). x && rootsNamed (c .n) (c .r) recs roots) (sym f ∙ g))
+        module _ (s : a ≡ true) (b : Bool) (g : b ≡ leb (c .n) objectMax && listOk (c .n) recs list) where
+          list-is : b ≡ listOk (c .n) recs list
+          list-is = g ∙ rw (le-leb (c .n) objectMax l) refl
 
-        pub by-roots : (d : Bool) → b ≡ true → d ≡ rootsNamed (c .n) (c .r) recs roots → d ≡ checked c recs slots roots
-        by-roots d t g = g ∙ sym (parts ∙ ap (λ (x : Bool). x && rootsNamed (c .n) (c .r) recs roots) (sym f ∙ t))
+          pub bad-list : b ≡ false → false ≡ checked c recs slots roots list sets
+          unfolding wellFormed
+          bad-list e = sym (checked-is ∙ rw (← f, s, ← list-is, e) refl)
+
+          -- no number is in a list that is right twice
+          pub list-once : b ≡ true → once (take sinkMax list) ≡ true
+          unfolding listOk
+          list-once e = lists-facts (c .n) (λ x. isSink (recOf (c .n) recs x)) (take sinkMax list) (sym list-is ∙ e) .single
+
+          pub by-sets : (d : Bool) → b ≡ true → d ≡ setsOk (c .n) recs slots list sets → d ≡ checked c recs slots roots list sets
+          unfolding wellFormed
+          by-sets d e k = k ∙ sym (checked-is ∙ rw (← f, s, ← list-is, e) refl)
 
 -- ---- the tests of a call that walks the whole heap
 
-module _ (c : Control) (recs slots roots : List ℕ) (rest : Bool) where
+module _ (c : Control) (recs slots roots list sets : List ℕ) (rest : Bool) where
   abbrev answer : ℕ
-  answer = first (heapTests c recs slots roots rest)
+  answer = first (heapTests c recs slots roots list sets rest)
 
   pub bad-control : badControl c ≡ true → 20 ≡ answer
   unfolding heapTests first
   bad-control b = rw b refl
 
-  module _ (b : badControl c ≡ false) (h : Bool) (eh : h ≡ heapShort (c .n) (c .r) recs slots roots) where
+  module _ (b : badControl c ≡ false) (h : Bool) (eh : h ≡ shortHeap (c .n) (c .r) recs slots roots list sets) where
     pub few-words : (h || rest) ≡ true → 2 ≡ answer
     unfolding heapTests first
     few-words t = rw (b, ← eh, t) refl
 
-    module _ (t : (h || rest) ≡ false) (f : Bool) (ef : f ≡ checked c recs slots roots) where
-      formed-is : wellFormed c recs slots roots ≡ f
-      formed-is = sym (ef ∙ checked-is c recs slots roots (control-facts c b .sizes .most) h eh (or-split h rest t .0))
+    module _ (t : (h || rest) ≡ false) (f : Bool) (ef : f ≡ checked c recs slots roots list sets) where
+      formed-is : wellFormed c recs slots roots list sets ≡ f
+      formed-is = sym (ef ∙ checked-is c recs slots roots list sets (control-facts c b .sizes .most) h eh (or-split h rest t .0))
 
       pub is-sound : f ≡ true → 0 ≡ answer
       unfolding heapTests first
@@ -426,31 +445,48 @@ module _ (c : Control) (recs slots roots : List ℕ) (rest : Bool) where
       is-damaged z = rw (b, ← eh, t, formed-is, z) refl
 
   -- what 0 says, where work is one of the slices besides
-  pub accepted : answer ≡ 0 → (work : List ℕ) → (rest ≡ false → workLen (c .n) ≤ length work) → Accepted c recs slots roots work × (rest ≡ false)
+  pub accepted : answer ≡ 0 → (work : List ℕ) → (rest ≡ false → workLen (c .n) ≤ length work) → Accepted c recs slots roots list sets work × (rest ≡ false)
   unfolding heapTests workLen
   accepted e work h =
       let p = first-passed 19 _ _ e in
       let q = first-passed 1 _ _ (p .1) in
       let s = or-split _ _ (q .0) in
-      let l = heap-long (c .n) (c .r) recs slots roots (s .0) in (
+      let l = heap-long (c .n) (c .r) recs slots roots list sets (s .0) in (
         record {
-          room = record { most = control-facts c (p .0) .sizes .most; recs-long = l .0; slots-long = l .1 };
-          roots-long = l .2;
+          room = record { most = control-facts c (p .0) .sizes .most; recs-long = l .recs-long; slots-long = l .slots-long };
+          roots-long = l .roots-long;
+          sinks-long = l .sinks-long;
+          sets-long = l .sets-long;
           work-long = h (s .1);
           formed = not-false _ (first-passed 20 _ _ (q .1) .0);
         },
         s .1,
       )
 
-module _ (c : Control) (recs slots roots work : List ℕ) (a : Accepted c recs slots roots work) where
+module _ (c : Control) (recs slots roots list sets work : List ℕ) (a : Accepted c recs slots roots list sets work) where
   pub accepted-sane : Sane (c .n) (c .r) recs slots roots
-  accepted-sane = sane _ _ _ _ _ (formed-of c recs slots roots (a .formed))
+  accepted-sane = sane _ _ _ _ _ (formed-of c recs slots roots list sets (a .formed))
 
   pub accepted-sized : Sized (c .n) recs slots work
   accepted-sized = record { room = a .room; work-long = a .work-long; widths = sane-width accepted-sane }
 
+  -- the list and the sets are right
+  pub accepted-sinks : Sinks (c .n) recs slots list sets
+  accepted-sinks = sinks-of c recs slots roots list sets (a .formed)
+
+  -- no number is in the list twice
+  pub accepted-once : once (take sinkMax list) ≡ true
+  accepted-once = accepted-sinks .listed .single
+
   -- the part of the work words that is lent
-  pub accepted-part : (k : ℕ) → k ≡ workLen (c .n) → Accepted c recs slots roots (midOf 0 (k - 0) work)
+  pub accepted-part : (k : ℕ) → k ≡ workLen (c .n) → Accepted c recs slots roots list sets (midOf 0 (k - 0) work)
   unfolding workLen
   accepted-part k e =
-      record { room = a .room; roots-long = a .roots-long; work-long = omega (arith, mid-len 0 k work (omega (arith, a .work-long))); formed = a .formed }
+      record {
+        room = a .room;
+        roots-long = a .roots-long;
+        sinks-long = a .sinks-long;
+        sets-long = a .sets-long;
+        work-long = omega (arith, mid-len 0 k work (omega (arith, a .work-long)));
+        formed = a .formed;
+      }

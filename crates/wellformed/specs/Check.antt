@@ -8,9 +8,8 @@ use Rattle.layout.specs.ControlRecord.{badControl}
 use Rattle.layout.specs.Refusal.{Test}
 use Rattle.records.specs.Record.{isOut, cluster, free, legal}
 use Rattle.layout.specs.Word.{isNil, isImmediate}
-use Rattle.rules.specs.Buffers.{recOf, allTo}
+use Rattle.rules.specs.Buffers.{shortHeap, recOf, allTo}
 use Rattle.table.specs.Clusters.{wordLeaves}
-use Rattle.table.specs.Room.{heapShort}
 use Rattle.rules.specs.WellFormed.{names, legalAt, emptyAt, wordsAt, headAt, outAt, wellFormed}
 
 -- a record is 0 or legal
@@ -43,6 +42,6 @@ unfoldable pub objectsOk : ℕ → List ℕ → List ℕ → Bool
 objectsOk n recs slots = allTo n (objectOk n recs slots)
 
 -- the tests of a call that walks the whole heap, in their order; rest: a slice besides is too short
-unfoldable pub heapTests : Control → List ℕ → List ℕ → List ℕ → Bool → List Test
-heapTests c recs slots roots rest =
-    (20, badControl c) ∷ (2, heapShort (c .n) (c .r) recs slots roots || rest) ∷ (21, not (wellFormed c recs slots roots)) ∷ []
+unfoldable pub heapTests : Control → List ℕ → List ℕ → List ℕ → List ℕ → List ℕ → Bool → List Test
+heapTests c recs slots roots list sets rest =
+    (20, badControl c) ∷ (2, shortHeap (c .n) (c .r) recs slots roots list sets || rest) ∷ (21, not (wellFormed c recs slots roots list sets)) ∷ []

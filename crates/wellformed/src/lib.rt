@@ -1,10 +1,10 @@
-// The check of a whole heap ("The heap"): every rule of every object, then the roots. It stops at the first rule that is broken.
+// The check of a whole heap ("The heap"): every rule of every object, then the roots, the list of sinks and the sets. It stops at the first rule that is broken.
 ghost use mathlib.Core.Path.{_≡_};
 ghost use Prim.Native.Nat.{_≤_};
 ghost use lib.ListN.{length};
 ghost use Rattle.layout.specs.Limits.{objectMax};
 ghost use Rattle.layout.specs.Refusal.{first};
-ghost use Rattle.rules.specs.WellFormed.{rootsNamed, checked};
+ghost use Rattle.rules.specs.WellFormed.{rootsNamed, formed, checked};
 ghost use Rattle.table.specs.Room.{Room};
 ghost use Rattle.wellformed.specs.Check.{recordOk, headOk, slotOk, memberLeaves, outOk, objectsOk, heapTests};
 use layout::answers::Control;
@@ -16,6 +16,8 @@ use layout::refusals::TOO_SHORT;
 use layout::refusals::bad_control;
 use layout::words::Word;
 use layout::words::sort_word;
+use places::list_ok;
+use places::sets_ok;
 use records::cluster_of;
 use records::in_use;
 use records::is_out;
@@ -128,30 +130,60 @@ fn roots_ok(n: u32, r: u32, records: &[u32], roots: &[u32]) -> bool
     true
 }
 
+// Every object and every root keeps the rules.
+fn formed_ok(n: u32, r: u32, records: &[u32], slots: &[u32], roots: &[u32]) -> bool
+    requires { ⌜ Room n (now records) (now slots) ⌝ }
+    requires { ⌜ r ≤ length (now roots) ⌝ }
+    ensures { λ b. ⌜ b ≡ formed n r (now (records .entry)) (now (slots .entry)) (now (roots .entry)) ⌝ }
+{
+    objects_ok(n, records, slots) && roots_ok(n, r, records, roots)
+}
+
 // Whether the heap is well formed; false where n is above 4,095 or a slice is too short.
-pub fn well_formed(c: Control, records: &[u32], slots: &[u32], roots: &[u32]) -> bool
-    ensures { λ b. ⌜ b ≡ checked c (now (records .entry)) (now (slots .entry)) (now (roots .entry)) ⌝ }
+pub fn well_formed(
+    c: Control,
+    records: &[u32],
+    slots: &[u32],
+    roots: &[u32],
+    sinks: &[u32],
+    sets: &[u64],
+) -> bool
+    ensures { λ b. ⌜ b ≡ checked c (now (records .entry)) (now (slots .entry)) (now (roots .entry)) (now (sinks .entry)) (now (sets .entry)) ⌝ }
 {
     if OBJECT_MAX < c.n {
         return false;
     }
-    if short_heap(c.n, c.r, records, slots, roots) {
+    if short_heap(c.n, c.r, records, slots, roots, sinks, sets) {
         return false;
     }
-    objects_ok(c.n, records, slots) && roots_ok(c.n, c.r, records, roots)
+    if !formed_ok(c.n, c.r, records, slots, roots) {
+        return false;
+    }
+    if !list_ok(c.n, records, sinks) {
+        return false;
+    }
+    sets_ok(c.n, records, slots, sinks, sets)
 }
 
 // The number of the first test of a call that walks the whole heap, 0 where none holds; `rest` says that a slice besides is too short.
-pub fn heap_refusal(c: Control, records: &[u32], slots: &[u32], roots: &[u32], rest: bool) -> u32
-    ensures { λ k. ⌜ k ≡ first (heapTests c (now (records .entry)) (now (slots .entry)) (now (roots .entry)) rest) ⌝ }
+pub fn heap_refusal(
+    c: Control,
+    records: &[u32],
+    slots: &[u32],
+    roots: &[u32],
+    sinks: &[u32],
+    sets: &[u64],
+    rest: bool,
+) -> u32
+    ensures { λ k. ⌜ k ≡ first (heapTests c (now (records .entry)) (now (slots .entry)) (now (roots .entry)) (now (sinks .entry)) (now (sets .entry)) rest) ⌝ }
 {
     if bad_control(c) {
         return BAD_CONTROL;
     }
-    if short_heap(c.n, c.r, records, slots, roots) | rest {
+    if short_heap(c.n, c.r, records, slots, roots, sinks, sets) | rest {
         return TOO_SHORT;
     }
-    if well_formed(c, records, slots, roots) {
+    if well_formed(c, records, slots, roots, sinks, sets) {
         0
     } else {
         DAMAGED

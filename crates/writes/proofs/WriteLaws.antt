@@ -13,27 +13,30 @@ use borrow.Author.Tests.{le-leb, lt-leb, leb-false, lt-ltb, le-ltb, eqb-true, eq
 use Rattle.layout.specs.declared.answers.Control.{Control}
 use Rattle.layout.specs.declared.words.Word.{Word}
 use Rattle.layout.specs.declared.words.Word.the-variants.{Nil, Object, Immediate, Illegal}
-use Rattle.layout.specs.Limits.{objectMax, widthMax, slotsLen}
-use Rattle.records.specs.Record.{width, cluster, legal, withOut, withWritten, loose}
+use Rattle.layout.specs.Limits.{objectMax, widthMax, sinkMax, slotsLen}
+use Rattle.records.specs.Record.{width, cluster, free, legal, damaged, withOut, withWritten, loose}
 use Rattle.layout.specs.Word.{isNil, isPointer, legalWord, sortOf}
-use Rattle.layout.specs.ControlRecord.{withWriteLoss}
+use Rattle.layout.specs.ControlRecord.{badControl, withWriteLoss}
 use Rattle.layout.specs.Refusal.{Test, first}
 use Rattle.layout.proofs.LimitLaws.{below-within, above-within}
 use Rattle.layout.proofs.ControlLaws.{writes-sound, facts-control}
 use Rattle.layout.proofs.WordLaws.{Says, sort-says, pointer-legal, immediate-bounds}
 use Rattle.layout.proofs.RefusalLaws.{Numbered, nil, cons, first-passed, first-front, first-skip, first-zero, first-holds, first-fails, outcome-zero, outcome-number}
 use Rattle.graph.specs.Numbers.{has}
-use Rattle.graph.specs.Writes.{dissolves, storeBy, store, lossBy, lossOf}
+use Rattle.graph.specs.Heap.{Heap}
+use Rattle.graph.specs.Writes.{dissolves, stored, storeBy, store, lossBy, lossOf}
 use Rattle.graph.specs.Clusters.{size, outBit}
 use Rattle.graph.proofs.NumberLaws.{count-le, has-at, has-none}
-use Rattle.rules.specs.Buffers.{recOf, usedWords, eachRecord}
-use Rattle.rules.specs.View.{target, view, exactOut, encoded}
+use Rattle.rules.specs.Buffers.{short, recOf, usedWords, eachRecord}
+use Rattle.rules.specs.View.{target, view, heapIn, setWord, exactOut, encoded}
 use Rattle.rules.specs.Show.{showTests}
 use Rattle.rules.specs.Write as Write
 use Rattle.rules.proofs.BufferLaws.{recOf-get, used-get, used-long}
-use Rattle.rules.proofs.StoreLaws.{recOf-set-same, store-staying, store-dissolving, exact-stored, dissolves-words}
+use Rattle.rules.proofs.StoreLaws.{recOf-set-same, store-staying, store-dissolving, cluster-stored, exact-stored, dissolved-empty, stored-set, dissolves-words}
+use Rattle.rules.proofs.BoolLaws.{or-split}
+use Rattle.records.proofs.RecordLaws.{width-put-flag, cluster-put-flag}
 use Rattle.table.specs.Clusters.{clusterOf, membersOf, dissolvedRecord, dissolved}
-use Rattle.writes.specs.Writes.{wordTests, frontTests, Slot, Attempted, refuses, keeps, overflows, asks, breaks}
+use Rattle.writes.specs.Writes.{wordTests, frontTests, Slot, withSet, setsBy, Attempted, refuses, keeps, overflows, asks, breaks}
 use Rattle.table.proofs.NamedLaws.{named, named-rest}
 
 -- ---- the tests of the word
@@ -81,46 +84,82 @@ module _ (n w : ℕ) (recs : List ℕ) (h : n ≤ objectMax) where
 pub named-most : (c : Control) (i : ℕ) (recs slots : List ℕ) (m : ℕ) → m ≡ first (showTests c i recs slots) → m ≡ 0 → c .n ≤ objectMax
 named-most c i recs slots m e z = named c i recs slots (sym e ∙ z) .sound .sizes .most
 
-module _ (c : Control) (i k w : ℕ) (recs slots : List ℕ) where
+-- the slices that only a write is lent, beside the others
+lent-any : (x a b : Bool) → (a || b) ≡ true → (x || a || b) ≡ true
+lent-any true a b e = refl
+lent-any false a b e = e
+
+lent-rest : (x a b : Bool) → (x || a || b) ≡ false → (a || b) ≡ false
+lent-rest true a b e = absurd (true≢false e)
+lent-rest false a b e = e
+
+lent-none : (x a b : Bool) → a ≡ false → b ≡ false → (x || a || b) ≡ x
+lent-none true a b e f = refl
+lent-none false a b e f = rw (e, f) refl
+
+module _ (c : Control) (i k w : ℕ) (recs slots list sets : List ℕ) where
   abbrev rest : List Test
   rest = (5, leb (width (recOf (c .n) recs i)) k) ∷ wordTests (c .n) w recs
 
-  pub front-object : (m : ℕ) → m ≡ first (showTests c i recs slots) → m ≢ 0 → m ≡ first (frontTests c i k w recs slots)
+  pub front-bad : badControl c ≡ true → 20 ≡ first (frontTests c i k w recs slots list sets)
   unfolding frontTests
-  front-object m e d = e ∙ sym (first-front (showTests c i recs slots) rest (λ z. d (e ∙ z)))
+  front-bad b = sym (first-holds 20 _ _ b)
 
-  module _ (m : ℕ) (e : m ≡ first (showTests c i recs slots)) (z : m ≡ 0) (r : ℕ) (f : r ≡ recOf (c .n) recs i) (u : ℕ) (g : u ≡ width r) where
-    follows : first (frontTests c i k w recs slots) ≡ first rest
+  pub front-short : badControl c ≡ false → (short sinkMax list || short (c .n) sets) ≡ true → 2 ≡ first (frontTests c i k w recs slots list sets)
+  unfolding frontTests
+  front-short b l = sym (first-fails 20 _ _ b ∙ first-holds 2 _ _ (lent-any (short (c .n) recs || short (slotsLen (c .n)) slots) (short sinkMax list) (short (c .n) sets) l))
+
+  -- with those slices long enough the object's tests come first
+  module _ (l : (short sinkMax list || short (c .n) sets) ≡ false) where
+    lent-long : first (frontTests c i k w recs slots list sets) ≡ first (showTests c i recs slots ++ rest)
+    unfolding frontTests showTests
+    lent-long =
+        let s = or-split (short sinkMax list) (short (c .n) sets) l in
+        ap (λ (b : Bool). first ((20, badControl c) ∷ (2, b) ∷ (4, not (isPointer (c .n) i)) ∷ (21, damaged (c .n) (recOf (c .n) recs i)) ∷ (22, free (recOf (c .n) recs i)) ∷ rest))
+        (lent-none (short (c .n) recs || short (slotsLen (c .n)) slots) (short sinkMax list) (short (c .n) sets) (s .0) (s .1))
+
+    pub front-object : (m : ℕ) → m ≡ first (showTests c i recs slots) → m ≢ 0 → m ≡ first (frontTests c i k w recs slots list sets)
+    front-object m e d = e ∙ sym (lent-long ∙ first-front (showTests c i recs slots) rest (λ z. d (e ∙ z)))
+
+    module _ (m : ℕ) (e : m ≡ first (showTests c i recs slots)) (z : m ≡ 0) (r : ℕ) (f : r ≡ recOf (c .n) recs i) (u : ℕ) (g : u ≡ width r) where
+      follows : first (frontTests c i k w recs slots list sets) ≡ first rest
+      follows = lent-long ∙ named-rest c i recs slots rest (sym e ∙ z)
+
+      width-is : width (recOf (c .n) recs i) ≡ u
+      width-is = sym (g ∙ ap width f)
+
+      pub front-slot : u ≤ k → 5 ≡ first (frontTests c i k w recs slots list sets)
+      front-slot l = sym (follows ∙ first-holds 5 (wordTests (c .n) w recs) _ (rw width-is (le-leb u k l)))
+
+      pub front-word : k < u → (v : ℕ) → v ≡ first (wordTests (c .n) w recs) → v ≡ first (frontTests c i k w recs slots list sets)
+      front-word l v q = q ∙ sym (follows ∙ first-fails 5 (wordTests (c .n) w recs) _ (rw width-is (lt-leb u k l)))
+
+  module _ (m : ℕ) (e : m ≡ first (frontTests c i k w recs slots list sets)) (z : m ≡ 0) where
+    lent-passed : (short sinkMax list || short (c .n) sets) ≡ false
     unfolding frontTests
-    follows = named-rest c i recs slots rest (sym e ∙ z)
+    lent-passed =
+        let t = first-passed 19 _ _ (sym e ∙ z) in
+        let u = first-passed 1 _ _ (t .1) in
+        lent-rest (short (c .n) recs || short (slotsLen (c .n)) slots) (short sinkMax list) (short (c .n) sets) (u .0)
 
-    width-is : width (recOf (c .n) recs i) ≡ u
-    width-is = sym (g ∙ ap width f)
+    object-passed : first (showTests c i recs slots ++ rest) ≡ 0
+    object-passed = sym (lent-long lent-passed) ∙ sym e ∙ z
 
-    pub front-slot : u ≤ k → 5 ≡ first (frontTests c i k w recs slots)
-    front-slot l = sym (follows ∙ first-holds 5 (wordTests (c .n) w recs) _ (rw width-is (le-leb u k l)))
-
-    pub front-word : k < u → (v : ℕ) → v ≡ first (wordTests (c .n) w recs) → v ≡ first (frontTests c i k w recs slots)
-    front-word l v q = q ∙ sym (follows ∙ first-fails 5 (wordTests (c .n) w recs) _ (rw width-is (lt-leb u k l)))
-
-  module _ (m : ℕ) (e : m ≡ first (frontTests c i k w recs slots)) (z : m ≡ 0) where
     shown : first (showTests c i recs slots) ≡ 0
-    unfolding frontTests
     shown = go (ℕ-discrete (first (showTests c i recs slots)) 0)
       where
         go : Dec (first (showTests c i recs slots) ≡ 0) → first (showTests c i recs slots) ≡ 0
         go (yes e) = e
-        go (no d) = absurd (d (sym (first-front (showTests c i recs slots) rest d) ∙ sym e ∙ z))
+        go (no d) = absurd (d (sym (first-front (showTests c i recs slots) rest d) ∙ object-passed))
 
     pub slot-there : Slot (c .n) i k recs slots
-    unfolding frontTests
     slot-there =
         let N = named c i recs slots shown in
         record {
           room = record { most = N .sound .sizes .most; recs-long = N .recs-long; slots-long = N .slots-long };
           low = N .low;
           high = N .high;
-          used = leb-false _ _ (first-passed 4 _ _ (sym (named-rest c i recs slots rest shown) ∙ sym e ∙ z) .0);
+          used = leb-false _ _ (first-passed 4 _ _ (sym (named-rest c i recs slots rest shown) ∙ object-passed) .0);
           narrow = N .legal .narrow;
         }
 
@@ -267,96 +306,176 @@ module _ (n i k w : ℕ) (recs slots : List ℕ) (s : Slot n i k recs slots) whe
       b ∙ ap₂ (λ (x : ℕ) (l : List ℕ). eachRecord n (λ y q. cond (eqb (cluster q) x) (loose q) q) l) (f ∙ ap cluster e) a
       ∙ sym (store-dissolving n recs slots i k (target n w) (s .low) (s .high) (s .room .recs-long))
 
+  -- ---- the sets
+
+  -- the set at the object's head, made exact after a store that leaves the clusters
+  pub set-stays : (list sets : List ℕ) (rs ss ts : List ℕ) → rs ≡ encoded (storeBy false (view n recs slots) i k (target n w)) recs → ss ≡ changed
+      → ts ≡ withSet (heapIn n rs ss list) (clusterOf n rs i) sets → ts ≡ setsBy false n i k w recs slots list sets
+  unfolding setsBy withSet
+  set-stays list sets rs ss ts a b e =
+      let v : ℕ = withOut (outBit (stored (view n recs slots) i k (target n w)) (view n recs slots .sink) (view n recs slots .cluster) i) (withWritten true (recOf n recs i)) in
+      let r : rs ≡ set recs (i - 1) v = a ∙ store-staying n recs slots i k (target n w) (s .low) (s .high) (s .room .recs-long) in
+      let f : cluster v ≡ cluster (recOf n recs i) = cluster-put-flag 3 _ (withWritten true (recOf n recs i)) refl ∙ cluster-put-flag 1 true (recOf n recs i) refl in
+      let g : width v ≡ width (recOf n recs i) = width-put-flag 3 _ (withWritten true (recOf n recs i)) refl ∙ width-put-flag 1 true (recOf n recs i) refl in
+      let h : clusterOf n rs i ≡ clusterOf n recs i = ap (λ (l : List ℕ). clusterOf n l i) r ∙ cluster-stored n recs slots i k (s .low) (s .high) (s .room .recs-long) v f i in
+      e
+      ∙ ap₂ (λ (x : ℕ) (y : ℕ). cond (eqb x 0) sets (set sets (x - 1) y)) h
+      (ap (setWord (heapIn n rs ss list)) h
+      ∙ ap₂ (λ (x y : List ℕ). setWord (heapIn n x y list) (clusterOf n recs i)) r b
+      ∙ stored-set n recs slots list i k v w (s .low) (s .high) (s .room .recs-long) (s .used) (s .narrow) g f (clusterOf n recs i))
+
+  -- the set of a cluster that is dissolved, emptied
+  pub set-gone : (r d : ℕ) → r ≡ recOf n recs i → d ≡ cluster r → (list sets ts : List ℕ) → ts ≡ cond (eqb d 0) sets (set sets (d - 1) 0)
+      → ts ≡ setsBy true n i k w recs slots list sets
+  unfolding setsBy withSet
+  set-gone r d e f list sets ts g = g ∙ ap (λ (x : ℕ). cond (eqb x 0) sets (set sets (x - 1) 0)) own ∙ go (ℕ-discrete (clusterOf n recs i) 0)
+    where
+      own : d ≡ clusterOf n recs i
+      own = f ∙ ap cluster e
+
+      go : Dec (clusterOf n recs i ≡ 0) → cond (eqb (clusterOf n recs i) 0) sets (set sets (clusterOf n recs i - 1) 0)
+          ≡ cond (eqb (clusterOf n recs i) 0) sets (set sets (clusterOf n recs i - 1) (setWord (storeBy true (heapIn n recs slots list) i k (target n w)) (clusterOf n recs i)))
+      go (yes z) = rw (eq-eqb (clusterOf n recs i) 0 z) refl
+      go (no z) = ap (λ (x : ℕ). cond (eqb (clusterOf n recs i) 0) sets (set sets (clusterOf n recs i - 1) x)) (sym (unfold view in (dissolved-empty (heapIn n recs slots list) i k (target n w) z)))
+
+-- the set at the object's head, from its cluster
+module _ (n i : ℕ) (recs : List ℕ) (H : Heap) (sets : List ℕ) (r d : ℕ) (e : r ≡ recOf n recs i) (f : d ≡ cluster r) where
+  pub set-none : d ≡ 0 → sets ≡ withSet H (clusterOf n recs i) sets
+  unfolding withSet
+  set-none z = rw (← e, ← f, eq-eqb d 0 z) refl
+
+  pub set-made : n ≤ objectMax → (v : ℕ) → v ≡ cond (leb n objectMax) (setWord H d) 0 → (ts : List ℕ) → ts ≡ cond (eqb d 0) sets (set sets (d - 1) v)
+      → ts ≡ withSet H (clusterOf n recs i) sets
+  unfolding withSet
+  set-made l v g ts h =
+      let o : v ≡ setWord H d = g ∙ rw (le-leb n objectMax l) refl in
+      h ∙ ap (λ (x : ℕ). cond (eqb d 0) sets (set sets (d - 1) x)) o ∙ ap (λ (x : ℕ). cond (eqb x 0) sets (set sets (x - 1) (setWord H x))) (f ∙ ap cluster e)
+
+-- ---- the rule with the list of sinks, of which only the sets depend
+
+module _ (n : ℕ) (recs slots list : List ℕ) (i k t : ℕ) where
+  dissolves-listed : dissolves (heapIn n recs slots list) i k t ≡ dissolves (view n recs slots) i k t
+  unfolding dissolves
+  dissolves-listed = refl
+
+  loss-listed : (d : Bool) → lossBy d (heapIn n recs slots list) i ≡ lossBy d (view n recs slots) i
+  unfolding lossBy
+  loss-listed true = refl
+  loss-listed false = refl
+
+  encoded-listed : (d : Bool) → encoded (storeBy d (view n recs slots) i k t) recs ≡ encoded (storeBy d (heapIn n recs slots list) i k t) recs
+  unfolding encoded storeBy stored
+  encoded-listed true = refl
+  encoded-listed false = refl
+
 -- ---- the ends of the call
 
-module _ (c : Control) (i k w : ℕ) (recs slots : List ℕ) where
+module _ (c : Control) (i k w : ℕ) (recs slots list sets : List ℕ) where
   abbrev last-test : List Test
-  last-test = (25, ltb (c .n) (Write.lossAfter c i k w recs slots)) ∷ []
+  last-test = (25, ltb (c .n) (Write.lossAfter c i k w recs slots list sets)) ∷ []
 
-  tests-parts : Write.writeTests c i k w recs slots ≡ frontTests c i k w recs slots ++ last-test
-  unfolding Write.writeTests frontTests showTests wordTests
+  tests-parts : Write.writeTests c i k w recs slots list sets ≡ frontTests c i k w recs slots list sets ++ last-test
+  unfolding Write.writeTests frontTests wordTests
   tests-parts = refl
 
-  numbered : Numbered (frontTests c i k w recs slots)
-  unfolding frontTests showTests wordTests
+  numbered : Numbered (frontTests c i k w recs slots list sets)
+  unfolding frontTests wordTests
   numbered = cons (lit< tt) (cons (lit< tt) (cons (lit< tt) (cons (lit< tt) (cons (lit< tt) (cons (lit< tt) (cons (lit< tt) (cons (lit< tt) nil)))))))
 
-  pub refused : (m : ℕ) → m ≡ first (frontTests c i k w recs slots) → m ≢ 0
-      → Write.gives (record { refusal = m; control = c }) recs slots ≡ Write.write c i k w recs slots
+  pub refused : (m : ℕ) → m ≡ first (frontTests c i k w recs slots list sets) → m ≢ 0
+      → Write.gives (record { refusal = m; control = c }) recs slots sets ≡ Write.write c i k w recs slots list sets
   unfolding Write.write
   refused m e d =
-      sym (outcome-number _ _ (Write.writeTests c i k w recs slots) m
-      (ap first tests-parts ∙ first-front (frontTests c i k w recs slots) last-test (λ z. d (e ∙ z)) ∙ sym e) d)
+      sym (outcome-number _ _ (Write.writeTests c i k w recs slots list sets) m
+      (ap first tests-parts ∙ first-front (frontTests c i k w recs slots list sets) last-test (λ z. d (e ∙ z)) ∙ sym e) d)
 
-  module _ (m : ℕ) (e : m ≡ first (frontTests c i k w recs slots)) (z : m ≡ 0) where
-    only-last : first (Write.writeTests c i k w recs slots) ≡ first last-test
-    only-last = ap first tests-parts ∙ first-skip (frontTests c i k w recs slots) last-test (first-zero (frontTests c i k w recs slots) numbered (sym e ∙ z))
+  module _ (m : ℕ) (e : m ≡ first (frontTests c i k w recs slots list sets)) (z : m ≡ 0) where
+    only-last : first (Write.writeTests c i k w recs slots list sets) ≡ first last-test
+    only-last =
+        ap first tests-parts
+        ∙ first-skip (frontTests c i k w recs slots list sets) last-test (first-zero (frontTests c i k w recs slots list sets) numbered (sym e ∙ z))
 
     module _ (b : Bool) (f : dissolves (view (c .n) recs slots) i k (target (c .n) w) ≡ b) where
-      loss-by : Write.lossAfter c i k w recs slots ≡ c .«write_loss» + lossBy b (view (c .n) recs slots) i
+      listed-rule : dissolves (heapIn (c .n) recs slots list) i k (target (c .n) w) ≡ b
+      listed-rule = dissolves-listed (c .n) recs slots list i k (target (c .n) w) ∙ f
+
+      loss-by : Write.lossAfter c i k w recs slots list sets ≡ c .«write_loss» + lossBy b (view (c .n) recs slots) i
       unfolding Write.lossAfter lossOf
-      loss-by = rw f refl
+      loss-by = rw listed-rule (ap (λ (x : ℕ). c .«write_loss» + x) (loss-listed (c .n) recs slots list i k (target (c .n) w) b))
 
-      done : Write.lossAfter c i k w recs slots ≤ c .n → (d : Control) → d ≡ withWriteLoss (Write.lossAfter c i k w recs slots) c → (rs ss : List ℕ)
+      records-by : encoded (storeBy b (view (c .n) recs slots) i k (target (c .n) w)) recs ≡ encoded (Write.after c i k w recs slots list sets) recs
+      unfolding store
+      records-by = rw listed-rule (encoded-listed (c .n) recs slots list i k (target (c .n) w) b)
+
+      sets-by : setsBy b (c .n) i k w recs slots list sets ≡ Write.setsAfter c i k w recs slots list sets
+      unfolding Write.setsAfter setsBy withSet store view
+      sets-by =
+          ap (λ (d : Bool). withSet (storeBy d (heapIn (c .n) recs slots list) i k (target (c .n) w)) (clusterOf (c .n) recs i) sets) (sym listed-rule)
+
+      done : Write.lossAfter c i k w recs slots list sets ≤ c .n → (d : Control) → d ≡ withWriteLoss (Write.lossAfter c i k w recs slots list sets) c → (rs ss ts : List ℕ)
           → rs ≡ encoded (storeBy b (view (c .n) recs slots) i k (target (c .n) w)) recs → ss ≡ set slots (8 * (i - 1) + k) w
-          → Write.gives (record { refusal = 0; control = d }) rs ss ≡ Write.write c i k w recs slots
-      unfolding Write.write store first
-      done h d q rs ss x y =
-          let v : rs ≡ encoded (storeBy (dissolves (view (c .n) recs slots) i k (target (c .n) w)) (view (c .n) recs slots) i k (target (c .n) w)) recs = rw f x in
-          (λ j. Write.gives (record { refusal = 0; control = q j }) (v j) (y j))
-          ∙ sym (outcome-zero _ _ (Write.writeTests c i k w recs slots) (only-last ∙ first-fails 25 [] _ (le-ltb _ _ h)))
+          → ts ≡ setsBy b (c .n) i k w recs slots list sets
+          → Write.gives (record { refusal = 0; control = d }) rs ss ts ≡ Write.write c i k w recs slots list sets
+      unfolding Write.write first
+      done h d q rs ss ts x y u =
+          let v = x ∙ records-by in
+          let o = u ∙ sets-by in
+          (λ j. Write.gives (record { refusal = 0; control = q j }) (v j) (y j) (o j))
+          ∙ sym (outcome-zero _ _ (Write.writeTests c i k w recs slots list sets) (only-last ∙ first-fails 25 [] _ (le-ltb _ _ h)))
 
-    pub stayed : (b : Bool) → b ≡ dissolves (view (c .n) recs slots) i k (target (c .n) w) → not b ≡ true → (rs ss : List ℕ)
+    pub stayed : (b : Bool) → b ≡ dissolves (view (c .n) recs slots) i k (target (c .n) w) → not b ≡ true → (rs ss ts : List ℕ)
         → rs ≡ encoded (storeBy false (view (c .n) recs slots) i k (target (c .n) w)) recs → ss ≡ set slots (8 * (i - 1) + k) w
-        → Write.gives (record { refusal = 0; control = c }) rs ss ≡ Write.write c i k w recs slots
+        → ts ≡ setsBy false (c .n) i k w recs slots list sets
+        → Write.gives (record { refusal = 0; control = c }) rs ss ts ≡ Write.write c i k w recs slots list sets
     unfolding lossBy withWriteLoss
-    stayed b f t rs ss x y =
+    stayed b f t rs ss ts x y u =
         let g = sym f ∙ not-true b t in
-        let l : Write.lossAfter c i k w recs slots ≡ c .«write_loss» + 0 = loss-by false g in
-        let h = losses c i k w recs slots m e z .1 in
-        let same : c .«write_loss» ≡ Write.lossAfter c i k w recs slots = omega arith in
-        done false g (omega arith) c (ap (λ (q : ℕ). withWriteLoss q c) same) rs ss x y
+        let l : Write.lossAfter c i k w recs slots list sets ≡ c .«write_loss» + 0 = loss-by false g in
+        let h = losses c i k w recs slots list sets m e z .1 in
+        let same : c .«write_loss» ≡ Write.lossAfter c i k w recs slots list sets = omega arith in
+        done false g (omega arith) c (ap (λ (q : ℕ). withWriteLoss q c) same) rs ss ts x y u
 
     module _ (b : Bool) (f : b ≡ dissolves (view (c .n) recs slots) i k (target (c .n) w)) (t : not b ≡ false)
         (l : ℕ) (g : l ≡ c .«write_loss» + membersOf (c .n) recs (clusterOf (c .n) recs i)) where
       dissolving : dissolves (view (c .n) recs slots) i k (target (c .n) w) ≡ true
       dissolving = sym f ∙ not-false b t
 
-      grown : Write.lossAfter c i k w recs slots ≡ l
+      grown : Write.lossAfter c i k w recs slots list sets ≡ l
       unfolding lossBy membersOf view
       grown = loss-by true dissolving ∙ sym g
 
-      pub too-many : c .n < l → Write.gives (record { refusal = 25; control = c }) recs slots ≡ Write.write c i k w recs slots
+      pub too-many : c .n < l → Write.gives (record { refusal = 25; control = c }) recs slots sets ≡ Write.write c i k w recs slots list sets
       unfolding Write.write
       too-many h =
-          sym (outcome-number _ _ (Write.writeTests c i k w recs slots) 25
+          sym (outcome-number _ _ (Write.writeTests c i k w recs slots list sets) 25
           (only-last ∙ first-holds 25 [] _ (rw grown (lt-ltb _ _ h))) (λ (q : 25 ≡ 0). omega arith))
 
-      pub dissolved-all : l ≤ c .n → (d : Control) → d ≡ withWriteLoss l c → (rs ss : List ℕ)
+      pub dissolved-all : l ≤ c .n → (d : Control) → d ≡ withWriteLoss l c → (rs ss ts : List ℕ)
           → rs ≡ encoded (storeBy true (view (c .n) recs slots) i k (target (c .n) w)) recs → ss ≡ set slots (8 * (i - 1) + k) w
-          → Write.gives (record { refusal = 0; control = d }) rs ss ≡ Write.write c i k w recs slots
-      dissolved-all h d q rs ss x y = done true dissolving (rw grown h) d (q ∙ ap (λ (v : ℕ). withWriteLoss v c) (sym grown)) rs ss x y
+          → ts ≡ setsBy true (c .n) i k w recs slots list sets
+          → Write.gives (record { refusal = 0; control = d }) rs ss ts ≡ Write.write c i k w recs slots list sets
+      dissolved-all h d q rs ss ts x y u = done true dissolving (rw grown h) d (q ∙ ap (λ (v : ℕ). withWriteLoss v c) (sym grown)) rs ss ts x y u
 
 -- ---- the attempts
 
 -- the ends of an attempt whose tests passed
-module _ (c : Control) (i k w : ℕ) (recs slots : List ℕ) (m : ℕ) (e : m ≡ first (frontTests c i k w recs slots)) (z : m ≡ 0)
+module _ (c : Control) (i k w : ℕ) (recs slots list sets : List ℕ) (m : ℕ) (e : m ≡ first (frontTests c i k w recs slots list sets)) (z : m ≡ 0)
     (b : Bool) (f : b ≡ dissolves (view (c .n) recs slots) i k (target (c .n) w)) (may : Bool) where
-  pub ends-kept : not b ≡ true → (rs ss : List ℕ) → rs ≡ encoded (storeBy false (view (c .n) recs slots) i k (target (c .n) w)) recs
-      → ss ≡ set slots (8 * (i - 1) + k) w → Attempted c i k w recs slots may 0 rs ss
-  ends-kept t rs ss = keeps (sym z ∙ e) (sym (not-true b t) ∙ f) refl
+  pub ends-kept : not b ≡ true → (rs ss ts : List ℕ) → rs ≡ encoded (storeBy false (view (c .n) recs slots) i k (target (c .n) w)) recs
+      → ss ≡ set slots (8 * (i - 1) + k) w → ts ≡ setsBy false (c .n) i k w recs slots list sets → Attempted c i k w recs slots list sets may 0 rs ss ts
+  ends-kept t rs ss ts = keeps (sym z ∙ e) (sym (not-true b t) ∙ f) refl
 
   module _ (t : not b ≡ false) where
-    pub ends-broken : may ≡ true → (rs ss : List ℕ) → rs ≡ encoded (storeBy true (view (c .n) recs slots) i k (target (c .n) w)) recs
-        → ss ≡ set slots (8 * (i - 1) + k) w → Attempted c i k w recs slots may 0 rs ss
-    ends-broken o rs ss = breaks (sym z ∙ e) (sym (not-false b t) ∙ f) o refl
+    pub ends-broken : may ≡ true → (rs ss ts : List ℕ) → rs ≡ encoded (storeBy true (view (c .n) recs slots) i k (target (c .n) w)) recs
+        → ss ≡ set slots (8 * (i - 1) + k) w → ts ≡ setsBy true (c .n) i k w recs slots list sets → Attempted c i k w recs slots list sets may 0 rs ss ts
+    ends-broken o rs ss ts = breaks (sym z ∙ e) (sym (not-false b t) ∙ f) o refl
 
     module _ (o : may ≡ false) (l : ℕ) (g : l ≡ c .«write_loss» + membersOf (c .n) recs (clusterOf (c .n) recs i)) where
-      pub ends-full : c .n < l → Attempted c i k w recs slots may 25 recs slots
-      ends-full h = overflows (sym z ∙ e) (sym (not-false b t) ∙ f) o l g h refl refl refl
+      pub ends-full : c .n < l → Attempted c i k w recs slots list sets may 25 recs slots sets
+      ends-full h = overflows (sym z ∙ e) (sym (not-false b t) ∙ f) o l g h refl refl refl refl
 
-      pub ends-asked : l ≤ c .n → Attempted c i k w recs slots may (64 + l) recs slots
-      ends-asked h = asks (sym z ∙ e) (sym (not-false b t) ∙ f) o l g h refl refl refl
+      pub ends-asked : l ≤ c .n → Attempted c i k w recs slots list sets may (64 + l) recs slots sets
+      ends-asked h = asks (sym z ∙ e) (sym (not-false b t) ∙ f) o l g h refl refl refl refl
 
 -- a refusal is below 64
 low : (m : ℕ) (b : Bool) (l : List Test) → m < 64 → first l < 64 → first ((m, b) ∷ l) < 64
@@ -368,52 +487,57 @@ none-low : first [] < 64
 unfolding first
 none-low = lit< tt
 
-pub front-low : (c : Control) (i k w : ℕ) (recs slots : List ℕ) → first (frontTests c i k w recs slots) < 64
-unfolding frontTests showTests wordTests
-front-low c i k w recs slots =
+pub front-low : (c : Control) (i k w : ℕ) (recs slots list sets : List ℕ) → first (frontTests c i k w recs slots list sets) < 64
+unfolding frontTests wordTests
+front-low c i k w recs slots list sets =
     low 20 _ _ (lit< tt) (low 2 _ _ (lit< tt) (low 4 _ _ (lit< tt) (low 21 _ _ (lit< tt) (low 22 _ _ (lit< tt) (low 5 _ _ (lit< tt) (low 6 _ _ (lit< tt) (low 23 _ [] (lit< tt) none-low)))))))
 
-module _ (c : Control) (i k w : ℕ) (recs slots : List ℕ) where
+module _ (c : Control) (i k w : ℕ) (recs slots list sets : List ℕ) where
   -- an attempt that did not ask gave the outcome, with the control record as it was
-  pub answered : (a : ℕ) (rs ss : List ℕ) → Attempted c i k w recs slots false a rs ss → a < 64
-      → Write.gives (record { refusal = a; control = c }) rs ss ≡ Write.write c i k w recs slots
-  answered a rs ss (refuses e d p q) h = ap₂ (Write.gives _) p q ∙ refused c i k w recs slots a e d
-  answered a rs ss (keeps e f z p q) h =
-      ap (λ (x : ℕ). Write.gives (record { refusal = x; control = c }) rs ss) z ∙ stayed c i k w recs slots 0 e refl false f refl rs ss p q
-  answered a rs ss (overflows e f m l g o z p q) h =
-      (λ j. Write.gives (record { refusal = z j; control = c }) (p j) (q j)) ∙ too-many c i k w recs slots 0 e refl true f refl l g o
-  answered a rs ss (asks e f m l g o z p q) h = absurd (omega arith)
-  answered a rs ss (breaks e f m z p q) h = absurd (true≢false (sym m))
+  pub answered : (a : ℕ) (rs ss ts : List ℕ) → Attempted c i k w recs slots list sets false a rs ss ts → a < 64
+      → Write.gives (record { refusal = a; control = c }) rs ss ts ≡ Write.write c i k w recs slots list sets
+  answered a rs ss ts (refuses e d p q r) h =
+      (λ j. Write.gives (record { refusal = a; control = c }) (p j) (q j) (r j)) ∙ refused c i k w recs slots list sets a e d
+  answered a rs ss ts (keeps e f z p q r) h =
+      ap (λ (x : ℕ). Write.gives (record { refusal = x; control = c }) rs ss ts) z ∙ stayed c i k w recs slots list sets 0 e refl false f refl rs ss ts p q r
+  answered a rs ss ts (overflows e f m l g o z p q r) h =
+      (λ j. Write.gives (record { refusal = z j; control = c }) (p j) (q j) (r j)) ∙ too-many c i k w recs slots list sets 0 e refl true f refl l g o
+  answered a rs ss ts (asks e f m l g o z p q r) h = absurd (omega arith)
+  answered a rs ss ts (breaks e f m z p q r) h = absurd (true≢false (sym m))
 
   -- the tests pass with a loss that is not above n, too
-  with-loss : (l : ℕ) → 0 ≡ first (frontTests c i k w recs slots) → l ≤ c .n → first (frontTests (withWriteLoss l c) i k w recs slots) ≡ 0
-  unfolding frontTests showTests withWriteLoss
+  with-loss : (l : ℕ) → 0 ≡ first (frontTests c i k w recs slots list sets) → l ≤ c .n → first (frontTests (withWriteLoss l c) i k w recs slots list sets) ≡ 0
+  unfolding frontTests withWriteLoss
   with-loss l e h =
-      let s = named c i recs slots (shown c i k w recs slots 0 e refl) .sound in
+      let s = named c i recs slots (shown c i k w recs slots list sets 0 e refl) .sound in
       first-fails 20 _ _ (facts-control _ (writes-sound c s l h)) ∙ first-passed 19 _ _ (sym e) .1
 
   -- the second attempt, after one that asked
-  granted : (l b : ℕ) (rs ss : List ℕ) → 0 ≡ first (frontTests c i k w recs slots) → true ≡ dissolves (view (c .n) recs slots) i k (target (c .n) w)
-      → l ≡ c .«write_loss» + membersOf (c .n) recs (clusterOf (c .n) recs i) → l ≤ c .n → Attempted (withWriteLoss l c) i k w recs slots true b rs ss
-      → Write.gives (record { refusal = b; control = withWriteLoss l c }) rs ss ≡ Write.write c i k w recs slots
+  granted : (l b : ℕ) (rs ss ts : List ℕ) → 0 ≡ first (frontTests c i k w recs slots list sets) → true ≡ dissolves (view (c .n) recs slots) i k (target (c .n) w)
+      → l ≡ c .«write_loss» + membersOf (c .n) recs (clusterOf (c .n) recs i) → l ≤ c .n → Attempted (withWriteLoss l c) i k w recs slots list sets true b rs ss ts
+      → Write.gives (record { refusal = b; control = withWriteLoss l c }) rs ss ts ≡ Write.write c i k w recs slots list sets
   unfolding withWriteLoss
-  granted l b rs ss e f g h (refuses e′ d p q) = absurd (d (e′ ∙ with-loss l e h))
-  granted l b rs ss e f g h (keeps e′ f′ z p q) = absurd (true≢false (f ∙ sym f′))
-  granted l b rs ss e f g h (overflows e′ f′ m _ _ _ _ _ _) = absurd (true≢false m)
-  granted l b rs ss e f g h (asks e′ f′ m _ _ _ _ _ _) = absurd (true≢false m)
-  granted l b rs ss e f g h (breaks e′ f′ m z p q) =
-      ap (λ (x : ℕ). Write.gives (record { refusal = x; control = withWriteLoss l c }) rs ss) z
-      ∙ dissolved-all c i k w recs slots 0 e refl true f refl l g h (withWriteLoss l c) refl rs ss p q
+  granted l b rs ss ts e f g h (refuses e′ d _ _ _) = absurd (d (e′ ∙ with-loss l e h))
+  granted l b rs ss ts e f g h (keeps e′ f′ z _ _ _) = absurd (true≢false (f ∙ sym f′))
+  granted l b rs ss ts e f g h (overflows e′ f′ m _ _ _ _ _ _ _) = absurd (true≢false m)
+  granted l b rs ss ts e f g h (asks e′ f′ m _ _ _ _ _ _ _) = absurd (true≢false m)
+  granted l b rs ss ts e f g h (breaks e′ f′ m z p q r) =
+      ap (λ (x : ℕ). Write.gives (record { refusal = x; control = withWriteLoss l c }) rs ss ts) z
+      ∙ dissolved-all c i k w recs slots list sets 0 e refl true f refl l g h (withWriteLoss l c) refl rs ss ts p q r
 
-  pub attempted-again : (a : ℕ) (rs₁ ss₁ : List ℕ) → Attempted c i k w recs slots false a rs₁ ss₁ → 64 ≤ a → (d : Control) → d ≡ withWriteLoss (a - 64) c
-      → (b : ℕ) (rs ss : List ℕ) → Attempted d i k w rs₁ ss₁ true b rs ss → Write.gives (record { refusal = b; control = d }) rs ss ≡ Write.write c i k w recs slots
-  attempted-again a rs₁ ss₁ (refuses e _ _ _) h d q b rs ss t = let x = front-low c i k w recs slots in absurd (omega arith)
-  attempted-again a rs₁ ss₁ (keeps _ _ z _ _) h d q b rs ss t = absurd (omega arith)
-  attempted-again a rs₁ ss₁ (overflows _ _ _ _ _ _ z _ _) h d q b rs ss t = absurd (omega arith)
-  attempted-again a rs₁ ss₁ (breaks _ _ _ z _ _) h d q b rs ss t = absurd (omega arith)
-  attempted-again a rs₁ ss₁ (asks e f m l g o z x y) h d q b rs ss t =
+  pub attempted-again : (a : ℕ) (rs₁ ss₁ ts₁ : List ℕ) → Attempted c i k w recs slots list sets false a rs₁ ss₁ ts₁ → 64 ≤ a → (d : Control) → d ≡ withWriteLoss (a - 64) c
+      → (b : ℕ) (rs ss ts : List ℕ) → Attempted d i k w rs₁ ss₁ list ts₁ true b rs ss ts
+      → Write.gives (record { refusal = b; control = d }) rs ss ts ≡ Write.write c i k w recs slots list sets
+  attempted-again a rs₁ ss₁ ts₁ (refuses e _ _ _ _) h d q b rs ss ts t = let x = front-low c i k w recs slots list sets in absurd (omega arith)
+  attempted-again a rs₁ ss₁ ts₁ (keeps _ _ z _ _ _) h d q b rs ss ts t = absurd (omega arith)
+  attempted-again a rs₁ ss₁ ts₁ (overflows _ _ _ _ _ _ z _ _ _) h d q b rs ss ts t = absurd (omega arith)
+  attempted-again a rs₁ ss₁ ts₁ (breaks _ _ _ z _ _ _) h d q b rs ss ts t = absurd (omega arith)
+  attempted-again a rs₁ ss₁ ts₁ (asks e f m l g o z x y u) h d q b rs ss ts t =
       let v : a - 64 ≡ l = omega arith in
-      let u : d ≡ withWriteLoss l c = q ∙ ap (λ (n : ℕ). withWriteLoss n c) v in
-      let t′ : Attempted (withWriteLoss l c) i k w recs slots true b rs ss
-      = subst (λ (n : Control). Attempted n i k w recs slots true b rs ss) u (subst (λ (n : List ℕ). Attempted d i k w recs n true b rs ss) y (subst (λ (n : List ℕ). Attempted d i k w n ss₁ true b rs ss) x t)) in
-      ap (λ (n : Control). Write.gives (record { refusal = b; control = n }) rs ss) u ∙ granted l b rs ss e f g o t′
+      let p : d ≡ withWriteLoss l c = q ∙ ap (λ (n : ℕ). withWriteLoss n c) v in
+      let t₁ : Attempted d i k w recs ss₁ list ts₁ true b rs ss ts = subst (λ (n : List ℕ). Attempted d i k w n ss₁ list ts₁ true b rs ss ts) x t in
+      let t₂ : Attempted d i k w recs slots list ts₁ true b rs ss ts = subst (λ (n : List ℕ). Attempted d i k w recs n list ts₁ true b rs ss ts) y t₁ in
+      let t₃ : Attempted d i k w recs slots list sets true b rs ss ts = subst (λ (n : List ℕ). Attempted d i k w recs slots list n true b rs ss ts) u t₂ in
+      let t₄ : Attempted (withWriteLoss l c) i k w recs slots list sets true b rs ss ts
+      = subst (λ (n : Control). Attempted n i k w recs slots list sets true b rs ss ts) p t₃ in
+      ap (λ (n : Control). Write.gives (record { refusal = b; control = n }) rs ss ts) p ∙ granted l b rs ss ts e f g o t₄

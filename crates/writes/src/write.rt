@@ -1,4 +1,4 @@
-// Write: a word is stored in a slot; the object's cluster is dissolved, or its out bit made exact.
+// Write: a word is stored in a slot; the object's cluster is dissolved, or its out bit and its cluster's set made exact.
 ghost use mathlib.Core.Path.{_≡_};
 ghost use mathlib.Core.Bool.{true, false, cond};
 ghost use Prim.Native.Nat.{_+_, _-_, _*_, _≤_, _<_};
@@ -10,19 +10,24 @@ ghost use Rattle.layout.specs.Refusal.{first};
 ghost use Rattle.graph.specs.Numbers.{has};
 ghost use Rattle.graph.specs.Writes.{dissolves, storeBy};
 ghost use Rattle.rules.specs.Buffers.{recOf, usedWords};
-ghost use Rattle.rules.specs.View.{target, view, encoded};
+ghost use Rattle.rules.specs.View.{target, view, heapIn, encoded};
 ghost use Rattle.rules.specs.Write as Write;
 ghost use Rattle.table.specs.Clusters.{clusterOf, membersOf};
-ghost use Rattle.writes.specs.Writes.{wordTests, frontTests, Slot, Attempted};
+ghost use Rattle.writes.specs.Writes.{wordTests, frontTests, Slot, withSet, setsBy, Attempted};
 use layout::answers::Control;
 use layout::answers::Done;
+use layout::limits::SINK_MAX;
 use layout::limits::slots_len;
+use layout::refusals::BAD_CONTROL;
 use layout::refusals::BAD_WORD;
 use layout::refusals::LOSS_FULL;
 use layout::refusals::NAMES_NONE;
 use layout::refusals::NO_SLOT;
+use layout::refusals::TOO_SHORT;
+use layout::refusals::bad_control;
 use layout::words::Word;
 use layout::words::sort_word;
+use places::cluster_set;
 use records::cluster_of;
 use records::legal;
 use records::width_of;
@@ -63,9 +68,18 @@ fn write_refusal(
     word: u32,
     records: &[u32],
     slots: &[u32],
+    sinks: &[u32],
+    sets: &[u64],
 ) -> u32
-    ensures { λ k. ⌜ k ≡ first (frontTests c object slot word (now (records .entry)) (now (slots .entry))) ⌝ }
+    ensures { λ k. ⌜ k ≡ first (frontTests c object slot word (now (records .entry)) (now (slots .entry)) (now (sinks .entry)) (now (sets .entry))) ⌝ }
 {
+    // One branch for both slices; only where it is taken does it matter that 20 comes first.
+    if (sinks.len() < SINK_MAX as usize) | (sets.len() < c.n as usize) {
+        if bad_control(c) {
+            return BAD_CONTROL;
+        }
+        return TOO_SHORT;
+    }
     let k = object_refusal(c, object, records, slots);
     if k != 0 {
         return k;
@@ -149,20 +163,56 @@ fn store_word(n: u32, object: u32, slot: u32, word: u32, records: &mut [u32], sl
     slots[slots_len(object - 1) + slot as usize] = word;
 }
 
-// A store that leaves the clusters: the object's out bit is made exact.
-fn store_staying(n: u32, object: u32, slot: u32, word: u32, records: &mut [u32], slots: &mut [u32])
+// The set at head h becomes this word. There is none at 0.
+fn put_set(h: u32, word: u64, sets: &mut [u64])
+    ensures { λ _. ⌜ now (sets .exit) ≡ cond (eqb h 0) (now (sets .entry)) (set (now (sets .entry)) (h - 1) word) ⌝ }
+{
+    if h == 0 {
+        return;
+    }
+    let at = (h - 1) as usize;
+    if at < sets.len() {
+        sets[at] = word;
+    }
+}
+
+// The set at the object's head becomes exact; nothing is done for an object in no cluster.
+fn make_set(n: u32, object: u32, records: &[u32], slots: &[u32], sinks: &[u32], sets: &mut [u64])
+    requires { ⌜ n ≤ objectMax ⌝ }
+    ensures { λ _. ⌜ now (sets .exit)
+        ≡ withSet (heapIn n (now (records .entry)) (now (slots .entry)) (now (sinks .entry))) (clusterOf n (now (records .entry)) object) (now (sets .entry)) ⌝ }
+{
+    let h = cluster_of(record_of(n, object, records));
+    if h != 0 {
+        put_set(h, cluster_set(n, h, records, slots, sinks), sets);
+    }
+}
+
+// A store that leaves the clusters: the object's out bit and the set at its head are made exact.
+fn store_staying(
+    n: u32,
+    object: u32,
+    slot: u32,
+    word: u32,
+    records: &mut [u32],
+    slots: &mut [u32],
+    sinks: &[u32],
+    sets: &mut [u64],
+)
     requires { ⌜ Slot n object slot (now records) (now slots) ⌝ }
     ensures { λ _. ⌜ (now (records .exit)
         ≡ encoded (storeBy false (view n (now (records .entry)) (now (slots .entry))) object slot (target n word)) (now (records .entry)))
-        × (now (slots .exit) ≡ set (now (slots .entry)) (widthMax * (object - 1) + slot) word) ⌝ }
+        × (now (slots .exit) ≡ set (now (slots .entry)) (widthMax * (object - 1) + slot) word)
+        × (now (sets .exit) ≡ setsBy false n object slot word (now (records .entry)) (now (slots .entry)) (now (sinks .entry)) (now (sets .entry))) ⌝ }
 {
     store_word(n, object, slot, word, records, slots);
     let out = exact_out(n, object, records, slots);
     let at = (object - 1) as usize;
     records[at] = with_out(records[at], out);
+    make_set(n, object, records, slots, sinks, sets);
 }
 
-// A store that dissolves the object's cluster: every member becomes loose.
+// A store that dissolves the object's cluster: every member becomes loose, and the set is empty.
 fn store_dissolving(
     n: u32,
     object: u32,
@@ -170,15 +220,19 @@ fn store_dissolving(
     word: u32,
     records: &mut [u32],
     slots: &mut [u32],
+    sinks: &[u32],
+    sets: &mut [u64],
 )
     requires { ⌜ Slot n object slot (now records) (now slots) ⌝ }
     ensures { λ _. ⌜ (now (records .exit)
         ≡ encoded (storeBy true (view n (now (records .entry)) (now (slots .entry))) object slot (target n word)) (now (records .entry)))
-        × (now (slots .exit) ≡ set (now (slots .entry)) (widthMax * (object - 1) + slot) word) ⌝ }
+        × (now (slots .exit) ≡ set (now (slots .entry)) (widthMax * (object - 1) + slot) word)
+        × (now (sets .exit) ≡ setsBy true n object slot word (now (records .entry)) (now (slots .entry)) (now (sinks .entry)) (now (sets .entry))) ⌝ }
 {
     let c = cluster_of(record_of(n, object, records));
     store_word(n, object, slot, word, records, slots);
     dissolve(n, c, records);
+    put_set(c, 0, sets);
 }
 
 // ---- the call
@@ -195,20 +249,23 @@ fn attempt(
     word: u32,
     records: &mut [u32],
     slots: &mut [u32],
+    sinks: &[u32],
+    sets: &mut [u64],
     may: bool,
 ) -> u32
-    ensures { λ a. ⌜ Attempted c object slot word (now (records .entry)) (now (slots .entry)) may a (now (records .exit)) (now (slots .exit)) ⌝ }
+    ensures { λ a. ⌜ Attempted c object slot word (now (records .entry)) (now (slots .entry)) (now (sinks .entry)) (now (sets .entry)) may a
+        (now (records .exit)) (now (slots .exit)) (now (sets .exit)) ⌝ }
 {
-    let refusal = write_refusal(c, object, slot, word, records, slots);
+    let refusal = write_refusal(c, object, slot, word, records, slots, sinks, sets);
     if refusal != 0 {
         return refusal;
     }
     if !does_dissolve(c.n, object, slot, word, records, slots) {
-        store_staying(c.n, object, slot, word, records, slots);
+        store_staying(c.n, object, slot, word, records, slots, sinks, sets);
         return 0;
     }
     if may {
-        store_dissolving(c.n, object, slot, word, records, slots);
+        store_dissolving(c.n, object, slot, word, records, slots, sinks, sets);
         return 0;
     }
     let loss = loss_after(c, object, records);
@@ -227,15 +284,17 @@ pub fn write(
     word: u32,
     records: &mut [u32],
     slots: &mut [u32],
+    sinks: &[u32],
+    sets: &mut [u64],
 ) -> Done
-    ensures { λ a. ⌜ Write.gives a (now (records .exit)) (now (slots .exit))
-        ≡ Write.write c object slot word (now (records .entry)) (now (slots .entry)) ⌝ }
+    ensures { λ a. ⌜ Write.gives a (now (records .exit)) (now (slots .exit)) (now (sets .exit))
+        ≡ Write.write c object slot word (now (records .entry)) (now (slots .entry)) (now (sinks .entry)) (now (sets .entry)) ⌝ }
 {
     let mut d = c;
-    let mut k = attempt(d, object, slot, word, records, slots, false);
+    let mut k = attempt(d, object, slot, word, records, slots, sinks, sets, false);
     if LOSS <= k {
         d.write_loss = k - LOSS;
-        k = attempt(d, object, slot, word, records, slots, true);
+        k = attempt(d, object, slot, word, records, slots, sinks, sets, true);
     }
     Done {
         refusal: k,

@@ -16,11 +16,14 @@ heap-refusal-requires c κs = search needs
 same-length : tie.Need-same-length
 same-length c = refl
 
+same-length-2 : tie.Need-same-length-2
+same-length-2 c = refl
+
 returns : tie.Need-returns
-returns c = refused _ _ _ _ _ _ (c .before .before .before .work-len .ensures) _ (c .before .heap-refusal .ensures) (c .if1 .taken)
+returns c = refused _ _ _ _ _ _ _ _ (c .before .before .before .before .work-len .ensures) _ (c .before .heap-refusal .ensures) (c .if1 .taken)
 
 used-count-requires : tie.Need-used-count-requires
-used-count-requires c κs = let a = accepted _ _ _ _ (c .before .before .before .before .before .before .before .before .before .args .work .now) _ (c .before .before .before .before .work-len .ensures) _ (c .before .before .heap-refusal .ensures) (c .before .if1 .left) in (a .room .recs-long, a .room .most)
+used-count-requires c κs = let a = (accepted _ _ _ _ _ _ (c .before .before .before .before .before .before .before .before .before .before .before .before .args .work .now) _ (c .before .before .before .before .before .work-len .ensures) _ (c .before .before .heap-refusal .ensures) (c .before .if1 .left)) in (a .room .recs-long, a .room .most)
 
 next-limit-requires : tie.Need-next-limit-requires
 next-limit-requires c κs = search needs
@@ -32,12 +35,15 @@ part-form-and-judge-start : tie.Need-part-form-and-judge-start
 part-form-and-judge-start c = search needs
 
 part-form-and-judge-end : tie.Need-part-form-and-judge-end
-part-form-and-judge-end c = cap-fits _ _ _ _ _ (accepted _ _ _ _ (c .before .before .before .before .before .before .before .before .before .before .before .before .args .work .now) _ (c .before .before .before .before .before .before .before .work-len .ensures) _ (c .before .before .before .before .before .heap-refusal .ensures) (c .before .before .before .before .if1 .left)) _ (c .before .before .before .before .before .before .before .work-len .ensures)
+part-form-and-judge-end c = cap-fits _ _ _ _ _ _ _ (accepted _ _ _ _ _ _ (c .before .before .before .before .before .before .before .before .before .before .before .before .before .before .before .before .args .work .now) _ (c .before .before .before .before .before .before .before .before .before .work-len .ensures) _ (c .before .before .before .before .before .before .heap-refusal .ensures) (c .before .before .before .before .before .if1 .left)) _ (c .before .before .before .before .before .before .before .before .before .work-len .ensures)
 
 form-and-judge-requires : tie.Need-form-and-judge-requires
 form-and-judge-requires c κs =
-    let a = accepted _ _ _ _ (c .before .before .before .before .before .before .before .before .before .before .before .before .before .args .work .now) _ (c .before .before .before .before .before .before .before .before .work-len .ensures) _ (c .before .before .before .before .before .before .heap-refusal .ensures) (c .before .before .before .before .before .if1 .left) in
-    formable _ _ _ _ _ (accepted-part _ _ _ _ _ a _ (c .before .before .before .before .before .before .before .before .work-len .ensures)) _ (c .before .before .next-limit .ensures ∙ ap (nextLimit (c .before .before .before .before .before .before .before .before .before .before .before .before .before .args .c)) (c .before .before .before .used-count .ensures))
+    let a = (accepted _ _ _ _ _ _ (c .before .before .before .before .before .before .before .before .before .before .before .before .before .before .before .before .before .args .work .now) _ (c .before .before .before .before .before .before .before .before .before .before .work-len .ensures) _ (c .before .before .before .before .before .before .before .heap-refusal .ensures) (c .before .before .before .before .before .before .if1 .left)) in
+    formable _ _ _ _ _ _ _ (accepted-part _ _ _ _ _ _ _ a _ (c .before .before .before .before .before .before .before .before .before .before .work-len .ensures)) _ (c .before .before .before .next-limit .ensures ∙ ap (nextLimit (c .before .before .before .before .before .before .before .before .before .before .before .before .before .before .before .before .before .args .c)) (c .before .before .before .before .used-count .ensures))
+
+fill-sets-requires : tie.Need-fill-sets-requires
+fill-sets-requires c κs = search needs
 
 zero-requires : tie.Need-zero-requires
 zero-requires c κs = search needs
@@ -45,20 +51,19 @@ zero-requires c κs = search needs
 with-analysis-requires : tie.Need-with-analysis-requires
 with-analysis-requires c κs = search needs
 
-same-length-2 : tie.Need-same-length-2
-same-length-2 c = search needs
-
 same-length-3 : tie.Need-same-length-3
 same-length-3 c = search needs
 
+same-length-4 : tie.Need-same-length-4
+same-length-4 c = search needs
+
+same-length-5 : tie.Need-same-length-5
+same-length-5 c = search needs
+
 returns-2 : tie.Need-returns-2
 returns-2 c =
-    let f = c .before .before .before .before .before .before .before .before .before in
-    let u = f .before .before .before .before in
-    let h = u .before .before .before in
-    let l = h .before .before in
-    outcome _ _ _ _ (l .before .before .before .before .before .args .work .now) _ (l .work-len .ensures) _ (h .heap-refusal .ensures) (u .before .before .if1 .left) _ (f .before .before .before .next-limit .ensures ∙ ap (nextLimit (l .before .before .before .before .before .args .c)) (u .used-count .ensures)) _ (f .form-and-judge .last .1 .1 .1 .1 .1 .1 .0) _ _ _ _ (f .form-and-judge .ensures)
-    (f .form-and-judge .kept .1 .1 .1 .1 .1 .1 .0) (c .before .before .before .zero .ensures) _ (c .with-analysis .ensures)
+    let f = c .before .before .before .before .before .before .before .before .before .before .before .before .before .before .form-and-judge in
+    outcome _ _ _ _ _ _ (c .before .before .before .before .before .before .before .before .before .before .before .before .before .before .before .before .before .before .before .before .before .before .before .before .before .before .before .before .before .before .before .before .args .work .now) _ (c .before .before .before .before .before .before .before .before .before .before .before .before .before .before .before .before .before .before .before .before .before .before .before .before .before .work-len .ensures) _ (c .before .before .before .before .before .before .before .before .before .before .before .before .before .before .before .before .before .before .before .before .before .before .heap-refusal .ensures) (c .before .before .before .before .before .before .before .before .before .before .before .before .before .before .before .before .before .before .before .before .before .if1 .left) _ (c .before .before .before .before .before .before .before .before .before .before .before .before .before .before .before .before .before .before .next-limit .ensures ∙ ap (nextLimit (c .before .before .before .before .before .before .before .before .before .before .before .before .before .before .before .before .before .before .before .before .before .before .before .before .before .before .before .before .before .before .before .before .args .c)) (c .before .before .before .before .before .before .before .before .before .before .before .before .before .before .before .before .before .before .before .used-count .ensures)) _ _ (f .last .1 .1 .1 .1 .1 .1 .1 .1 .0) _ _ _ _ (f .ensures) (c .before .before .before .before .before .before .before .fill-sets .ensures) (f .kept .1 .1 .1 .1 .1 .1 .1 .1 .0) (c .before .before .before .zero .ensures) _ (c .with-analysis .ensures)
 
 pub analyse-spec : {M : Type 1} → statement M
 analyse-spec =
@@ -67,6 +72,7 @@ analyse-spec =
     work-len-requires
     heap-refusal-requires
     same-length
+    same-length-2
     returns
     used-count-requires
     next-limit-requires
@@ -74,8 +80,10 @@ analyse-spec =
     part-form-and-judge-start
     part-form-and-judge-end
     form-and-judge-requires
+    fill-sets-requires
     zero-requires
     with-analysis-requires
-    same-length-2
     same-length-3
+    same-length-4
+    same-length-5
     returns-2)

@@ -9,8 +9,8 @@ use Rattle.calls.proofs.load_last.Tie as tie
 -- fewer bytes than were saved are all taken
 returns : tie.Need-returns
 returns c =
-    let d = c .before .before .before .before .before .before in
-    let a = d .before .before .before .before .before .before .before .before .before .args in
+    let d = c .before .before .before .before .before .before .before .before .before .before in
+    let a = d .before .before .before .before .before .before .before .before .before .before .before .before .before .args in
     rw (take-all (a .saved) (a .image .now) (omega arith)) (d .load .ensures)
 
 slice-aggregate-load : tie.Need-slice-aggregate-load
@@ -24,9 +24,13 @@ load-last-spec =
     (λ c. search needs)
     (λ c. search needs)
     (λ c. search needs)
+    (λ c. search needs)
+    (λ c. search needs)
     returns
     slice-aggregate-load
     (λ c κs. search needs)
+    (λ c. search needs)
+    (λ c. search needs)
     (λ c. search needs)
     (λ c. search needs)
     (λ c. search needs)

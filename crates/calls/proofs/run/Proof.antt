@@ -1,5 +1,7 @@
 -- `calls::run`: each kind by its call. Assumes nothing.
-use mathlib.Core.Path.{_≡_, refl}
+use Prim.Native.Nat.{ℕ}
+use mathlib.Core.Path.{_≡_, refl, ap}
+use mathlib.Core.List.{List}
 use mathlib.Core.Bool.{Bool, true, false, not, cond}
 use borrow.Author.Needs.{needs}
 use borrow.Author.Tests.{ne-eqb}
@@ -7,8 +9,13 @@ use Rattle.rules.specs.Collect as Collect
 use Rattle.collect.specs.Call.{kindOf}
 use Rattle.lines.specs.Kinds as kind
 use Rattle.calls.specs.Run as Run
+use Rattle.calls.specs.Run.{Outcome}
 use Rattle.calls.proofs.run.Statement.{statement}
 use Rattle.calls.proofs.run.Tie as tie
+
+-- a test that fails
+unless : (t : Bool) (x y z : Outcome) → t ≡ false → z ≡ y → z ≡ cond t x y
+unless t x y z f e = rw f e
 
 array-read-create : tie.Need-array-read-create
 array-read-create c = search needs
@@ -127,19 +134,15 @@ same-length-2 c = search needs
 same-length-3 : tie.Need-same-length-3
 same-length-3 c = search needs
 
-returns : tie.Need-returns
-unfolding Run.run Run.create
-returns c = rw (c .of-done .ensures, c .before .before .before .before .before .before .before .before .before .before .before .match .keys1, ← c .before .before .before .before .before .before .before .create .ensures) refl
-
 same-length-4 : tie.Need-same-length-4
 same-length-4 c = search needs
 
 same-length-5 : tie.Need-same-length-5
 same-length-5 c = search needs
 
-returns-2 : tie.Need-returns-2
-unfolding Run.run Run.allocate
-returns-2 c = rw (c .of-allocated .ensures, c .before .before .before .before .before .before .before .before .match .keys2, ← c .before .before .before .before .before .allocate .ensures) refl
+returns : tie.Need-returns
+unfolding Run.run Run.create
+returns c = rw (c .of-done .ensures, c .before .before .before .before .before .before .before .before .before .before .before .before .before .before .before .before .before .match .keys1, ← c .before .before .before .before .before .before .before .before .before .before .before .create .ensures) refl
 
 same-length-6 : tie.Need-same-length-6
 same-length-6 c = search needs
@@ -147,9 +150,9 @@ same-length-6 c = search needs
 same-length-7 : tie.Need-same-length-7
 same-length-7 c = search needs
 
-returns-3 : tie.Need-returns-3
-unfolding Run.run Run.read
-returns-3 c = rw (c .of-read .ensures, c .before .before .before .before .match .keys3, ← c .before .read .ensures) refl
+returns-2 : tie.Need-returns-2
+unfolding Run.run Run.allocate
+returns-2 c = rw (c .of-allocated .ensures, c .before .before .before .before .before .before .before .before .match .keys2, ← c .before .before .before .before .before .allocate .ensures) refl
 
 same-length-8 : tie.Need-same-length-8
 same-length-8 c = search needs
@@ -157,9 +160,9 @@ same-length-8 c = search needs
 same-length-9 : tie.Need-same-length-9
 same-length-9 c = search needs
 
-returns-4 : tie.Need-returns-4
-unfolding Run.run Run.show
-returns-4 c = rw (c .of-part .ensures, c .before .before .before .before .match .keys4, ← c .before .show-part .ensures) refl
+returns-3 : tie.Need-returns-3
+unfolding Run.run Run.read
+returns-3 c = rw (c .of-read .ensures, c .before .before .before .before .match .keys3, ← c .before .read .ensures) refl
 
 same-length-10 : tie.Need-same-length-10
 same-length-10 c = search needs
@@ -167,9 +170,9 @@ same-length-10 c = search needs
 same-length-11 : tie.Need-same-length-11
 same-length-11 c = search needs
 
-returns-5 : tie.Need-returns-5
-unfolding Run.run Run.write
-returns-5 c = rw (c .of-done2 .ensures, c .before .before .before .before .before .before .before .before .match .keys5, ← c .before .before .before .before .before .write .ensures) refl
+returns-4 : tie.Need-returns-4
+unfolding Run.run Run.show
+returns-4 c = rw (c .of-part .ensures, c .before .before .before .before .match .keys4, ← c .before .show-part .ensures) refl
 
 same-length-12 : tie.Need-same-length-12
 same-length-12 c = search needs
@@ -177,25 +180,25 @@ same-length-12 c = search needs
 same-length-13 : tie.Need-same-length-13
 same-length-13 c = search needs
 
-returns-6 : tie.Need-returns-6
-unfolding Run.run Run.setRoot
-returns-6 c = rw (c .of-done3 .ensures, c .before .before .before .before .before .before .match .keys6, ← c .before .before .before .set-root .ensures) refl
-
 same-length-14 : tie.Need-same-length-14
 same-length-14 c = search needs
 
 same-length-15 : tie.Need-same-length-15
 same-length-15 c = search needs
 
+returns-5 : tie.Need-returns-5
+unfolding Run.run Run.write
+returns-5 c = rw (c .of-done2 .ensures, c .before .before .before .before .before .before .before .before .before .before .before .before .match .keys5, ← c .before .before .before .before .before .before .before .write .ensures) refl
+
 same-length-16 : tie.Need-same-length-16
 same-length-16 c = search needs
 
-returns-7 : tie.Need-returns-7
-unfolding Run.run Run.declareSink
-returns-7 c = rw (c .of-done4 .ensures, c .before .before .before .before .before .before .before .match .keys7, ← c .before .before .before .declare-sink .ensures) refl
-
 same-length-17 : tie.Need-same-length-17
 same-length-17 c = search needs
+
+returns-6 : tie.Need-returns-6
+unfolding Run.run Run.setRoot
+returns-6 c = rw (c .of-done3 .ensures, c .before .before .before .before .before .before .match .keys6, ← c .before .before .before .set-root .ensures) refl
 
 same-length-18 : tie.Need-same-length-18
 same-length-18 c = search needs
@@ -206,15 +209,15 @@ same-length-19 c = search needs
 same-length-20 : tie.Need-same-length-20
 same-length-20 c = search needs
 
-returns-8 : tie.Need-returns-8
-unfolding Run.run Run.analyse
-returns-8 c = rw (c .of-analysed .ensures, c .before .before .before .before .before .before .before .before .before .before .match .keys8, ← c .before .before .before .before .before .analyse .ensures) refl
-
 same-length-21 : tie.Need-same-length-21
 same-length-21 c = search needs
 
 same-length-22 : tie.Need-same-length-22
 same-length-22 c = search needs
+
+returns-7 : tie.Need-returns-7
+unfolding Run.run Run.declareSink
+returns-7 c = rw (c .of-done4 .ensures, c .before .before .before .before .before .before .before .before .before .before .before .before .before .match .keys7, ← c .before .before .before .before .before .before .before .declare-sink .ensures) refl
 
 same-length-23 : tie.Need-same-length-23
 same-length-23 c = search needs
@@ -225,15 +228,6 @@ same-length-24 c = search needs
 same-length-25 : tie.Need-same-length-25
 same-length-25 c = search needs
 
--- a collection by clusters, unless the number is 0
-way-of : (t : Bool) → kindOf (not t) ≡ cond t Collect.plainly Collect.byClusters
-way-of true = refl
-way-of false = refl
-
-returns-9 : tie.Need-returns-9
-unfolding Run.run Run.collect
-returns-9 c = rw (c .of-collected .ensures, c .before .before .before .before .before .before .before .before .before .before .before .before .before .before .before .match .keys9, ← way-of, ← c .before .before .before .before .before .before .before .before .before .collect .ensures) refl
-
 same-length-26 : tie.Need-same-length-26
 same-length-26 c = search needs
 
@@ -243,12 +237,12 @@ same-length-27 c = search needs
 same-length-28 : tie.Need-same-length-28
 same-length-28 c = search needs
 
+returns-8 : tie.Need-returns-8
+unfolding Run.run Run.analyse
+returns-8 c = rw (c .of-analysed .ensures, c .before .before .before .before .before .before .before .before .before .before .before .before .before .before .match .keys8, ← c .before .before .before .before .before .before .before .analyse .ensures) refl
+
 same-length-29 : tie.Need-same-length-29
 same-length-29 c = search needs
-
-returns-10 : tie.Need-returns-10
-unfolding Run.run Run.save
-returns-10 c = rw (c .of-saved .ensures, c .before .before .before .before .before .before .before .before .match .keys10, ← c .before .before .before .save .ensures) refl
 
 same-length-30 : tie.Need-same-length-30
 same-length-30 c = search needs
@@ -262,13 +256,90 @@ same-length-32 c = search needs
 same-length-33 : tie.Need-same-length-33
 same-length-33 c = search needs
 
+same-length-34 : tie.Need-same-length-34
+same-length-34 c = search needs
+
+same-length-35 : tie.Need-same-length-35
+same-length-35 c = search needs
+
+-- a collection by clusters, unless the number is 0
+way-of : (t : Bool) → kindOf (not t) ≡ cond t Collect.plainly Collect.byClusters
+way-of true = refl
+way-of false = refl
+
+-- the outcome of a collection
+abbrev collected : ℕ → List ℕ → List ℕ → Collect.Outcome → Outcome
+collected saved roots image o =
+    Run.gives (Run.ran (o .answer .refusal) (o .answer .freed) (o .answer .kept) (o .answer .scanned) (o .answer .control) saved)
+    (o .records) (o .slots) roots (o .sinks) (o .sets) (o .work) (o .map) image
+
+returns-9 : tie.Need-returns-9
+unfolding Run.run Run.collect
+returns-9 c =
+    rw (c .of-collected .ensures, c .before .before .before .before .before .before .before .before .before .before .before .before .before .before .before .before .before .before .before .before .before .match .keys9, ← way-of)
+    (ap (collected _ _ _) (c .before .before .before .before .before .before .before .before .before .before .before .before .before .collect .ensures))
+
+same-length-36 : tie.Need-same-length-36
+same-length-36 c = search needs
+
+same-length-37 : tie.Need-same-length-37
+same-length-37 c = search needs
+
+same-length-38 : tie.Need-same-length-38
+same-length-38 c = search needs
+
+same-length-39 : tie.Need-same-length-39
+same-length-39 c = search needs
+
+same-length-40 : tie.Need-same-length-40
+same-length-40 c = search needs
+
+same-length-41 : tie.Need-same-length-41
+same-length-41 c = search needs
+
+returns-10 : tie.Need-returns-10
+unfolding Run.run Run.save
+returns-10 c = rw (c .of-saved .ensures, c .before .before .before .before .before .before .before .before .before .before .match .keys10, ← c .before .before .before .save .ensures) refl
+
+same-length-42 : tie.Need-same-length-42
+same-length-42 c = search needs
+
+same-length-43 : tie.Need-same-length-43
+same-length-43 c = search needs
+
+same-length-44 : tie.Need-same-length-44
+same-length-44 c = search needs
+
+same-length-45 : tie.Need-same-length-45
+same-length-45 c = search needs
+
+same-length-46 : tie.Need-same-length-46
+same-length-46 c = search needs
+
+same-length-47 : tie.Need-same-length-47
+same-length-47 c = search needs
+
 returns-11 : tie.Need-returns-11
 unfolding Run.run Run.load
-returns-11 c = rw (c .of-loaded .ensures, c .before .before .before .before .before .before .before .before .before .before .before .before .match .keys11, ← c .before .before .before .before .before .before .before .load-last .ensures) refl
+returns-11 c = rw (c .of-loaded .ensures, c .before .before .before .before .before .before .before .before .before .before .before .before .before .before .before .before .before .before .match .keys11, ← c .before .before .before .before .before .before .before .before .before .before .before .load-last .ensures) refl
 
 returns-12 : tie.Need-returns-12
 unfolding Run.run Run.idle
-returns-12 c = rw (c .answer .ensures, ne-eqb _ kind.create (c .before .match .rest .0 .0 .0 .0 .0 .0 .0 .0 .0 .0 .1), ne-eqb _ kind.allocate (c .before .match .rest .0 .0 .0 .0 .0 .0 .0 .0 .0 .1), ne-eqb _ kind.read (c .before .match .rest .0 .0 .0 .0 .0 .0 .0 .0 .1), ne-eqb _ kind.show (c .before .match .rest .0 .0 .0 .0 .0 .0 .0 .1), ne-eqb _ kind.write (c .before .match .rest .0 .0 .0 .0 .0 .0 .1), ne-eqb _ kind.root (c .before .match .rest .0 .0 .0 .0 .0 .1), ne-eqb _ kind.sink (c .before .match .rest .0 .0 .0 .0 .1), ne-eqb _ kind.analyse (c .before .match .rest .0 .0 .0 .1), ne-eqb _ kind.collect (c .before .match .rest .0 .0 .1), ne-eqb _ kind.save (c .before .match .rest .0 .1), ne-eqb _ kind.load (c .before .match .rest .1)) refl
+returns-12 c =
+    let r = c .before .match .rest in
+    rw (c .answer .ensures) (
+    unless _ _ _ _ (ne-eqb _ kind.create (r .0 .0 .0 .0 .0 .0 .0 .0 .0 .0 .1)) (
+    unless _ _ _ _ (ne-eqb _ kind.allocate (r .0 .0 .0 .0 .0 .0 .0 .0 .0 .1)) (
+    unless _ _ _ _ (ne-eqb _ kind.read (r .0 .0 .0 .0 .0 .0 .0 .0 .1)) (
+    unless _ _ _ _ (ne-eqb _ kind.show (r .0 .0 .0 .0 .0 .0 .0 .1)) (
+    unless _ _ _ _ (ne-eqb _ kind.write (r .0 .0 .0 .0 .0 .0 .1)) (
+    unless _ _ _ _ (ne-eqb _ kind.root (r .0 .0 .0 .0 .0 .1)) (
+    unless _ _ _ _ (ne-eqb _ kind.sink (r .0 .0 .0 .0 .1)) (
+    unless _ _ _ _ (ne-eqb _ kind.analyse (r .0 .0 .0 .1)) (
+    unless _ _ _ _ (ne-eqb _ kind.collect (r .0 .0 .1)) (
+    unless _ _ _ _ (ne-eqb _ kind.save (r .0 .1)) (
+    unless _ _ _ _ (ne-eqb _ kind.load (r .1)) (
+    refl))))))))))))
 
 pub run-spec : {M : Type 1} → statement M
 run-spec =
@@ -313,45 +384,59 @@ run-spec =
     same-length
     same-length-2
     same-length-3
-    returns
     same-length-4
     same-length-5
-    returns-2
+    returns
     same-length-6
     same-length-7
-    returns-3
+    returns-2
     same-length-8
     same-length-9
-    returns-4
+    returns-3
     same-length-10
     same-length-11
-    returns-5
+    returns-4
     same-length-12
     same-length-13
-    returns-6
     same-length-14
     same-length-15
+    returns-5
     same-length-16
-    returns-7
     same-length-17
+    returns-6
     same-length-18
     same-length-19
     same-length-20
-    returns-8
     same-length-21
     same-length-22
+    returns-7
     same-length-23
     same-length-24
     same-length-25
-    returns-9
     same-length-26
     same-length-27
     same-length-28
+    returns-8
     same-length-29
-    returns-10
     same-length-30
     same-length-31
     same-length-32
     same-length-33
+    same-length-34
+    same-length-35
+    returns-9
+    same-length-36
+    same-length-37
+    same-length-38
+    same-length-39
+    same-length-40
+    same-length-41
+    returns-10
+    same-length-42
+    same-length-43
+    same-length-44
+    same-length-45
+    same-length-46
+    same-length-47
     returns-11
     returns-12)

@@ -20,12 +20,16 @@ same-length-2 c = search needs
 same-length-3 : tie.Need-same-length-3
 same-length-3 c = search needs
 
+same-length-4 : tie.Need-same-length-4
+same-length-4 c = search needs
+
+same-length-5 : tie.Need-same-length-5
+same-length-5 c = search needs
+
 returns : tie.Need-returns
 returns c =
-    let w = c .before .before .before .before .before in
-    let m = w .before .before .before .before in
-    let s = m .before .before .before .before .before .before in
-    refused (s .args .by) _ _ _ _ _ (now (s .args .map)) _ (m .map-len .ensures) _ _ _ (w .walk .ensures) (c .if1 .taken)
+    let s = c .before .before .before .before .before .before .before .before .before .before .before .before .before .before .before .before .before .before .before in
+    refused (s .args .by) _ _ _ _ _ _ _ (now (s .args .map)) _ (c .before .before .before .before .before .before .before .before .before .before .before .map-len .ensures) _ _ _ (c .before .before .before .before .before .walk .ensures) (c .if1 .taken)
 
 count-marked-requires : tie.Need-count-marked-requires
 count-marked-requires c κs = search needs
@@ -39,29 +43,30 @@ count-kept-requires c κs = search needs
 sweep-requires : tie.Need-sweep-requires
 sweep-requires c κs = search needs
 
-same-length-4 : tie.Need-same-length-4
-same-length-4 c = search needs
-
-same-length-5 : tie.Need-same-length-5
-same-length-5 c = search needs
-
 same-length-6 : tie.Need-same-length-6
 same-length-6 c = search needs
 
 same-length-7 : tie.Need-same-length-7
 same-length-7 c = search needs
 
+same-length-8 : tie.Need-same-length-8
+same-length-8 c = search needs
+
+same-length-9 : tie.Need-same-length-9
+same-length-9 c = search needs
+
+same-length-10 : tie.Need-same-length-10
+same-length-10 c = search needs
+
+same-length-11 : tie.Need-same-length-11
+same-length-11 c = search needs
+
 returns-2 : tie.Need-returns-2
 returns-2 c =
-    let k = c .before .before .before .before .before .before .before .before .before .before in
-    let r = k .before .before .before .before in
-    let t = r .before .before in
-    let i = t .before .before in
-    let w = i .before .before .before .before .before in
-    let m = w .before .before .before .before in
-    let s = m .before .before .before .before .before .before in
-    collected (s .args .by) _ _ _ _ _ (now (s .args .map)) _ (m .map-len .ensures) _ _ _ (w .walk .ensures) (i .if1 .left)
-    _ (t .count-marked .ensures) _ (r .mark-reached .ensures) (r .mark-reached .kept .1 .1 .0) _ (k .count-kept .ensures) _ _ _ _ (c .before .before .before .before .before .before .sweep .ensures)
+    let s = c .before .before .before .before .before .before .before .before .before .before .before .before .before .before .before .before .before .before .before .before .before .before .before .before .before .before .before .before .before .before .before .before .before .before .before .before .before .before .before .before .before .before .before in
+    let r = c .before .before .before .before .before .before .before .before .before .before .before .before .before .before .before .before .before .before .before .before .mark-reached in
+    collected (s .args .by) _ _ _ _ _ _ _ (now (s .args .map)) _ (c .before .before .before .before .before .before .before .before .before .before .before .before .before .before .before .before .before .before .before .before .before .before .before .before .before .before .before .before .before .before .before .before .before .before .before .map-len .ensures) _ _ _ (c .before .before .before .before .before .before .before .before .before .before .before .before .before .before .before .before .before .before .before .before .before .before .before .before .before .before .before .before .before .walk .ensures) (c .before .before .before .before .before .before .before .before .before .before .before .before .before .before .before .before .before .before .before .before .before .before .before .before .if1 .left)
+    _ (c .before .before .before .before .before .before .before .before .before .before .before .before .before .before .before .before .before .before .before .before .before .before .count-marked .ensures) _ (r .ensures) (r .kept .1 .1 .0) _ (c .before .before .before .before .before .before .before .before .before .before .before .before .before .before .before .before .count-kept .ensures) _ _ _ _ _ _ (c .before .before .before .before .before .before .before .before .before .before .sweep .ensures)
 
 pub collect-spec : {M : Type 1} → statement M
 collect-spec =
@@ -72,13 +77,17 @@ collect-spec =
     same-length
     same-length-2
     same-length-3
+    same-length-4
+    same-length-5
     returns
     count-marked-requires
     mark-reached-requires
     count-kept-requires
     sweep-requires
-    same-length-4
-    same-length-5
     same-length-6
     same-length-7
+    same-length-8
+    same-length-9
+    same-length-10
+    same-length-11
     returns-2)

@@ -12,7 +12,7 @@ new-control-requires : tie.Need-new-control-requires
 new-control-requires c κs = search needs
 
 returns : tie.Need-returns
-returns c = image-refused _ _ _ _ _ (c .before .before .image-refusal .ensures) (c .before .if1 .taken) _ (c .new-control .ensures)
+returns c = image-refused _ _ _ _ _ _ _ (c .before .before .image-refusal .ensures) (c .before .if1 .taken) _ (c .new-control .ensures)
 
 get2-requires : tie.Need-get2-requires
 get2-requires c κs = search needs
@@ -35,11 +35,17 @@ same-length-2 c = search needs
 same-length-3 : tie.Need-same-length-3
 same-length-3 c = search needs
 
+same-length-4 : tie.Need-same-length-4
+same-length-4 c = search needs
+
+same-length-5 : tie.Need-same-length-5
+same-length-5 c = search needs
+
 returns-2 : tie.Need-returns-2
-returns-2 c = too-short _ _ _ _ (sym (c .before .before .before .before .before .before .before .before .before .image-refusal .ensures) ∙ c .before .before .before .before .before .before .before .before .if1 .left) _ _ (c .before .before .before .before .before .before .before .get2 .ensures) (c .before .before .before .before .before .before .get22 .ensures) (sym (c .before .before .short-heap .ensures) ∙ c .before .if2 .taken) _ (c .new-control2 .ensures)
+returns-2 c = too-short _ _ _ _ _ _ (sym (c .before .before .before .before .before .before .before .before .before .before .before .image-refusal .ensures) ∙ c .before .before .before .before .before .before .before .before .before .before .if1 .left) _ _ (c .before .before .before .before .before .before .before .before .before .get2 .ensures) (c .before .before .before .before .before .before .before .before .get22 .ensures) (sym (c .before .before .short-heap .ensures) ∙ c .before .if2 .taken) _ (c .new-control2 .ensures)
 
 lay-requires : tie.Need-lay-requires
-lay-requires c κs = accepted _ _ _ _ (sym (c .before .before .before .before .before .before .before .before .before .before .before .image-refusal .ensures) ∙ c .before .before .before .before .before .before .before .before .before .before .if1 .left) _ _ (c .before .before .before .before .before .before .before .before .before .get2 .ensures) (c .before .before .before .before .before .before .before .before .get22 .ensures) (sym (c .before .before .before .before .short-heap .ensures) ∙ c .before .before .before .if2 .left)
+lay-requires c κs = accepted _ _ _ _ _ _ (sym (c .before .before .before .before .before .before .before .before .before .before .before .before .before .before .before .image-refusal .ensures) ∙ c .before .before .before .before .before .before .before .before .before .before .before .before .before .before .if1 .left) _ _ (c .before .before .before .before .before .before .before .before .before .before .before .before .before .get2 .ensures) (c .before .before .before .before .before .before .before .before .before .before .before .before .get22 .ensures) (sym (c .before .before .before .before .before .before .short-heap .ensures) ∙ c .before .before .before .before .before .if2 .left)
 
 new-control-requires-3 : tie.Need-new-control-requires-3
 new-control-requires-3 c κs = search needs
@@ -50,20 +56,26 @@ get2-requires-3 c κs = search needs
 with-last-requires : tie.Need-with-last-requires
 with-last-requires c κs = search needs
 
-same-length-4 : tie.Need-same-length-4
-same-length-4 c = search needs
-
-same-length-5 : tie.Need-same-length-5
-same-length-5 c = search needs
-
 same-length-6 : tie.Need-same-length-6
 same-length-6 c = search needs
 
+same-length-7 : tie.Need-same-length-7
+same-length-7 c = search needs
+
+same-length-8 : tie.Need-same-length-8
+same-length-8 c = search needs
+
+same-length-9 : tie.Need-same-length-9
+same-length-9 c = search needs
+
+same-length-10 : tie.Need-same-length-10
+same-length-10 c = search needs
+
 returns-3 : tie.Need-returns-3
 returns-3 c =
-    let l = c .before .before .before .before .before .before .before .before .before .lay .ensures in
-    loaded _ _ _ _ (sym (c .before .before .before .before .before .before .before .before .before .before .before .before .before .before .before .before .before .before .before .before .before .image-refusal .ensures) ∙ c .before .before .before .before .before .before .before .before .before .before .before .before .before .before .before .before .before .before .before .before .if1 .left) _ _ (c .before .before .before .before .before .before .before .before .before .before .before .before .before .before .before .before .before .before .before .get2 .ensures) (c .before .before .before .before .before .before .before .before .before .before .before .before .before .before .before .before .before .before .get22 .ensures) (sym (c .before .before .before .before .before .before .before .before .before .before .before .before .before .before .short-heap .ensures) ∙ c .before .before .before .before .before .before .before .before .before .before .before .before .before .if2 .left) _ _ _ _ _ _
-    (c .before .before .new-control3 .ensures) (c .before .get23 .ensures) (c .with-last .ensures) (l .0) (l .1 .0) (l .1 .1)
+    let l = c .before .before .before .before .before .before .before .before .before .before .before .before .before .lay .ensures in
+    loaded _ _ _ _ _ _ (sym (c .before .before .before .before .before .before .before .before .before .before .before .before .before .before .before .before .before .before .before .before .before .before .before .before .before .before .before .before .before .image-refusal .ensures) ∙ c .before .before .before .before .before .before .before .before .before .before .before .before .before .before .before .before .before .before .before .before .before .before .before .before .before .before .before .before .if1 .left) _ _ (c .before .before .before .before .before .before .before .before .before .before .before .before .before .before .before .before .before .before .before .before .before .before .before .before .before .before .before .get2 .ensures) (c .before .before .before .before .before .before .before .before .before .before .before .before .before .before .before .before .before .before .before .before .before .before .before .before .before .before .get22 .ensures) (sym (c .before .before .before .before .before .before .before .before .before .before .before .before .before .before .before .before .before .before .before .before .short-heap .ensures) ∙ c .before .before .before .before .before .before .before .before .before .before .before .before .before .before .before .before .before .before .before .if2 .left) _ _ _ _ _ _ _ _
+    (c .before .before .new-control3 .ensures) (c .before .get23 .ensures) (c .with-last .ensures) (l .0) (l .1 .0) (l .1 .1 .0) (l .1 .1 .1 .0) (l .1 .1 .1 .1)
 
 pub load-spec : {M : Type 1} → statement M
 load-spec =
@@ -79,12 +91,16 @@ load-spec =
     same-length
     same-length-2
     same-length-3
+    same-length-4
+    same-length-5
     returns-2
     lay-requires
     new-control-requires-3
     get2-requires-3
     with-last-requires
-    same-length-4
-    same-length-5
     same-length-6
+    same-length-7
+    same-length-8
+    same-length-9
+    same-length-10
     returns-3)

@@ -5,10 +5,10 @@ use Rattle.replay.proofs.play.Statement.{statement}
 use Rattle.replay.proofs.play.Tie as tie
 
 abbrev Inv-loop : tie.InvT-loop
-Inv-loop page₀ input₀ hands₀ records₀ slots₀ roots₀ work₀ map₀ images₀ b₀ turns₀ page input hands records slots roots work map images b turns = Unit {0}
+Inv-loop page₀ input₀ hands₀ records₀ slots₀ roots₀ sinks₀ sets₀ work₀ map₀ images₀ b₀ turns₀ page input hands records slots roots sinks sets work map images b turns = Unit {0}
 
 abbrev μ-loop : tie.MeasureT-loop
-μ-loop page₀ input₀ hands₀ records₀ slots₀ roots₀ work₀ map₀ images₀ b₀ turns₀ page input hands records slots roots work map images b turns = turns
+μ-loop page₀ input₀ hands₀ records₀ slots₀ roots₀ sinks₀ sets₀ work₀ map₀ images₀ b₀ turns₀ page input hands records slots roots sinks sets work map images b turns = turns
 
 sub-turns : tie.Need-sub-turns Inv-loop μ-loop
 sub-turns c = omega (arith, c .before .before .before .before .loop-test .taken)

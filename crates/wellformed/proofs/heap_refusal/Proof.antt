@@ -9,7 +9,7 @@ bad-control-requires : tie.Need-bad-control-requires
 bad-control-requires c κs = search needs
 
 returns : tie.Need-returns
-returns c = bad-control _ _ _ _ _ (sym (c .before .bad-control .ensures) ∙ c .if1 .taken)
+returns c = bad-control _ _ _ _ _ _ _ (sym (c .before .bad-control .ensures) ∙ c .if1 .taken)
 
 short-heap-requires : tie.Need-short-heap-requires
 short-heap-requires c κs = search needs
@@ -17,7 +17,7 @@ short-heap-requires c κs = search needs
 returns-2 : tie.Need-returns-2
 returns-2 c =
     let e = c .before .before in
-    few-words _ _ _ _ _ (sym (e .before .bad-control .ensures) ∙ e .if1 .left) _ (c .before .short-heap .ensures) (c .if2 .taken)
+    few-words _ _ _ _ _ _ _ (sym (e .before .bad-control .ensures) ∙ e .if1 .left) _ (c .before .short-heap .ensures) (c .if2 .taken)
 
 well-formed-requires : tie.Need-well-formed-requires
 well-formed-requires c κs = search needs
@@ -26,13 +26,13 @@ returns-3 : tie.Need-returns-3
 returns-3 c =
     let h = c .before .before in
     let e = h .before .before in
-    is-sound _ _ _ _ _ (sym (e .before .bad-control .ensures) ∙ e .if1 .left) _ (h .before .short-heap .ensures) (h .if2 .left) _ (c .before .well-formed .ensures) (c .if3 .taken)
+    is-sound _ _ _ _ _ _ _ (sym (e .before .bad-control .ensures) ∙ e .if1 .left) _ (h .before .short-heap .ensures) (h .if2 .left) _ (c .before .well-formed .ensures) (c .if3 .taken)
 
 returns-4 : tie.Need-returns-4
 returns-4 c =
     let h = c .before .before in
     let e = h .before .before in
-    is-damaged _ _ _ _ _ (sym (e .before .bad-control .ensures) ∙ e .if1 .left) _ (h .before .short-heap .ensures) (h .if2 .left) _ (c .before .well-formed .ensures) (c .if3 .left)
+    is-damaged _ _ _ _ _ _ _ (sym (e .before .bad-control .ensures) ∙ e .if1 .left) _ (h .before .short-heap .ensures) (h .if2 .left) _ (c .before .well-formed .ensures) (c .if3 .left)
 
 pub heap-refusal-spec : {M : Type 1} → statement M
 heap-refusal-spec =

@@ -1,8 +1,9 @@
 -- `form` meets its contract. Assumes nothing.
 use mathlib.Core.Path.{_∙_}
+use mathlib.Core.List.{[]}
 use native.Mathlib.Omega.{arith}
 use Rattle.analyse.proofs.PartLaws.{links-filled}
-use Rattle.analyse.proofs.StartLaws.{prepared, roots-fit, all-starts}
+use Rattle.analyse.proofs.StartLaws.{prepared}
 use borrow.Author.Needs.{needs}
 use Rattle.analyse.proofs.form.form.Statement.{statement}
 use Rattle.analyse.proofs.form.form.Tie as tie
@@ -10,8 +11,14 @@ use Rattle.analyse.proofs.form.form.Tie as tie
 mul-a : tie.Need-mul-a
 mul-a c = omega arith
 
+add-a : tie.Need-add-a
+add-a c = omega arith
+
 mul-b : tie.Need-mul-b
 mul-b c = omega arith
+
+add-b : tie.Need-add-b
+add-b c = omega arith
 
 mul-link : tie.Need-mul-link
 mul-link c = omega arith
@@ -23,46 +30,45 @@ part-link-start : tie.Need-part-link-start
 part-link-start c = omega arith
 
 part-link-end : tie.Need-part-link-end
-part-link-end c = omega (arith, c .before .before .before .before .pre .0 .sized .work-long)
+part-link-end c = omega (arith, c .before .before .before .before .before .before .pre .0 .sized .work-long)
 
 link-requires : tie.Need-link-requires
 link-requires c κs = search needs
 
 put-states-requires : tie.Need-put-states-requires
 put-states-requires c κs =
-    let z = c .before .before .before .before .before .before .before .before .before .pre .0 .sized in
+    let z = c .before .before .before .before .before .before .before .before .before .before .before .pre .0 .sized in
     let l = links-filled _ _ _ _ (z .room .most) (z .room .recs-long) (z .work-long) (c .before .before .before .link .kept .1 .1 .1 .0) (c .before .before .before .link .ensures) in
     (z .room .recs-long, omega (arith, l .long, z .work-long), z .room .most)
 
 from-roots-requires : tie.Need-from-roots-requires
 from-roots-requires c κs =
-    let o = c .before .before .before .before .before .before .before .before .before .before .before .before .before in
-    let z = o .pre .0 .sized in
+    let s = c .before .before .before .before .before .before .before .before .before .before .before .before .before .before .before .pre in
+    let z = s .0 .sized in
     let l = links-filled _ _ _ _ (z .room .most) (z .room .recs-long) (z .work-long) (c .before .before .before .before .before .before .before .link .kept .1 .1 .1 .0) (c .before .before .before .before .before .before .before .link .ensures) in
-    (prepared _ _ _ _ _ _ _ _ (o .pre .0) l (c .before .before .before .put-states .ensures) .walked .walking, o .pre .1, roots-fit _ (o .args .r) _ _ (o .args .roots .now) (o .pre .0 .fit))
-
-from-sinks-requires : tie.Need-from-sinks-requires
-from-sinks-requires c κs = c .before .before .before .from-roots .ensures .walking
+    (prepared _ _ _ _ _ _ _ _ _ _ (s .0) l (c .before .before .before .put-states .ensures) .walked .walking, s .1, s .0 .fit)
 
 same-length : tie.Need-same-length
 same-length c =
-    let z = c .before .before .before .before .before .before .before .before .before .before .before .before .before .before .before .before .before .before .before .before .pre .0 .sized in
-    let l = links-filled _ _ _ _ (z .room .most) (z .room .recs-long) (z .work-long) (c .before .before .before .before .before .before .before .before .before .before .before .before .before .before .link .kept .1 .1 .1 .0) (c .before .before .before .before .before .before .before .before .before .before .before .before .before .before .link .ensures) in
-    c .before .before .from-sinks .kept .1 .1 .1 .1 .0 ∙ c .before .before .before .before .before .before .from-roots .kept .1 .1 .1 .1 .1 .1 .0 ∙ c .before .before .before .before .before .before .before .before .before .before .put-states .ensures .long ∙ l .long
+    let z = c .before .before .before .before .before .before .before .before .before .before .before .before .before .before .before .before .before .before .pre .0 .sized in
+    let l = links-filled _ _ _ _ (z .room .most) (z .room .recs-long) (z .work-long) (c .before .before .before .before .before .before .before .before .before .before .link .kept .1 .1 .1 .0) (c .before .before .before .before .before .before .before .before .before .before .link .ensures) in
+    c .before .before .from-roots .kept .1 .1 .1 .1 .1 .1 .1 .1 .0 ∙ c .before .before .before .before .before .before .put-states .ensures .long ∙ l .long
 
 returns : tie.Need-returns
 returns c =
-    let o = c .before .before .before .before .before .before .before .before .before .before .before .before .before .before .before .before .before .before .before .before in
-    let z = o .pre .0 .sized in
-    let l = links-filled _ _ _ _ (z .room .most) (z .room .recs-long) (z .work-long) (c .before .before .before .before .before .before .before .before .before .before .before .before .before .before .link .kept .1 .1 .1 .0) (c .before .before .before .before .before .before .before .before .before .before .before .before .before .before .link .ensures) in
-    all-starts _ _ _ _ (o .args .r) _ _ _ _ (c .before .before .before .before .before .before .from-roots .ensures) (c .before .before .from-sinks .ensures) (prepared _ _ _ _ _ _ _ _ (o .pre .0) l (c .before .before .before .before .before .before .before .before .before .before .put-states .ensures))
+    let s = c .before .before .before .before .before .before .before .before .before .before .before .before .before .before .before .before .before .before .pre in
+    let z = s .0 .sized in
+    let l = links-filled _ _ _ _ (z .room .most) (z .room .recs-long) (z .work-long) (c .before .before .before .before .before .before .before .before .before .before .link .kept .1 .1 .1 .0) (c .before .before .before .before .before .before .before .before .before .before .link .ensures) in
+    c .before .before .from-roots .ensures .after [] (prepared _ _ _ _ _ _ _ _ _ _ (s .0) l (c .before .before .before .before .before .before .put-states .ensures))
 
 pub form-spec : {M : Type 1} → statement M
 form-spec =
     tie.close
     (tie.spec
     mul-a
+    add-a
     mul-b
+    add-b
     mul-link
     sub-link
     part-link-start
@@ -70,6 +76,5 @@ form-spec =
     link-requires
     put-states-requires
     from-roots-requires
-    from-sinks-requires
     same-length
     returns)

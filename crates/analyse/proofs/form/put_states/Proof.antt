@@ -37,9 +37,6 @@ cast-i c = omega arith
 add-i : tie.Need-add-i Inv-loop μ-loop
 add-i c = omega arith
 
-sub-i : tie.Need-sub-i Inv-loop μ-loop
-sub-i c = omega arith
-
 mul-work : tie.Need-mul-work Inv-loop μ-loop
 mul-work c = omega arith
 
@@ -75,7 +72,6 @@ put-states-spec =
     mul-i
     cast-i
     add-i
-    sub-i
     mul-work
     slice-write-work
     loop-less

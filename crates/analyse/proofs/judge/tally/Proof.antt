@@ -14,6 +14,9 @@ Inv-loop n records slots work₀ k₀ work k = Counting n records slots work₀ 
 abbrev μ-loop : tie.MeasureT-loop
 μ-loop n records slots work₀ k₀ work k = n - k
 
+add-zero : tie.Need-add-zero Inv-loop μ-loop
+add-zero c = omega arith
+
 zero-requires : tie.Need-zero-requires Inv-loop μ-loop
 zero-requires c κs = search needs
 
@@ -34,9 +37,6 @@ cast-c c = omega arith
 add-c : tie.Need-add-c Inv-loop μ-loop
 add-c c = omega arith
 
-sub-c : tie.Need-sub-c Inv-loop μ-loop
-sub-c c = omega arith
-
 mul-c-2 : tie.Need-mul-c-2 Inv-loop μ-loop
 mul-c-2 c = omega arith
 
@@ -48,9 +48,6 @@ outs-requires c κs = count-asks _ _ _ _ _ _ (c .before .before .before .before 
 
 cast-i : tie.Need-cast-i Inv-loop μ-loop
 cast-i c = omega arith
-
-sub-i : tie.Need-sub-i Inv-loop μ-loop
-sub-i c = omega (arith, c .before .before .if1 .taken)
 
 mul-work : tie.Need-mul-work Inv-loop μ-loop
 mul-work c = omega arith
@@ -93,18 +90,17 @@ tally-spec =
     (tie.spec
     Inv-loop
     μ-loop
+    add-zero
     zero-requires
     loop-holds
     add-k
     mul-c
     cast-c
     add-c
-    sub-c
     mul-c-2
     slice-read-c
     outs-requires
     cast-i
-    sub-i
     mul-work
     slice-read-work
     add-work

@@ -7,9 +7,6 @@ use Rattle.analyse.proofs.memory.word_of.Tie as tie
 add-result : tie.Need-add-result
 add-result c = search needs
 
-sub-result : tie.Need-sub-result
-sub-result c = search needs
-
 mul-result : tie.Need-mul-result
 mul-result c = search needs
 
@@ -21,4 +18,4 @@ returns c = area-read _ _ _ _ (c .before .pre .0) (c .before .pre .1)
 
 pub word-of-spec : {M : Type 1} → statement M
 word-of-spec =
-    tie.close (tie.spec add-result sub-result mul-result shared-slice-read-result returns)
+    tie.close (tie.spec add-result mul-result shared-slice-read-result returns)

@@ -11,9 +11,6 @@ mul-i c = omega arith
 add-i : tie.Need-add-i
 add-i c = omega arith
 
-sub-i : tie.Need-sub-i
-sub-i c = omega arith
-
 mul-work : tie.Need-mul-work
 mul-work c = omega arith
 
@@ -44,7 +41,6 @@ count-spec =
     (tie.spec
     mul-i
     add-i
-    sub-i
     mul-work
     slice-read-work
     add-work

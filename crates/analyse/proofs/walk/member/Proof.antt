@@ -1,5 +1,5 @@
 -- `member` meets its contract. Assumes nothing.
-use Prim.Native.Nat.{_+_, _-_, _*_}
+use Prim.Native.Nat.{_+_, _*_}
 use native.Mathlib.Omega.{arith}
 use mathlib.Core.Path.{refl, ap, _∙_}
 use lib.ListN.{length-set}
@@ -15,9 +15,6 @@ mul-i c = omega arith
 
 add-i : tie.Need-add-i
 add-i c = omega arith
-
-sub-i : tie.Need-sub-i
-sub-i c = omega (arith, c .before .before .before .pre .1 .0)
 
 add-work : tie.Need-add-work
 add-work c = search needs
@@ -38,12 +35,12 @@ push-kids-requires : tie.Need-push-kids-requires
 push-kids-requires c κs =
     let o = c .before .before .before .before .before .before .before in
     let s = o .pre in
-    (resized (s .0) (length-set (o .args .work .now) (9 * o .args .n + o .args .x - 1) (o .args .d + 4096)), (s .1 .0, s .1 .1, omega arith, s .1 .3, member-room _ _ _ _ (s .0) _ (s .1 .0) (s .1 .1) (o .args .d) _ _ (c .before .before .is-out .ensures ∙ ap isOut (c .before .before .before .record-at .ensures)) (c .before .if1 .taken) (s .1 .4)))
+    (resized (s .0) (length-set (o .args .work .now) (9 * o .args .n + o .args .x) (o .args .d + 4096)), (s .1 .0, s .1 .1, omega arith, s .1 .3, member-room _ _ _ _ (s .0) _ (s .1 .0) (s .1 .1) (o .args .d) _ _ (c .before .before .is-out .ensures ∙ ap isOut (c .before .before .before .record-at .ensures)) (c .before .if1 .taken) (s .1 .4)))
 
 same-length : tie.Need-same-length
 same-length c =
     let a = c .before .before .before .before .before .before .before .before .before .before .args in
-    c .before .before .push-kids .kept .1 .1 .1 .0 ∙ length-set (a .work .now) (9 * a .n + a .x - 1) (a .d + 4096)
+    c .before .before .push-kids .kept .1 .1 .1 .0 ∙ length-set (a .work .now) (9 * a .n + a .x) (a .d + 4096)
 
 returns : tie.Need-returns
 returns c =
@@ -64,7 +61,6 @@ member-spec =
     (tie.spec
     mul-i
     add-i
-    sub-i
     add-work
     mul-work
     slice-write-work

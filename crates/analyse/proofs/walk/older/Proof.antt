@@ -65,7 +65,7 @@ same-length c = c .before .loop .inv .0 .long
 returns : tie.Need-returns Inv-loop μ-loop
 returns c =
     let s = c .before .before .before .before .before .before .before .before .pre in
-    older-end _ _ _ _ _ _ (s .1 .0 .0) (s .0) (s .1 .1) _ _ _ (c .before .loop .inv) (c .loop-test .left) (s .1 .0 .2)
+    older-end _ _ _ _ _ _ (s .1 .0 .0) (s .0) (s .1 .1) _ _ _ (c .before .loop .inv) (c .loop-test .left)
 
 pub older-spec : {M : Type 1} → statement M
 older-spec =

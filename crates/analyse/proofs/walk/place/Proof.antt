@@ -1,5 +1,5 @@
 -- `place` meets its contract. Assumes nothing.
-use Prim.Native.Nat.{_+_, _-_, _*_}
+use Prim.Native.Nat.{_+_, _*_}
 use native.Mathlib.Omega.{arith}
 use mathlib.Core.Path.{refl, _∙_}
 use lib.ListN.{length-set}
@@ -25,9 +25,6 @@ mul-i c = omega arith
 add-i : tie.Need-add-i
 add-i c = omega arith
 
-sub-i : tie.Need-sub-i
-sub-i c = omega (arith, c .before .before .before .before .before .before .before .before .before .before .pre .1 .0 .0)
-
 add-work : tie.Need-add-work
 add-work c = let s = c .before .before .before .before .before .before .before .before .before .before .pre in record { fits = omega (arith, s .0 .room .most, place-fits _ _ _ _ _ _ (s .1 .0 .1) _ (c .before .before .before .before .before .record-at .ensures) _ (c .before .before .before .before .choose .ensures) (s .1 .0 .2)) }
 
@@ -42,19 +39,19 @@ push-kids-requires c κs =
     let a = c .before .before .before .before .before .before .before .before .before .before .before .args in
     let s = c .before .before .before .before .before .before .before .before .before .before .before .pre in
     let t = c .before .before .before .count in
-    (resized (s .0) (length-set (t .last .1 .0) (9 * a .n + a .o - 1) (c .before .before .before .before .before .choose .result + 4096) ∙ t .kept .1 .0), (s .1 .0 .0, s .1 .0 .1, place-fits _ _ _ _ _ _ (s .1 .0 .1) _ (c .before .before .before .before .before .before .record-at .ensures) _ (c .before .before .before .before .before .choose .ensures) (s .1 .0 .2), s .1 .0 .3, s .1 .0 .4))
+    (resized (s .0) (length-set (t .last .1 .0) (9 * a .n + a .o) (c .before .before .before .before .before .choose .result + 4096) ∙ t .kept .1 .0), (s .1 .0 .0, s .1 .0 .1, place-fits _ _ _ _ _ _ (s .1 .0 .1) _ (c .before .before .before .before .before .before .record-at .ensures) _ (c .before .before .before .before .before .choose .ensures) (s .1 .0 .2), s .1 .0 .3, s .1 .0 .4))
 
 same-length : tie.Need-same-length
 same-length c =
     let a = c .before .before .before .before .before .before .before .before .before .before .before .before .before .before .args in
     let t = c .before .before .before .before .before .before .count in
-    c .before .before .push-kids .kept .1 .1 .1 .0 ∙ length-set (t .last .1 .0) (9 * a .n + a .o - 1) (c .before .before .before .before .before .before .before .before .choose .result + 4096) ∙ t .kept .1 .0
+    c .before .before .push-kids .kept .1 .1 .1 .0 ∙ length-set (t .last .1 .0) (9 * a .n + a .o) (c .before .before .before .before .before .before .before .before .choose .result + 4096) ∙ t .kept .1 .0
 
 returns : tie.Need-returns
 returns c =
     let t = c .before .before .before .before .before .before in
     let s = t .before .before .before .before .before .before .before .before .pre in
-    place-done _ _ _ _ _ _ (s .1 .0 .1) _ (t .before .before .before .record-at .ensures) _ (t .before .before .choose .ensures) _ (s .0) (s .1 .0 .0) _ _ _ _ _ (t .count .kept .1 .0) (t .count .ensures) refl (c .before .before .push-kids .ensures .0) (c .before .before .push-kids .ensures .1) (s .1 .0 .3)
+    place-done _ _ _ _ _ _ (s .1 .0 .1) _ (t .before .before .before .record-at .ensures) _ (t .before .before .choose .ensures) _ (s .0) (s .1 .0 .0) _ _ _ _ _ (t .count .kept .1 .0) (t .count .ensures) refl (c .before .before .push-kids .ensures .0) (c .before .before .push-kids .ensures .1)
 
 pub place-spec : {M : Type 1} → statement M
 place-spec =
@@ -65,7 +62,6 @@ place-spec =
     count-requires
     mul-i
     add-i
-    sub-i
     add-work
     mul-work
     slice-write-work

@@ -16,7 +16,7 @@ abbrev μ-loop : tie.MeasureT-loop
 link-of-requires : tie.Need-link-of-requires Inv-loop μ-loop
 link-of-requires c κs =
     let s = c .before .before .before .before in
-    (s .pre .1, omega (arith, s .pre .0 .state .sized .work-long))
+    (s .pre .1 .1, omega (arith, s .pre .0 .sized .work-long))
 
 top-member-requires : tie.Need-top-member-requires Inv-loop μ-loop
 top-member-requires c κs = search needs
@@ -24,19 +24,19 @@ top-member-requires c κs = search needs
 loop-holds : tie.Need-loop-holds Inv-loop μ-loop
 loop-holds c =
     let s = c .before .before .before .before .before .before in
-    sweeping-here _ _ _ _ _ _ (s .pre .0) (s .pre .1) _ (c .top-member .ensures ∙ ap (λ (y : ℕ). y / 4096 % 4096) (c .before .link-of .ensures))
+    sweeping-here _ _ _ _ _ _ (s .pre .0) (s .pre .1 .0) (s .pre .1 .1) _ (c .top-member .ensures ∙ ap (λ (y : ℕ). y / 4096 % 4096) (c .before .link-of .ensures))
 
 scan-unmarked-requires : tie.Need-scan-unmarked-requires Inv-loop μ-loop
 scan-unmarked-requires c κs =
     let l = c .before .before .before .loop in
-    let g = l .inv in (g .ready .state, (omega arith, g .within))
+    let g = l .inv in (g .state, (omega arith, g .within))
 
 link-of-requires-2 : tie.Need-link-of-requires-2 Inv-loop μ-loop
 link-of-requires-2 c κs =
     let l = c .before .before .before .before .before .before .before .before .before .loop in
     let scan-unmarked-call = c .before .before .before .before .before .scan-unmarked in
     let g = l .inv in
-    ((omega arith, g .within), omega (arith, g .ready .state .sized .work-long, scan-unmarked-call .kept .1 .1 .1 .0))
+    ((omega arith, g .within), omega (arith, g .state .sized .work-long, scan-unmarked-call .kept .1 .1 .1 .0))
 
 next-member-requires : tie.Need-next-member-requires Inv-loop μ-loop
 next-member-requires c κs = search needs
@@ -46,7 +46,7 @@ loop-less c =
     let s = c .before .before .before .before .before .before .before .before .before .before .before .before .before .before .before .before .before .before in
     let l = c .before .before .before .before .before .before .before .before .before .before .before .loop in
     let scan-unmarked-call = c .before .before .before .before .before .before .before .scan-unmarked in
-    sweeping-less _ _ _ _ _ _ (s .pre .0) (s .pre .1) _ _ _ _ (l .inv) (omega arith) _ _ _ _ (scan-unmarked-call .ensures)
+    sweeping-less _ _ _ _ _ _ (s .pre .0) (s .pre .1 .0) (s .pre .1 .1) _ _ _ _ (l .inv) (omega arith) _ _ _ _ (scan-unmarked-call .ensures)
     (c .next-member .ensures ∙ ap (λ (y : ℕ). y % 4096) (c .before .link-of2 .ensures))
 
 loop-again : tie.Need-loop-again Inv-loop μ-loop
@@ -55,7 +55,7 @@ loop-again c =
     let s = c .before .before .before .before .before .before .before .before .before .before .before .before .before .before .before .before .before .before in
     let l = c .before .before .before .before .before .before .before .before .before .before .before .loop in
     let k = scan-unmarked-call .kept in
-    sweeping-on _ _ _ _ _ _ (s .pre .0) (s .pre .1) _ _ _ _ (l .inv) (omega arith) _ _ _ _ (scan-unmarked-call .ensures)
+    sweeping-on _ _ _ _ _ _ (s .pre .0) (s .pre .1 .0) (s .pre .1 .1) _ _ _ _ (l .inv) (omega arith) _ _ _ _ (scan-unmarked-call .ensures)
     (c .next-member .ensures ∙ ap (λ (y : ℕ). y % 4096) (c .before .link-of2 .ensures)) (k .1 .0) (k .1 .1 .1 .0)
 
 same-length : tie.Need-same-length Inv-loop μ-loop
@@ -67,7 +67,7 @@ same-length-2 c = c .before .loop .inv .work-length
 returns : tie.Need-returns Inv-loop μ-loop
 returns c =
     let s = c .before .before .before .before .before .before .before .before in
-    sweeping-done _ _ _ _ _ _ (s .pre .0) (s .pre .1) _ _ _ _ (c .before .loop .inv) (c .loop-test .left)
+    sweeping-done _ _ _ _ _ _ (s .pre .0) (s .pre .1 .0) (s .pre .1 .1) _ _ _ _ (c .before .loop .inv) (c .loop-test .left)
 
 pub scan-outs-spec : {M : Type 1} → statement M
 scan-outs-spec =

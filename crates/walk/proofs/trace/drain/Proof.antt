@@ -1,24 +1,24 @@
 -- `drain` meets its contract. The loop's invariant, `Draining`: from here on the walk ends as it does from the start of the loop.
-use Rattle.walk.specs.State.{pending, stepsFrom}
+use Rattle.walk.specs.State.{way, pending, stepsFrom}
 use Rattle.walk.proofs.EndLaws.{Draining, draining-here, next-object, ready-pop, draining-less, draining-on, drained}
 use native.Mathlib.Omega.{arith}
 use Rattle.walk.proofs.trace.drain.Statement.{statement}
 use Rattle.walk.proofs.trace.drain.Tie as tie
 
 abbrev Inv-loop : tie.InvT-loop
-Inv-loop by n records₀ slots work₀ top end at₀ records work at = Draining by n slots records₀ work₀ top records work at
+Inv-loop by n records₀ slots sinks sets work₀ top end at₀ records work at = Draining (way by sinks sets) n slots records₀ work₀ top records work at
 
 abbrev μ-loop : tie.MeasureT-loop
-μ-loop by n records₀ slots work₀ top end at₀ records work at = stepsFrom by n slots records (pending n work at)
+μ-loop by n records₀ slots sinks sets work₀ top end at₀ records work at = stepsFrom (way by sinks sets) n slots records (pending n work at)
 
 mul-end : tie.Need-mul-end Inv-loop μ-loop
 mul-end c =
-    let s = c .before .before .before in
+    let s = c .before .before .before .before .before in
     omega (arith, s .pre .state .sized)
 
 loop-holds : tie.Need-loop-holds Inv-loop μ-loop
 loop-holds c =
-    let s = c .before .before .before in
+    let s = c .before .before .before .before .before in
     draining-here _ _ _ _ _ _ (s .pre)
 
 mul-x : tie.Need-mul-x Inv-loop μ-loop
@@ -53,7 +53,7 @@ loop-again c =
     let l = c .before .before .before .before .before .before .before .before .before .loop in
     let test = c .before .before .before .before .before .before .before .before .loop-test in
     let k = visit-call .kept in
-    draining-on _ _ _ _ _ _ _ _ _ (l .inv) (test .taken) _ _ _ (visit-call .ensures) (k .1 .1 .0) (k .1 .1 .1 .1 .0)
+    draining-on _ _ _ _ _ _ _ _ _ (l .inv) (test .taken) _ _ _ (visit-call .ensures) (k .1 .1 .0) (k .1 .1 .1 .1 .1 .1 .0)
 
 same-length : tie.Need-same-length Inv-loop μ-loop
 same-length c = c .before .loop .inv .recs-length

@@ -13,9 +13,9 @@ visit-requires c κs = search needs
 
 drain-requires : tie.Need-drain-requires
 drain-requires c κs =
-    let s = c .before .before .before .before .before .before .before .before .before .before .before .before in
+    let s = c .before .before .before .before .before .before .before .before .before .before .before .before .before .before in
     let visit-call = c .before .before .before .before .before .before .visit in
-    ready-moved _ _ _ _ _ _ _ _ _ _ (s .pre .0 .state .sized .room .recs-long) (s .pre .0 .linked) (visit-call .ensures)
+    ready-moved _ _ _ _ _ _ _ _ _ _ (s .pre .0) (visit-call .ensures)
 
 same-length : tie.Need-same-length
 same-length c = search needs
@@ -25,7 +25,7 @@ same-length-2 c = search needs
 
 returns : tie.Need-returns
 returns c =
-    let s = c .before .before .before .before .before .before .before .before .before .before .before .before .before .before .before .before .before in
+    let s = c .before .before .before .before .before .before .before .before .before .before .before .before .before .before .before .before .before .before .before in
     let visit-call = c .before .before .before .before .before .before .before .before .before .before .before .visit in
     let drain-call = c .before .before .before .before .drain in
     followed-visit _ _ _ _ _ (s .pre .0) _ (s .pre .1) _ _ _ (visit-call .ensures) _ _ (drain-call .ensures)

@@ -1,9 +1,8 @@
 -- `trace` meets its contract.
-use denote.Ref.{now}
 use Prim.Native.Nat.{ℕ, _*_}
 use mathlib.Core.Path.{ap, _∙_}
 use Rattle.table.specs.Cleared.{cleared}
-use Rattle.walk.proofs.TraceLaws.{trace-ready, starts-roots, starts-followed, walk-done}
+use Rattle.walk.proofs.TraceLaws.{trace-ready, walk-done}
 use borrow.Author.Needs.{needs}
 use Rattle.walk.proofs.trace.trace.Statement.{statement}
 use Rattle.walk.proofs.trace.trace.Tie as tie
@@ -22,17 +21,14 @@ clear-requires c κs = search needs
 
 follow-roots-requires : tie.Need-follow-roots-requires
 follow-roots-requires c κs =
-    let s = c .before .before .before .before .before .before .before .before .before .before .before .before .before .before .before .before in
+    let s = c .before .before .before .before .before .before .before .before .before .before .before .before .before .before .before .before .before .before in
     let link-clusters-call = c .before .before .before .before .before .before .before .before .before .link-clusters in
     let clear-call = c .before .before .before .before .clear in
     let work-len-call = c .before .before .before .before .before .work-len in (
       trace-ready _ _ _ _ _ _ (s .pre .0) _ _ (link-clusters-call .ensures) (link-clusters-call .kept .1 .1 .1 .0)
           (clear-call .ensures ∙ ap (λ (k : ℕ). cleared (9 * s .args .n) k (link-clusters-call .last .1 .1 .1 .0)) (work-len-call .ensures)) (clear-call .kept .0),
-      (s .pre .1, starts-roots _ (s .args .r) _ (now (s .args .slots)) (now (s .args .roots)) (s .pre .0 .objects)),
+      (s .pre .1, s .pre .0 .objects),
     )
-
-follow-sinks-requires : tie.Need-follow-sinks-requires
-follow-sinks-requires c κs = search needs
 
 follow-postponed-requires : tie.Need-follow-postponed-requires
 follow-postponed-requires c κs = search needs
@@ -45,13 +41,10 @@ same-length-2 c = search needs
 
 returns : tie.Need-returns
 returns c =
-    let s = c .before .before .before .before .before .before .before .before .before .before .before .before .before .before .before .before .before .before .before .before .before .before .before .before .before .before .before .before .before .before .before .before .before .before .before in
-    let follow-roots-call = c .before .before .before .before .before .before .before .before .before .before .before .before .before .before .before .before .before .before .follow-roots in
-    let follow-sinks-call = c .before .before .before .before .before .before .before .before .before .before .before .follow-sinks in
+    let s = c .before .before .before .before .before .before .before .before .before .before .before .before .before .before .before .before .before .before .before .before .before .before .before .before .before .before .before .before .before .before in
+    let follow-roots-call = c .before .before .before .before .before .before .before .before .before .before .before .follow-roots in
     let follow-postponed-call = c .before .before .before .before .follow-postponed in
-    let t = s .pre .0 in
-    walk-done _ _ _ _ _ _ t _ _ _
-    (starts-followed _ (s .args .r) _ _ (now (s .args .roots)) _ (t .sized .room .recs-long) _ _ _ _ (follow-roots-call .ensures) (follow-sinks-call .ensures)) (follow-postponed-call .ensures)
+    walk-done _ _ _ _ _ _ (s .pre .0) _ _ _ (follow-roots-call .ensures) (follow-postponed-call .ensures)
 
 pub trace-spec : {M : Type 1} → statement M
 trace-spec =
@@ -62,7 +55,6 @@ trace-spec =
     work-len-requires
     clear-requires
     follow-roots-requires
-    follow-sinks-requires
     follow-postponed-requires
     same-length
     same-length-2

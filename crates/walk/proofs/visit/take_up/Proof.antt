@@ -1,4 +1,6 @@
 -- `take_up` meets its contract.
+use mathlib.Core.List.{[]}
+use Rattle.walk.specs.State.{way}
 use Rattle.walk.proofs.VisitLaws.{take-dropped, take-scanned, state-taken, still-unmarked}
 use borrow.Author.Needs.{needs}
 use Rattle.walk.proofs.visit.take_up.Statement.{statement}
@@ -28,7 +30,8 @@ returns c =
     let s = c .before .before .before .before .before .before .before .before .before .before .before .before .before .before in
     let put-call = c .before .before .before .put in
     let is-settled-call = c .before .before .before .before .before .before .before .before .before .is-settled in
-    rw (put-bit-call .ensures) (take-dropped (s .args .by) _ _ _ _ _ (s .pre .0) _ (s .pre .1) _ (put-call .ensures) (put-call .kept .1 .0) _ (is-settled-call .ensures) (c .if1 .taken))
+    rw (put-bit-call .ensures)
+    (record { moved = λ list sets. take-dropped (way (s .args .by) list sets) _ _ _ _ _ (s .pre .0) _ (s .pre .1) _ (put-call .ensures) (put-call .kept .1 .0) _ (is-settled-call .ensures) (c .if1 .taken) })
 
 scan-requires : tie.Need-scan-requires
 scan-requires c κs =
@@ -38,8 +41,8 @@ scan-requires c κs =
     let is-settled-call = c .before .before .before .before .before .before .before .before .before .before .before .is-settled in
     let u = put-bit-call .ensures in
     let m = put-call in (
-      rw u (state-taken (s .args .by) _ _ _ _ _ (s .pre .0) _ (s .pre .1) _ (m .ensures) (m .kept .1 .0)),
-      (s .pre .1, rw u (still-unmarked (s .args .by) _ _ _ _ _ (s .pre .0) _ (s .pre .1) _ (m .ensures) (m .kept .1 .0) _ (is-settled-call .ensures) (c .before .before .if1 .left))),
+      rw u (state-taken (way (s .args .by) [] []) _ _ _ _ _ (s .pre .0) _ (s .pre .1) _ (m .ensures) (m .kept .1 .0)),
+      (s .pre .1, rw u (still-unmarked (way (s .args .by) [] []) _ _ _ _ _ (s .pre .0) _ (s .pre .1) _ (m .ensures) (m .kept .1 .0) _ (is-settled-call .ensures) (c .before .before .if1 .left))),
     )
 
 same-length-3 : tie.Need-same-length-3
@@ -58,8 +61,11 @@ returns-2 c =
     let if1 = t .if1 in
     let put-bit-call = u .put-bit in
     let scan-call = c .before .before .before .before .scan in
-    take-scanned (s .args .by) _ _ _ _ _ (s .pre .0) _ (s .pre .1) _ (put-call .ensures) (put-call .kept .1 .0) _ (is-settled-call .ensures) (if1 .left) _ _ _
-    (rw (put-bit-call .ensures) at (scan-call .ensures))
+    record {
+      moved = λ list sets.
+          take-scanned (way (s .args .by) list sets) _ _ _ _ _ (s .pre .0) _ (s .pre .1) _ (put-call .ensures) (put-call .kept .1 .0) _ (is-settled-call .ensures) (if1 .left) _ _ _
+          (rw (put-bit-call .ensures) at (scan-call .ensures));
+    }
 
 pub take-up-spec : {M : Type 1} → statement M
 take-up-spec =

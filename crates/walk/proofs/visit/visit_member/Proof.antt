@@ -13,7 +13,7 @@ same-length c = search needs
 returns : tie.Need-returns
 returns c =
     let s = c .before .before .before .before .before in
-    record { moved = λ slots top t. member-settled _ _ _ _ _ t _ (s .pre .1) _ (c .before .is-settled .ensures) (c .if1 .taken) }
+    record { moved = λ slots list top t. member-settled _ _ _ _ _ t _ (s .pre .1) list _ (c .before .is-settled .ensures) (c .if1 .taken) }
 
 put-bit-requires : tie.Need-put-bit-requires
 put-bit-requires c κs = search needs
@@ -35,7 +35,7 @@ returns-2 c =
     let is-settled-call = c .before .before .before .before .before .before .before .before .before .is-settled in
     let s = c .before .before .before .before .before .before .before .before .before .before .before .before .before in
     rw (put-bit-call .ensures)
-    (record { moved = λ slots top t. member-later _ _ _ _ _ t _ (s .pre .1) _ (is-settled-call .ensures) (if1 .left) _ (put-call .ensures) (put-call .kept .1 .0) })
+    (record { moved = λ slots list top t. member-later _ _ _ _ _ t _ (s .pre .1) list _ (is-settled-call .ensures) (if1 .left) _ (put-call .ensures) (put-call .kept .1 .0) })
 
 pub visit-member-spec : {M : Type 1} → statement M
 visit-member-spec =

@@ -1,5 +1,7 @@
 -- `visit_pending` meets its contract.
+use denote.Ref.{now}
 use mathlib.Core.Path.{refl, sym, _∙_}
+use Rattle.walk.specs.State.{way}
 use Rattle.walk.proofs.VisitLaws.{none-and, passed-scanIf, plain-none, visit-free}
 use borrow.Author.Needs.{needs}
 use Rattle.walk.proofs.visit.visit_pending.Statement.{statement}
@@ -13,9 +15,9 @@ same-length c = search needs
 
 returns : tie.Need-returns
 returns c =
-    let s = c .before .before .before .before .before .before in
+    let s = c .before .before .before .before .before .before .before .before in
     let d = none-and _ _ (sym (c .before .is-scanned .ensures) ∙ c .if1 .taken) in
-    visit-free (s .args .by) _ _ _ _ _ _ _ refl (d .0) _ _ _ (passed-scanIf _ _ _ _ _ (s .pre .0 .state) _ (s .pre .1) (d .1))
+    visit-free (way (s .args .by) (now (s .args .sinks)) (now (s .args .sets))) _ _ _ _ _ _ _ refl (d .0) _ _ _ (passed-scanIf _ _ _ _ _ (s .pre .0 .state) _ (s .pre .1) (d .1))
 
 scan-unmarked-requires : tie.Need-scan-unmarked-requires
 scan-unmarked-requires c κs = search needs
@@ -30,8 +32,8 @@ returns-2 : tie.Need-returns-2
 returns-2 c =
     let u = c .before .before .before .before in
     let t = u .before .before .before in
-    let s = t .before .before .before .before .before .before .before in
-    visit-free (s .args .by) _ _ _ _ _ _ _ refl (plain-none (s .args .by) _ (t .if2 .taken)) _ _ _ (u .scan-unmarked .ensures)
+    let s = t .before .before .before .before .before .before .before .before .before in
+    visit-free (way (s .args .by) (now (s .args .sinks)) (now (s .args .sets))) _ _ _ _ _ _ _ refl (plain-none (s .args .by) _ (t .if2 .taken)) _ _ _ (u .scan-unmarked .ensures)
 
 visit-requires : tie.Need-visit-requires
 visit-requires c κs = search needs

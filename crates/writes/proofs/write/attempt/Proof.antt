@@ -16,31 +16,20 @@ same-length c = search needs
 same-length-2 : tie.Need-same-length-2
 same-length-2 c = search needs
 
-returns : tie.Need-returns
-returns c = refuses (c .before .write-refusal .ensures) (c .if1 .taken) refl refl
-
-does-dissolve-requires : tie.Need-does-dissolve-requires
-does-dissolve-requires c κs = let t = c .before .before in slot-there _ _ _ _ _ _ _ (t .before .write-refusal .ensures) (t .if1 .left)
-
-store-staying-requires : tie.Need-store-staying-requires
-store-staying-requires c κs = let t = c .before .before .before .before .before .before in slot-there _ _ _ _ _ _ _ (t .before .write-refusal .ensures) (t .if1 .left)
-
 same-length-3 : tie.Need-same-length-3
 same-length-3 c = search needs
 
+returns : tie.Need-returns
+returns c = refuses (c .before .write-refusal .ensures) (c .if1 .taken) refl refl refl
+
+does-dissolve-requires : tie.Need-does-dissolve-requires
+does-dissolve-requires c κs = let t = c .before .before in slot-there _ _ _ _ _ _ _ _ _ (t .before .write-refusal .ensures) (t .if1 .left)
+
+store-staying-requires : tie.Need-store-staying-requires
+store-staying-requires c κs = let t = c .before .before .before .before .before .before .before in slot-there _ _ _ _ _ _ _ _ _ (t .before .write-refusal .ensures) (t .if1 .left)
+
 same-length-4 : tie.Need-same-length-4
 same-length-4 c = search needs
-
-returns-2 : tie.Need-returns-2
-returns-2 c =
-    let s = c .before .before .before .before in
-    let d = s .before .before .before in
-    let t = d .before .before .before .before in
-    let e = s .store-staying .ensures in
-    ends-kept _ _ _ _ _ _ _ (t .before .write-refusal .ensures) (t .if1 .left) _ (d .before .does-dissolve .ensures) _ (d .if2 .taken) _ _ (e .0) (e .1)
-
-store-dissolving-requires : tie.Need-store-dissolving-requires
-store-dissolving-requires c κs = let t = c .before .before .before .before .before .before .before in slot-there _ _ _ _ _ _ _ (t .before .write-refusal .ensures) (t .if1 .left)
 
 same-length-5 : tie.Need-same-length-5
 same-length-5 c = search needs
@@ -48,17 +37,16 @@ same-length-5 c = search needs
 same-length-6 : tie.Need-same-length-6
 same-length-6 c = search needs
 
-returns-3 : tie.Need-returns-3
-returns-3 c =
-    let s = c .before .before .before .before in
-    let m = s .before .before .before in
-    let d = m .before in
+returns-2 : tie.Need-returns-2
+returns-2 c =
+    let s = c .before .before .before .before .before .before in
+    let d = s .before .before .before .before in
     let t = d .before .before .before .before in
-    let e = s .store-dissolving .ensures in
-    ends-broken _ _ _ _ _ _ _ (t .before .write-refusal .ensures) (t .if1 .left) _ (d .before .does-dissolve .ensures) _ (d .if2 .left) (m .if3 .taken) _ _ (e .0) (e .1)
+    let e = s .store-staying .ensures in
+    ends-kept _ _ _ _ _ _ _ _ _ (t .before .write-refusal .ensures) (t .if1 .left) _ (d .before .does-dissolve .ensures) _ (d .if2 .taken) _ _ _ (e .0) (e .1) (e .2)
 
-loss-after-requires : tie.Need-loss-after-requires
-loss-after-requires c κs = let t = c .before .before .before .before .before .before in losses _ _ _ _ _ _ _ (t .before .write-refusal .ensures) (t .if1 .left)
+store-dissolving-requires : tie.Need-store-dissolving-requires
+store-dissolving-requires c κs = let t = c .before .before .before .before .before .before .before .before in slot-there _ _ _ _ _ _ _ _ _ (t .before .write-refusal .ensures) (t .if1 .left)
 
 same-length-7 : tie.Need-same-length-7
 same-length-7 c = search needs
@@ -66,26 +54,53 @@ same-length-7 c = search needs
 same-length-8 : tie.Need-same-length-8
 same-length-8 c = search needs
 
+same-length-9 : tie.Need-same-length-9
+same-length-9 c = search needs
+
+returns-3 : tie.Need-returns-3
+returns-3 c =
+    let s = c .before .before .before .before .before .before in
+    let m = s .before .before .before .before in
+    let d = m .before in
+    let t = d .before .before .before .before in
+    let e = s .store-dissolving .ensures in
+    ends-broken _ _ _ _ _ _ _ _ _ (t .before .write-refusal .ensures) (t .if1 .left) _ (d .before .does-dissolve .ensures) _ (d .if2 .left) (m .if3 .taken) _ _ _ (e .0) (e .1) (e .2)
+
+loss-after-requires : tie.Need-loss-after-requires
+loss-after-requires c κs = let t = c .before .before .before .before .before .before in losses _ _ _ _ _ _ _ _ _ (t .before .write-refusal .ensures) (t .if1 .left)
+
+same-length-10 : tie.Need-same-length-10
+same-length-10 c = search needs
+
+same-length-11 : tie.Need-same-length-11
+same-length-11 c = search needs
+
+same-length-12 : tie.Need-same-length-12
+same-length-12 c = search needs
+
 returns-4 : tie.Need-returns-4
 returns-4 c =
     let l = c .before .before in
     let m = l .before .before in
     let d = m .before in
     let t = d .before .before .before .before in
-    ends-full _ _ _ _ _ _ _ (t .before .write-refusal .ensures) (t .if1 .left) _ (d .before .does-dissolve .ensures) _ (d .if2 .left) (m .if3 .left) _ (l .loss-after .ensures) (c .if4 .taken)
+    ends-full _ _ _ _ _ _ _ _ _ (t .before .write-refusal .ensures) (t .if1 .left) _ (d .before .does-dissolve .ensures) _ (d .if2 .left) (m .if3 .left) _ (l .loss-after .ensures) (c .if4 .taken)
 
 add-result : tie.Need-add-result
 add-result c =
     let t = c .before .before .before .before .before .before .before .before .before in
-    let h = losses _ _ _ _ _ _ _ (t .before .write-refusal .ensures) (t .if1 .left) in
+    let h = losses _ _ _ _ _ _ _ _ _ (t .before .write-refusal .ensures) (t .if1 .left) in
     let l = c .if4 .left in
     omega (arith, h .0, l)
 
-same-length-9 : tie.Need-same-length-9
-same-length-9 c = search needs
+same-length-13 : tie.Need-same-length-13
+same-length-13 c = search needs
 
-same-length-10 : tie.Need-same-length-10
-same-length-10 c = search needs
+same-length-14 : tie.Need-same-length-14
+same-length-14 c = search needs
+
+same-length-15 : tie.Need-same-length-15
+same-length-15 c = search needs
 
 returns-5 : tie.Need-returns-5
 returns-5 c =
@@ -93,7 +108,7 @@ returns-5 c =
     let m = l .before .before in
     let d = m .before in
     let t = d .before .before .before .before in
-    ends-asked _ _ _ _ _ _ _ (t .before .write-refusal .ensures) (t .if1 .left) _ (d .before .does-dissolve .ensures) _ (d .if2 .left) (m .if3 .left) _ (l .loss-after .ensures) (c .if4 .left)
+    ends-asked _ _ _ _ _ _ _ _ _ (t .before .write-refusal .ensures) (t .if1 .left) _ (d .before .does-dissolve .ensures) _ (d .if2 .left) (m .if3 .left) _ (l .loss-after .ensures) (c .if4 .left)
 
 pub attempt-spec : {M : Type 1} → statement M
 attempt-spec =
@@ -102,21 +117,26 @@ attempt-spec =
     write-refusal-requires
     same-length
     same-length-2
+    same-length-3
     returns
     does-dissolve-requires
     store-staying-requires
-    same-length-3
     same-length-4
-    returns-2
-    store-dissolving-requires
     same-length-5
     same-length-6
-    returns-3
-    loss-after-requires
+    returns-2
+    store-dissolving-requires
     same-length-7
     same-length-8
+    same-length-9
+    returns-3
+    loss-after-requires
+    same-length-10
+    same-length-11
+    same-length-12
     returns-4
     add-result
-    same-length-9
-    same-length-10
+    same-length-13
+    same-length-14
+    same-length-15
     returns-5)

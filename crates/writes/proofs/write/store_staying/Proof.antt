@@ -1,5 +1,5 @@
 -- `writes::write::store_staying` meets its contract. Assumes nothing.
-use Rattle.writes.proofs.WriteLaws.{stays}
+use Rattle.writes.proofs.WriteLaws.{stays, set-stays}
 use borrow.Author.Needs.{needs}
 use Rattle.writes.proofs.write.store_staying.Statement.{statement}
 use Rattle.writes.proofs.write.store_staying.Tie as tie
@@ -31,17 +31,27 @@ mul-records c = search needs
 slice-write-records : tie.Need-slice-write-records
 slice-write-records c = search needs
 
+make-set-requires : tie.Need-make-set-requires
+make-set-requires c κs = search needs
+
 same-length : tie.Need-same-length
 same-length c = search needs
 
 same-length-2 : tie.Need-same-length-2
 same-length-2 c = search needs
 
+same-length-3 : tie.Need-same-length-3
+same-length-3 c = search needs
+
 returns : tie.Need-returns
 returns c =
-    let t = c .before .before .before .before .before .before .before .before .before in
+    let m = c .before .before in
+    let o = m .before .before .before .before in
+    let t = o .before .before .before .before .before .before .before .before .before in
     let e = t .store-word .ensures in
-    (stays _ _ _ _ _ _ (t .before .before .before .before .before .pre) _ _ (e .0) (e .1) _ (c .before .before .exact-out .ensures) _ (c .with-out .ensures), e .1)
+    let s = t .before .before .before .before .before .before .before .pre in
+    let r = stays _ _ _ _ _ _ s _ _ (e .0) (e .1) _ (o .before .before .exact-out .ensures) _ (o .with-out .ensures) in
+    (r, e .1, set-stays _ _ _ _ _ _ s _ _ _ _ _ r (e .1) (m .make-set .ensures))
 
 pub store-staying-spec : {M : Type 1} → statement M
 store-staying-spec =
@@ -56,6 +66,8 @@ store-staying-spec =
     with-out-requires
     mul-records
     slice-write-records
+    make-set-requires
     same-length
     same-length-2
+    same-length-3
     returns)

@@ -18,21 +18,27 @@ same-length c = search needs
 same-length-2 : tie.Need-same-length-2
 same-length-2 c = search needs
 
+same-length-3 : tie.Need-same-length-3
+same-length-3 c = search needs
+
 returns : tie.Need-returns
 unfolding withWriteLoss
 returns c =
-    let s = c .before .before .before .before in
-    let t = s .before .before .before in
-    attempted-again _ _ _ _ _ _ _ _ _ (t .before .before .before .before .before .attempt .ensures) (t .if1 .taken) _ refl _ _ _ (s .attempt2 .ensures)
-
-same-length-3 : tie.Need-same-length-3
-same-length-3 c = search needs
+    let s = c .before .before .before .before .before .before in
+    let t = s .before .before .before .before in
+    attempted-again _ _ _ _ _ _ _ _ _ _ _ _ (t .before .before .before .before .before .before .before .attempt .ensures) (t .if1 .taken) _ refl _ _ _ _ (s .attempt2 .ensures)
 
 same-length-4 : tie.Need-same-length-4
 same-length-4 c = search needs
 
+same-length-5 : tie.Need-same-length-5
+same-length-5 c = search needs
+
+same-length-6 : tie.Need-same-length-6
+same-length-6 c = search needs
+
 returns-2 : tie.Need-returns-2
-returns-2 c = answered _ _ _ _ _ _ _ _ _ (c .before .before .before .before .before .attempt .ensures) (c .if1 .left)
+returns-2 c = answered _ _ _ _ _ _ _ _ _ _ _ _ (c .before .before .before .before .before .before .before .attempt .ensures) (c .if1 .left)
 
 pub write-spec : {M : Type 1} → statement M
 write-spec =
@@ -42,7 +48,9 @@ write-spec =
     attempt-requires-2
     same-length
     same-length-2
-    returns
     same-length-3
+    returns
     same-length-4
+    same-length-5
+    same-length-6
     returns-2)

@@ -1,0 +1,2 @@
+-- What the inner functions are held to.
+pub mod Places
