@@ -15,7 +15,7 @@ inUse r = flag 0 r
 abbrev pub isWritten : ℕ → Bool
 isWritten r = flag 1 r
 
--- immortal, and a start of every walk ("The heap")
+-- in the list of sinks and in no cluster ("The heap")
 abbrev pub isSink : ℕ → Bool
 isSink r = flag 2 r
 

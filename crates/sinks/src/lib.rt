@@ -108,7 +108,7 @@ fn make_exact(n: u32, records: &mut [u32], slots: &[u32])
     }
 }
 
-// The object becomes a sink for good.
+// The object becomes a sink, for as long as it lives, and gets the first empty place of the list.
 pub fn declare_sink(
     c: Control,
     object: u32,
