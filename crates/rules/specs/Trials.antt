@@ -339,11 +339,11 @@ world =
 unfoldable pub parted : State
 parted = stateWith 4 8 0 (recordWith 1 8 1 ∷ recordWith 1 0 1 ∷ recordWith 0 4 0 ∷ recordWith 1 0 0 ∷ []) (one 4 ++ one 3 ++ one 0 ++ one 3) 1
 
--- that heap with another list and other sets
-unfoldable pub partedWith : List ℕ → ℕ → State
-partedWith list set =
+-- that heap with another list, this set at head 1 and this word for 4, which heads nothing
+unfoldable pub partedWith : List ℕ → ℕ → ℕ → State
+partedWith list set other =
     stateOf 4 8 0 (recordWith 1 8 1 ∷ recordWith 1 0 1 ∷ recordWith 0 4 0 ∷ recordWith 1 0 0 ∷ []) (one 4 ++ one 3 ++ one 0 ++ one 3) 1
-    (places list) (set ∷ 0 ∷ 0 ∷ 0 ∷ [])
+    (places list) (set ∷ 0 ∷ 0 ∷ other ∷ [])
 
 -- the rows; w is the world
 unfoldable pub listingRows : State → List Listing
@@ -368,15 +368,16 @@ listingRows w =
     ∷ listing parted [] (plain 4) (0 ∷ 1 ∷ 3 ∷ 3 ∷ 4 ∷ []) (3 ∷ 0 ∷ 0 ∷ 0 ∷ []) 0
     ∷ listing parted [] (clustered 4) (0 ∷ 0 ∷ 4 ∷ 3 ∷ 0 ∷ []) (3 ∷ 0 ∷ 0 ∷ 0 ∷ []) 1
     -- in another place; twice in the list, not in it, and with a number that is no sink; a bit too many, too few, and one at a number that heads nothing
-    ∷ listing (partedWith (0 ∷ 3 ∷ []) 2) [] (clustered 4) (0 ∷ 0 ∷ 4 ∷ 3 ∷ 0 ∷ []) (0 ∷ 3 ∷ 0 ∷ 0 ∷ []) 2
-    ∷ listing (partedWith (3 ∷ 3 ∷ []) 3) [] (clustered 4) (21 ∷ 0 ∷ 0 ∷ 0 ∷ 1 ∷ []) (3 ∷ 3 ∷ 0 ∷ 0 ∷ []) 3
-    ∷ listing (partedWith [] 0) [] (clustered 4) (21 ∷ 0 ∷ 0 ∷ 0 ∷ 1 ∷ []) (0 ∷ 0 ∷ 0 ∷ 0 ∷ []) 0
-    ∷ listing (partedWith (3 ∷ 4 ∷ []) 3) [] (clustered 4) (21 ∷ 0 ∷ 0 ∷ 0 ∷ 1 ∷ []) (3 ∷ 4 ∷ 0 ∷ 0 ∷ []) 3
-    ∷ listing (partedWith (3 ∷ []) 3) [] (clustered 4) (21 ∷ 0 ∷ 0 ∷ 0 ∷ 1 ∷ []) (3 ∷ 0 ∷ 0 ∷ 0 ∷ []) 3
-    ∷ listing (partedWith (3 ∷ []) 0) [] (clustered 4) (21 ∷ 0 ∷ 0 ∷ 0 ∷ 1 ∷ []) (3 ∷ 0 ∷ 0 ∷ 0 ∷ []) 0
+    ∷ listing (partedWith (0 ∷ 3 ∷ []) 2 0) [] (clustered 4) (0 ∷ 0 ∷ 4 ∷ 3 ∷ 0 ∷ []) (0 ∷ 3 ∷ 0 ∷ 0 ∷ []) 2
+    ∷ listing (partedWith (3 ∷ 3 ∷ []) 3 0) [] (clustered 4) (21 ∷ 0 ∷ 0 ∷ 0 ∷ 1 ∷ []) (3 ∷ 3 ∷ 0 ∷ 0 ∷ []) 3
+    ∷ listing (partedWith [] 0 0) [] (clustered 4) (21 ∷ 0 ∷ 0 ∷ 0 ∷ 1 ∷ []) (0 ∷ 0 ∷ 0 ∷ 0 ∷ []) 0
+    ∷ listing (partedWith (3 ∷ 4 ∷ []) 3 0) [] (clustered 4) (21 ∷ 0 ∷ 0 ∷ 0 ∷ 1 ∷ []) (3 ∷ 4 ∷ 0 ∷ 0 ∷ []) 3
+    ∷ listing (partedWith (3 ∷ []) 3 0) [] (clustered 4) (21 ∷ 0 ∷ 0 ∷ 0 ∷ 1 ∷ []) (3 ∷ 0 ∷ 0 ∷ 0 ∷ []) 3
+    ∷ listing (partedWith (3 ∷ []) 0 0) [] (clustered 4) (21 ∷ 0 ∷ 0 ∷ 0 ∷ 1 ∷ []) (3 ∷ 0 ∷ 0 ∷ 0 ∷ []) 0
+    ∷ listing (partedWith (3 ∷ []) 1 1) [] (clustered 4) (21 ∷ 0 ∷ 0 ∷ 0 ∷ 1 ∷ []) (3 ∷ 0 ∷ 0 ∷ 0 ∷ []) 1
     -- a write goes by the list as it is: a number that is listed twice has both bits, one that is listed and no sink has its bit
-    ∷ listing (partedWith (3 ∷ 3 ∷ []) 0) [] (write 1 0 0) (0 ∷ []) (3 ∷ 3 ∷ 0 ∷ 0 ∷ []) 3
-    ∷ listing (partedWith (4 ∷ []) 0) [] (write 2 0 3) (0 ∷ []) (4 ∷ 0 ∷ 0 ∷ 0 ∷ []) 1
+    ∷ listing (partedWith (3 ∷ 3 ∷ []) 0 0) [] (write 1 0 0) (0 ∷ []) (3 ∷ 3 ∷ 0 ∷ 0 ∷ []) 3
+    ∷ listing (partedWith (4 ∷ []) 0 0) [] (write 2 0 3) (0 ∷ []) (4 ∷ 0 ∷ 0 ∷ 0 ∷ []) 1
     ∷ []
 
 -- a control record out of range, and no buffers
