@@ -8,7 +8,7 @@ use Rattle.rules.proofs.DeclareLaws.{declare-ruled, declare-does, decla
 use Rattle.rules.proofs.AnalyseLaws.{analyse-ruled}
 use Rattle.rules.proofs.AnalyseFacts.{analyse-does, analyse-accepts, analyse-adjusts}
 use Rattle.rules.proofs.CollectLaws.{collect-sweeps, collect-does, same-end}
-use Rattle.rules.proofs.SinkFacts.{list-facts, declare-full}
+use Rattle.rules.proofs.SinkFacts.{list-tests, list-facts, declare-full}
 use Rattle.rules.proofs.Calls.{made-inv}
 use Rattle.rules.proofs.Unmet.{unmet}
 
@@ -27,6 +27,7 @@ demand2 = record {
   accepts = λ s m work l. analyse-accepts s (made-inv m) work l;
   full = λ s m i u e. declare-full s (made-inv m) i u e;
   lists = λ s m. list-facts s (made-inv m);
+  tests = list-tests;
   long = λ s m. let I = made-inv m in (I .recs-long, (unfold slotsLen in (I .slots-long)), I .roots-long, I .sinks-long, I .sets-long);
   unmet = λ s m call. unmet s (made-inv m) call;
 }

@@ -174,14 +174,25 @@ unfolding Write.writeTests
 write-named c i k w recs slots list sets z =
     named c i recs slots _ (λ e. or-split (short (c .n) recs || short (slotsLen (c .n)) slots) (short sinkMax list) (or-split _ (short (c .n) sets) e .0) .0) _ z
 
--- the slot that it stores into is one of the object's eight
+-- the sets are long enough, and the slot is a used one
+pub sets-long : (c : Control) (i k w : ℕ) (recs slots list sets : List ℕ) → first (Write.writeTests c i k w recs slots list sets) ≡ 0 → c .n ≤ length sets
+unfolding Write.writeTests short
+sets-long c i k w recs slots list sets z =
+    let two = short (c .n) recs || short (slotsLen (c .n)) slots || short sinkMax list in
+    let a = first-passed 1 _ _ (first-passed 19 _ _ z .1) in
+    ltb-false (length sets) (c .n) (or-split two (short (c .n) sets) (a .0) .1)
+
+pub slot-used : (c : Control) (i k w : ℕ) (recs slots list sets : List ℕ) → first (Write.writeTests c i k w recs slots list sets) ≡ 0
+    → k < width (recOf (c .n) recs i)
+slot-used c i k w recs slots list sets z = leb-false (width (recOf (c .n) recs i)) k (first-passed 4 _ _ (write-named c i k w recs slots list sets z .1) .0)
+
+-- so it is one of the object's eight
 pub slot-fits : (c : Control) (i k w : ℕ) (recs slots list sets : List ℕ) → first (Write.writeTests c i k w recs slots list sets) ≡ 0
     → widthMax * (i - 1) + k < slotsLen (c .n)
 unfolding slotsLen
 slot-fits c i k w recs slots list sets z =
-    let f = write-named c i k w recs slots list sets z in
-    let b = leb-false (width (recOf (c .n) recs i)) k (first-passed 4 _ _ (f .1) .0) in
-    omega (arith, f .0 .low, f .0 .high, f .0 .narrow, b)
+    let f = write-named c i k w recs slots list sets z .0 in
+    omega (arith, f .low, f .high, f .narrow, slot-used c i k w recs slots list sets z)
 
 pub write-within : (c : Control) (i k w : ℕ) (recs slots list sets : List ℕ)
     → let o = Write.write c i k w recs slots list sets in

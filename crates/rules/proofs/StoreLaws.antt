@@ -67,7 +67,7 @@ module _ (n : ℕ) (recs : List ℕ) (i v : ℕ) (p : 1 ≤ i) (q : i ≤ n) (l 
       ap (λ (r : List ℕ). getD r j 0) (take-set-lt n recs (i - 1) v (omega arith)) ∙ getD-set-other (take n recs) (i - 1) j v 0 (λ z. e (omega arith))
 
   -- what the stored record has as the old one had, every object has
-  recOf-set-alike : {A : Type 0} (f : ℕ → A) → f v ≡ f (recOf n recs i) → (x : ℕ) → f (recOf n (set recs (i - 1) v) x) ≡ f (recOf n recs x)
+  pub recOf-set-alike : {A : Type 0} (f : ℕ → A) → f v ≡ f (recOf n recs i) → (x : ℕ) → f (recOf n (set recs (i - 1) v) x) ≡ f (recOf n recs x)
   recOf-set-alike f e = stored-alike f n recs (i - 1) v (omega arith) (e ∙ ap f (recOf-get n recs i p q))
 
 -- ---- one record
@@ -180,35 +180,31 @@ module _ (n : ℕ) (recs slots : List ℕ) (i k t : ℕ) (p : 1 ≤ i) (q : i �
 
 -- ---- the heap after a store
 
-module _ (n : ℕ) (recs slots : List ℕ) (i k : ℕ) (p : 1 ≤ i) (q : i ≤ n) (l : n ≤ length recs) where
-  -- a record with the old cluster leaves the clusters
-  pub cluster-stored : (v : ℕ) → cluster v ≡ cluster (recOf n recs i) → (x : ℕ) → cluster (recOf n (set recs (i - 1) v) x) ≡ cluster (recOf n recs x)
-  cluster-stored v e = recOf-set-alike n recs i v p q l cluster e
+-- records with the old widths, and a word in slot k: the pointers of the rule
+pub kids-stored : (n : ℕ) (recs slots : List ℕ) (i k w : ℕ) → 1 ≤ i → k < width (recOf n recs i) → width (recOf n recs i) ≤ 8
+    → (recs′ : List ℕ) → ((x : ℕ) → width (recOf n recs′ x) ≡ width (recOf n recs x)) → (x : ℕ)
+    → view n recs′ (set slots (8 * (i - 1) + k) w) .kids x ≡ stored (view n recs slots) i k (target n w) x
+unfolding view stored usedWords
+kids-stored n recs slots i k w p u b recs′ same x = rw (same x) (go (ℕ-discrete x i))
+  where
+    changed : List ℕ
+    changed = set slots (8 * (i - 1) + k) w
 
-  -- one with the old width, and a word in slot k: the pointers of the rule
-  pub kids-stored : k < width (recOf n recs i) → width (recOf n recs i) ≤ 8 → (v w : ℕ) → width v ≡ width (recOf n recs i) → (x : ℕ)
-      → view n (set recs (i - 1) v) (set slots (8 * (i - 1) + k) w) .kids x ≡ stored (view n recs slots) i k (target n w) x
-  unfolding view stored usedWords
-  kids-stored u b v w e x = rw (recOf-set-alike n recs i v p q l width e x) (go (ℕ-discrete x i))
-    where
-      changed : List ℕ
-      changed = set slots (8 * (i - 1) + k) w
+    kids : ℕ → List ℕ
+    kids y = map (target n) (take (width (recOf n recs y)) (eight slots y))
 
-      kids : ℕ → List ℕ
-      kids y = map (target n) (take (width (recOf n recs y)) (eight slots y))
+    z : suc (i - 1) ≡ i
+    z = omega arith
 
-      z : suc (i - 1) ≡ i
-      z = omega arith
-
-      go : Dec (x ≡ i) → map (target n) (take (width (recOf n recs x)) (eight changed x)) ≡ upd kids i (set (kids i) k (target n w)) x
-      go (yes h) =
-          rw (h, upd-same kids i (set (kids i) k (target n w)))
-          (ap (λ (m : List ℕ). map (target n) (take (width (recOf n recs i)) m)) (rw z at (eight-set slots (i - 1) k w (omega arith)))
-          ∙ ap (map (target n)) (take-set-lt (width (recOf n recs i)) (eight slots i) k w u)
-          ∙ map-set (target n) (take (width (recOf n recs i)) (eight slots i)) k w)
-      go (no h) =
-          rw (upd-other kids i x (set (kids i) k (target n w)) h)
-          (ap (λ (m : List ℕ). map (target n) (take (width (recOf n recs x)) m)) (eight-set-other slots (i - 1) k w x (omega arith) (λ y. h (y ∙ z))))
+    go : Dec (x ≡ i) → map (target n) (take (width (recOf n recs x)) (eight changed x)) ≡ upd kids i (set (kids i) k (target n w)) x
+    go (yes h) =
+        rw (h, upd-same kids i (set (kids i) k (target n w)))
+        (ap (λ (m : List ℕ). map (target n) (take (width (recOf n recs i)) m)) (rw z at (eight-set slots (i - 1) k w (omega arith)))
+        ∙ ap (map (target n)) (take-set-lt (width (recOf n recs i)) (eight slots i) k w u)
+        ∙ map-set (target n) (take (width (recOf n recs i)) (eight slots i)) k w)
+    go (no h) =
+        rw (upd-other kids i x (set (kids i) k (target n w)) h)
+        (ap (λ (m : List ℕ). map (target n) (take (width (recOf n recs x)) m)) (eight-set-other slots (i - 1) k w x (omega arith) (λ y. h (y ∙ z))))
 
 -- ---- the out bit after a store
 
@@ -219,8 +215,8 @@ module _ (n : ℕ) (recs slots : List ℕ) (i k : ℕ) (p : 1 ≤ i) (u : k < wi
   unfolding exactOut view outBit
   exact-stored w q l =
       ap (λ s. made s (cl new) (kids i)) (fun-ext (recOf-set-alike n recs i v p q l isSink (flag-put-other 1 true r 2 (eqb-false 1 2 refl))))
-      ∙ ap (λ d. made (sink recs) d (kids i)) (fun-ext (cluster-stored n recs slots i k p q l v (field-put-flag 1 true r 16 12 refl)))
-      ∙ ap (made (sink recs) (cl recs)) (kids-stored n recs slots i k p q l u b v w (field-put-flag 1 true r 8 4 refl) i)
+      ∙ ap (λ d. made (sink recs) d (kids i)) (fun-ext (recOf-set-alike n recs i v p q l cluster (field-put-flag 1 true r 16 12 refl)))
+      ∙ ap (made (sink recs) (cl recs)) (kids-stored n recs slots i k w p u b new (recOf-set-alike n recs i v p q l width (field-put-flag 1 true r 8 4 refl)) i)
     where
       r : ℕ
       r = recOf n recs i
@@ -261,8 +257,8 @@ pub stored-set : (n : ℕ) (recs slots list : List ℕ) (i k v w : ℕ) → 1 �
 unfolding storeBy stored view
 stored-set n recs slots list i k v w p q l u b e f c =
     setWord-same (heapIn n (set recs (i - 1) v) (set slots (8 * (i - 1) + k) w) list) (storeBy false (heapIn n recs slots list) i k (target n w)) c refl refl
-    (λ x o. let s = cluster-stored n recs slots i k p q l v f x in ((λ z. sym s ∙ z), (λ z. s ∙ z)))
-    (λ x o z. kids-stored n recs slots i k p q l u b v w e x)
+    (λ x o. let s = recOf-set-alike n recs i v p q l cluster f x in ((λ z. sym s ∙ z), (λ z. s ∙ z)))
+    (λ x o z. kids-stored n recs slots i k w p u b (set recs (i - 1) v) (recOf-set-alike n recs i v p q l width e) x)
 
 -- ---- whether a write dissolves a cluster, by the words of the buffers
 

@@ -1,6 +1,6 @@
--- What a write does to the clusters, and when it is refused for its loss, in any heap.
+-- What a write does to the clusters and the sets, and when it is refused for its loss, in any heap.
 -- Assumes nothing.
-use Prim.Native.Nat.{ℕ, _+_, _≤_, _<_, _^_}
+use Prim.Native.Nat.{ℕ, suc, _+_, _-_, _*_, _≤_, _<_, _^_}
 use mathlib.Core.Path.{_≡_, refl, sym, ap, _∙_}
 use mathlib.Core.Bool.{Bool, true, false, not, cond, _&&_, true≢false}
 use mathlib.Core.List.{List}
@@ -13,7 +13,7 @@ use lib.ListN.{length, getD, set, length-set, List·getD-eq-default}
 use lib.Seq.{getD-set-same, getD-set-other}
 use borrow.Author.Tests.{eqb-true, eqb-false, eq-eqb, ne-eqb, not-true, ltb-true, ltb-false}
 use Rattle.layout.specs.Field.{field}
-use Rattle.records.specs.Record.{cluster}
+use Rattle.records.specs.Record.{width, cluster}
 use Rattle.layout.proofs.FieldLaws.{field-lt}
 use Rattle.layout.specs.ControlRecord.{badControl, withWriteLoss}
 use Rattle.layout.specs.Refusal.{Test, first}
@@ -22,20 +22,22 @@ use Rattle.layout.proofs.RefusalLaws.{first-holds}
 use Rattle.graph.specs.Numbers.{has}
 use Rattle.graph.specs.Clusters.{size, keep, others}
 use Rattle.graph.proofs.NumberLaws.{has-at, has-none}
-use Rattle.graph.specs.Writes.{dissolves, storeBy, store, lossBy, lossOf}
+use Rattle.graph.specs.Writes.{dissolves, stored, storeBy, store, lossBy, lossOf}
 use Rattle.rules.specs.Buffers.{recOf}
-use Rattle.rules.specs.View.{target, view, encoded}
+use Rattle.rules.specs.View.{target, view, setWord, encoded}
 use Rattle.rules.specs.Write.{lossAfter}
 use Rattle.rules.specs.Write as Write
 use Rattle.rules.specs.Calls.{write}
 use Rattle.rules.specs.Plain.{answer}
 use Rattle.rules.specs.Steps.{State, step}
-use Rattle.rules.specs.Demands.{recordIn, heapOf, refusalOf, Dissolves, Writes, clusterSize, wordsOf}
+use Rattle.rules.specs.Demands.{recordIn, heapOf, refusalOf, ExactSet, Dissolves, Writes, clusterSize, wordsOf}
 use Rattle.rules.proofs.BoolLaws.{is-false, and-split, cond-same, cond-not}
 use Rattle.rules.proofs.Answers.{loss-passed}
-use Rattle.rules.proofs.Frames.{Named, write-named}
-use Rattle.rules.proofs.EncodedRecord.{encoded-cluster}
-use Rattle.rules.proofs.StoreLaws.{store-size, dissolves-words}
+use Rattle.rules.proofs.Frames.{Named, write-named, sets-long, slot-used}
+use Rattle.rules.proofs.EncodedRecord.{encoded-width, encoded-cluster}
+use Rattle.rules.proofs.StoreLaws.{store-size, kids-stored, dissolves-words}
+use Rattle.rules.proofs.SetLaws.{setWord-same}
+use Rattle.rules.proofs.SinkFacts.{set-exact}
 use Rattle.rules.proofs.EncodedLaws.{read-at}
 use Rattle.rules.proofs.Simulation.{all-by}
 use Rattle.rules.proofs.Refused.{meets, unmet-first, answered}
@@ -143,6 +145,77 @@ module _ (s : State) (i k w : ℕ) (accepted : refusalOf (write i k w) s ≡ 0) 
   within : lossAfter (s .control) i k w (s .records) (s .slots) (s .sinks) (s .sets) ≤ s .control .n
   within = ltb-false (s .control .n) _ (loss-passed (s .control) i k w (s .records) (s .slots) (s .sinks) (s .sets) (sym (tested s i k w) ∙ accepted))
 
+  -- ---- the sets
+
+  abbrev s′ : State
+  s′ = step (write i k w) s .after
+
+  -- the buffers hold the pointers of the rule
+  kids-after : (x : ℕ) → heapOf s′ .kids x ≡ stored (heapOf s) i k t x
+  unfolding step Write.write answer withWriteLoss store view stored
+  kids-after x =
+      all-by (λ (o : Write.Outcome). o .answer .refusal ≡ 0 → view (o .answer .control .n) (o .records) (o .slots) .kids x ≡ stored (heapOf s) i k t x) _ _ _
+      (λ z e. at (write-named (s .control) i k w (s .records) (s .slots) (s .sinks) (s .sets) z .0) (slot-used (s .control) i k w (s .records) (s .slots) (s .sinks) (s .sets) z))
+      (λ m e. absurd (suc-ne-zero m e)) accepted
+    where
+      d : Bool
+      d = dissolves (heapOf s) i k t
+
+      at : Named (s .control) i (s .records) (s .slots) → k < width (recordIn s i)
+          → view (s .control .n) (encoded (storeBy d (heapOf s) i k t) (s .records)) (set (s .slots) (8 * (i - 1) + k) w) .kids x ≡ stored (heapOf s) i k t x
+      at N u =
+          kids-stored (s .control .n) (s .records) (s .slots) i k w (N .low) u (N .narrow) (encoded (storeBy d (heapOf s) i k t) (s .records))
+          (read-at (s .control .n) (storeBy d (heapOf s) i k t) (store-size d (heapOf s) i k t) (s .records) (N .wide) width (λ y. width (recordIn s y))
+          (λ y e. ap width (sym e)) (λ y. encoded-width _ _ _ _ _)) x
+
+  size-after : s′ .control .n ≡ s .control .n
+  unfolding step Write.write answer withWriteLoss
+  size-after = all-by (λ (o : Write.Outcome). o .answer .control .n ≡ s .control .n) _ _ _ (λ z. refl) (λ m. refl)
+
+  sets-after : s′ .sets ≡ Write.setsAfter (s .control) i k w (s .records) (s .slots) (s .sinks) (s .sets)
+  unfolding step Write.write answer
+  sets-after =
+      all-by (λ (o : Write.Outcome). o .answer .refusal ≡ 0 → o .sets ≡ Write.setsAfter (s .control) i k w (s .records) (s .slots) (s .sinks) (s .sets)) _ _ _
+      (λ z e. refl) (λ m e. absurd (suc-ne-zero m e)) accepted
+
+  -- so the set of a head is that of the rule
+  set-after : (h : ℕ) → setWord (heapOf s′) h ≡ setWord (store (heapOf s) i k t) h
+  unfolding step answer view store
+  set-after h =
+      setWord-same (heapOf s′) (store (heapOf s) i k t) h (size-after ∙ sym (store-size d (heapOf s) i k t)) (sym (rest .1))
+      (λ x o. (λ z. sym (after x) ∙ z, λ z. after x ∙ z)) (λ x o z. kids-after x ∙ ap (λ (f : ℕ → List ℕ). f x) (sym (rest .0)))
+    where
+      d : Bool
+      d = dissolves (heapOf s) i k t
+
+      rest : (storeBy d (heapOf s) i k t .kids ≡ stored (heapOf s) i k t) × (storeBy d (heapOf s) i k t .listed ≡ heapOf s .listed)
+      rest = go d
+        where
+          go : (d : Bool) → (storeBy d (heapOf s) i k t .kids ≡ stored (heapOf s) i k t) × (storeBy d (heapOf s) i k t .listed ≡ heapOf s .listed)
+          go true = unfold storeBy in (refl, refl)
+          go false = unfold storeBy in (refl, refl)
+
+  -- the head's set has a word
+  has-set : cluster (recordIn s i) ≢ 0 → cluster (recordIn s i) - 1 < length (s .sets)
+  has-set nz =
+      let z = sym (tested s i k w) ∙ accepted in
+      let N = write-named (s .control) i k w (s .records) (s .slots) (s .sinks) (s .sets) z .0 in
+      omega (arith, nz, N .inside, sets-long (s .control) i k w (s .records) (s .slots) (s .sinks) (s .sets) z)
+
+  exact-after : cluster (recordIn s i) ≢ 0 → ExactSet s′ (cluster (recordIn s i))
+  unfolding Write.setsAfter view
+  exact-after nz =
+      let c = cluster (recordIn s i) in
+      set-exact s′ c (ap (λ (l : List ℕ). getD l (c - 1) 0) sets-after ∙ rw (ne-eqb c 0 nz) (getD-set-same (s .sets) (c - 1) _ 0 (has-set nz)) ∙ sym (set-after c))
+
+  others-after : (j : ℕ) → suc j ≢ cluster (recordIn s i) → getD (s′ .sets) j 0 ≡ getD (s .sets) j 0
+  unfolding Write.setsAfter view
+  others-after j ne = ap (λ (l : List ℕ). getD l j 0) sets-after ∙ go (cluster (recordIn s i)) ne (eqb (cluster (recordIn s i)) 0) refl _
+    where
+      go : (h : ℕ) → suc j ≢ h → (b : Bool) → eqb h 0 ≡ b → (v : ℕ) → getD (cond b (s .sets) (set (s .sets) (h - 1) v)) j 0 ≡ getD (s .sets) j 0
+      go h d true e v = refl
+      go h d false e v = getD-set-other (s .sets) (h - 1) j v 0 (λ z. d (omega (arith, z, eqb-false h 0 e)))
+
   pub write-does : Writes s i k w
   unfolding store storeBy lossAfter lossOf lossBy
   write-does = record {
@@ -151,6 +224,8 @@ module _ (s : State) (i k w : ℕ) (accepted : refusalOf (write i k w) s ≡ 0) 
     kept = λ p x. after x ∙ ap (λ (b : Bool). storeBy b (heapOf s) i k t .cluster x) (stays p) ∙ (unfold view in refl);
     unlost = λ p. loss ∙ ap (λ (b : Bool). s .control .«write_loss» + lossBy b (heapOf s) i) (stays p) ∙ omega arith;
     fits = rw loss within;
+    exact = exact-after;
+    others = others-after;
   }
     where
       stays : (Dissolves s i k w → ⊥) → dissolves (heapOf s) i k t ≡ false

@@ -38,9 +38,10 @@ use Rattle.rules.specs.Plain.{Plain, Played, Cell, vacant, object, cellA
 use Rattle.rules.specs.Steps.{State, step}
 use Rattle.rules.specs.Demands.{heapOf, wordsOf, recordIn, rootsOf}
 use Rattle.rules.specs.PlainOf.{plainOf, cellOf, cellsOf}
-use Rattle.rules.proofs.ListLaws.{map-set, eight-set, eight-set-other, set-numbers}
+use Rattle.rules.proofs.ListLaws.{eight-set, eight-set-other, set-numbers}
 use Rattle.rules.proofs.PlaceLaws.{rec-put}
 use Rattle.rules.proofs.SetLaws.{setWord-same}
+use Rattle.rules.proofs.StoreLaws.{kids-stored}
 use Rattle.rules.proofs.Invariant.{Inv, SlotWord, inv-control, inv-sane, inv-illegal, enough}
 use Rattle.rules.proofs.Abstraction.{cells-size, at-free, at-words, at-sink}
 use Rattle.rules.proofs.Simulation.{Same, same-by, all-by, pointer-facts, is-named, used-length, widths}
@@ -74,15 +75,11 @@ module _ (s : State) (I : Inv s) (i k w : ℕ) (k-fits : k < width (recordIn s (
   used-other x e = ap (take (width (recordIn s x))) (eight-set-other (s .slots) i k w x k8 e)
 
   same-kids : (x : ℕ) → map (target n) (usedWords n (s .records) slots′ x) ≡ stored H (suc i) k (target n w) x
-  unfolding stored view
-  same-kids x = go (ℕ-discrete x (suc i))
-    where
-      go : Dec (x ≡ suc i) → map (target n) (usedWords n (s .records) slots′ x)
-          ≡ upd (λ y. map (target n) (wordsOf s y)) (suc i) (set (map (target n) (wordsOf s (suc i))) k (target n w)) x
-      go (yes e) =
-          rw e (ap (map (target n)) used-after ∙ map-set (target n) (wordsOf s (suc i)) k w
-          ∙ sym (upd-same (λ y. map (target n) (wordsOf s y)) (suc i) _))
-      go (no e) = ap (map (target n)) (used-other x e) ∙ sym (upd-other (λ y. map (target n) (wordsOf s y)) (suc i) x _ e)
+  unfolding view stored
+  same-kids x =
+      let z : i ≡ suc i - 1 = omega arith in
+      ap (λ (j : ℕ). view n (s .records) (set (s .slots) (8 * j + k) w) .kids x) z
+      ∙ kids-stored n (s .records) (s .slots) (suc i) k w (omega arith) k-fits (widths s I (suc i)) (s .records) (λ y. refl) x
 
   other-after : (x : ℕ) → otherWords n (s .records) slots′ x ≡ otherWords n (s .records) (s .slots) x
   unfolding otherWords

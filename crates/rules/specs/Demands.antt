@@ -25,7 +25,7 @@ use Rattle.graph.specs.DepthFirst.{Forms}
 use Rattle.graph.specs.Writes.{store, declare}
 use Rattle.rules.specs.Buffers.{recOf, eight, usedWords}
 use Rattle.rules.specs.View.{target, heapIn, startsIn}
-use Rattle.rules.specs.WellFormed.{lists, wellFormed}
+use Rattle.rules.specs.WellFormed.{lists, listOk, setsOk, wellFormed}
 use Rattle.rules.specs.Create as Create
 use Rattle.rules.specs.Allocate as Allocate
 use Rattle.rules.specs.Read as Read
@@ -358,6 +358,20 @@ pub record Adjusts (s : State) (work : List ℕ) : Type 0 where
   pub outLoss : analysed s work .answer .control .«out_loss»
       ≡ sum (s .control .n) (λ h. cond (eqb (cluster (recordIn s h)) 0 && eqb (walkedIn s work h) h && ltb (5 * membersIn s work h) (2 * outsIn s work h)) (membersIn s work h) 0)
 
+-- ---- the sets
+
+-- object x is a member of the cluster of head h and points at object y
+abbrev pub PointsFrom : State → ℕ → ℕ → ℕ → Type 0
+PointsFrom s h y x = Obj (s .control .n) x × Obj (s .control .n) y × (cluster (recordIn s x) ≡ h) × List·Memᴰ y (wordsOf s x)
+
+-- the set of head h is exact: bit k says whether a member points at what is in place k of the list, and there is no bit past the places
+abbrev pub ExactSet : State → ℕ → Type 0
+ExactSet s h =
+    let set = getD (s .sets) (h - 1) 0 in
+    (set < 2 ^ sinkMax) × ((k : ℕ) → k < sinkMax → (flag k set ≡ true) ↔ ((x : ℕ) × PointsFrom s h (getD (s .sinks) k 0) x))
+
+-- ---- writes and sinks
+
 -- how many objects are in the cluster of i
 abbrev pub clusterSize : State → ℕ → ℕ
 clusterSize s i = count (s .control .n) (λ x. eqb (cluster (recordIn s x)) (cluster (recordIn s i)))
@@ -370,7 +384,7 @@ Dissolves s i k w =
     (cluster (recordIn s i) ≢ 0) × (cluster (recordIn s old) ≡ cluster (recordIn s i))
     × (w ≢ old) × ((q : ℕ) → q < length words → q ≢ k → getD words q 0 ≢ old)
 
--- what an accepted write does to the clusters and to the write loss: if it dissolves, all members lose their cluster; else nothing
+-- what an accepted write does to the clusters, the write loss and the sets: if it dissolves, all members lose their cluster; else none does
 pub record Writes (s : State) (i k w : ℕ) : Type 0 where
   pub dissolved : Dissolves s i k w → (x : ℕ)
       → cluster (recordAfter (write i k w) s x) ≡ cond (eqb (cluster (recordIn s x)) (cluster (recordIn s i))) 0 (cluster (recordIn s x))
@@ -378,8 +392,11 @@ pub record Writes (s : State) (i k w : ℕ) : Type 0 where
   pub kept : (Dissolves s i k w → ⊥) → (x : ℕ) → cluster (recordAfter (write i k w) s x) ≡ cluster (recordIn s x)
   pub unlost : (Dissolves s i k w → ⊥) → step (write i k w) s .after .control .«write_loss» ≡ s .control .«write_loss»
   pub fits : step (write i k w) s .after .control .«write_loss» ≤ s .control .n
+  -- the set of its object's head is exact then, by the list as it stands, and no other set changes
+  pub exact : cluster (recordIn s i) ≢ 0 → ExactSet (step (write i k w) s .after) (cluster (recordIn s i))
+  pub others : (j : ℕ) → suc j ≢ cluster (recordIn s i) → getD (step (write i k w) s .after .sets) j 0 ≡ getD (s .sets) j 0
 
--- no place before the first k of this list is empty
+-- none of the first k places of this list is empty
 abbrev pub FullTo : ℕ → List ℕ → Type 0
 FullTo k list = (j : ℕ) → j < k → getD list j 0 ≢ 0
 
@@ -391,20 +408,12 @@ pub record Declares (s : State) (i : ℕ) : Type 0 where
   pub places : isSink (recordIn s i) ≡ false
       → (k : ℕ) × (k < sinkMax) × (getD (s .sinks) k 0 ≡ 0) × FullTo k (s .sinks) × (step (declareSink i) s .after .sinks ≡ set (s .sinks) k i)
 
--- ---- the list of sinks and the sets
-
--- object x is a member of the cluster of head h and points at y
-abbrev pub PointsFrom : State → ℕ → ℕ → ℕ → Type 0
-PointsFrom s h y x = Obj (s .control .n) x × (cluster (recordIn s x) ≡ h) × List·Memᴰ y (wordsOf s x)
-
--- the 64 places have every sink, each once, and nothing else; bit k of the word of head h says whether a member points at the sink in place k
+-- the 64 places have every sink, each once, and nothing else; every set is exact
 pub record Lists (s : State) : Type 0 where
   pub sinks : (k : ℕ) → k < sinkMax → getD (s .sinks) k 0 ≢ 0 → isSink (recordIn s (getD (s .sinks) k 0)) ≡ true
   pub place : (x : ℕ) → isSink (recordIn s x) ≡ true → (k : ℕ) × (k < sinkMax) × (getD (s .sinks) k 0 ≡ x)
   pub once : (j k : ℕ) → j < sinkMax → k < sinkMax → getD (s .sinks) j 0 ≢ 0 → getD (s .sinks) j 0 ≡ getD (s .sinks) k 0 → j ≡ k
-  pub bits : (h k : ℕ) → Obj (s .control .n) h → k < sinkMax
-      → (flag k (getD (s .sets) (h - 1) 0) ≡ true) ↔ ((getD (s .sinks) k 0 ≢ 0) × (x : ℕ) × PointsFrom s h (getD (s .sinks) k 0) x)
-  pub words : (h : ℕ) → Obj (s .control .n) h → getD (s .sets) (h - 1) 0 < 2 ^ 64
+  pub sets : (h : ℕ) → Obj (s .control .n) h → ExactSet s h
 
 -- ---- refusals
 
@@ -453,8 +462,10 @@ pub record Demand2 : Type 0 where
   -- a new sink is refused for want of a place exactly where 64 objects are sinks
   pub full : (s : State) → Made s → (i : ℕ) → inUse (recordIn s i) ≡ true → isSink (recordIn s i) ≡ false
       → (refusalOf (declareSink i) s ≡ 29) ↔ (count (s .control .n) (λ x. isSink (recordIn s x)) ≡ sinkMax)
-  -- the list has the sinks, and the sets are exact
+  -- the list has the sinks, and the sets are exact; in any heap the tests of both pass exactly where that is so
   pub lists : (s : State) → Made s → Lists s
+  pub tests : (s : State) → ((listOk (s .control .n) (s .records) (s .sinks) ≡ true)
+      × (setsOk (s .control .n) (s .records) (s .slots) (s .sinks) (s .sets) ≡ true)) ↔ Lists s
   -- the five buffers, handed on from call to call, are never too short
   pub long : (s : State) → Made s → Long (s .control .n) (s .control .r) (s .records) (s .slots) (s .roots) (s .sinks) (s .sets)
   -- no call meets 20, 21 or 25

@@ -1,4 +1,4 @@
--- The loader of request One, which knows no chunk of sinks: builds that are out have it, and images of later ones are still held to it.
+-- The loader of the first builds, which knows no chunk of sinks: they still have it, and images of later builds may be handed to them.
 use Prim.Native.Nat.{ℕ, zero, suc, _+_, _*_, _/_, _%_}
 use mathlib.Core.Bool.{Bool, false, not, _&&_, _||_, cond}
 use mathlib.Core.List.{List, [], _∷_, _++_}

@@ -32,7 +32,7 @@ use Rattle.rules.specs.View.{target, view, heapIn, setWord, exactOut, encoded}
 use Rattle.rules.specs.Show.{showTests}
 use Rattle.rules.specs.Write as Write
 use Rattle.rules.proofs.BufferLaws.{recOf-get, used-get, used-long}
-use Rattle.rules.proofs.StoreLaws.{recOf-set-same, store-staying, store-dissolving, cluster-stored, exact-stored, dissolved-empty, stored-set, dissolves-words}
+use Rattle.rules.proofs.StoreLaws.{recOf-set-same, recOf-set-alike, store-staying, store-dissolving, exact-stored, dissolved-empty, stored-set, dissolves-words}
 use Rattle.rules.proofs.BoolLaws.{or-split}
 use Rattle.records.proofs.RecordLaws.{width-put-flag, cluster-put-flag}
 use Rattle.table.specs.Clusters.{clusterOf, membersOf, dissolvedRecord, dissolved}
@@ -317,7 +317,7 @@ module _ (n i k w : ℕ) (recs slots : List ℕ) (s : Slot n i k recs slots) whe
       let r : rs ≡ set recs (i - 1) v = a ∙ store-staying n recs slots i k (target n w) (s .low) (s .high) (s .room .recs-long) in
       let f : cluster v ≡ cluster (recOf n recs i) = cluster-put-flag 3 _ (withWritten true (recOf n recs i)) refl ∙ cluster-put-flag 1 true (recOf n recs i) refl in
       let g : width v ≡ width (recOf n recs i) = width-put-flag 3 _ (withWritten true (recOf n recs i)) refl ∙ width-put-flag 1 true (recOf n recs i) refl in
-      let h : clusterOf n rs i ≡ clusterOf n recs i = ap (λ (l : List ℕ). clusterOf n l i) r ∙ cluster-stored n recs slots i k (s .low) (s .high) (s .room .recs-long) v f i in
+      let h : clusterOf n rs i ≡ clusterOf n recs i = ap (λ (l : List ℕ). clusterOf n l i) r ∙ recOf-set-alike n recs i v (s .low) (s .high) (s .room .recs-long) cluster f i in
       e
       ∙ ap₂ (λ (x : ℕ) (y : ℕ). cond (eqb x 0) sets (set sets (x - 1) y)) h
       (ap (setWord (heapIn n rs ss list)) h
