@@ -2,7 +2,7 @@
 # make test      the whole gate: C tests, example, proofs, must-fail edits, programs (bash .ci/run)
 # make run       the report of an example level (the program replay)
 # make reports   the reports of replay on random and on wrong lists, compared with a program in C
-# make bench     times against the C reference and a baseline in C, on standard output
+# make bench     times against the C reference and a baseline in C, and times under several tunings, on standard output
 # make install   library, header and pkg-config file to PREFIX (with DESTDIR before it)
 
 PREFIX ?= /usr/local
@@ -42,8 +42,12 @@ reports:
 build/bench/bench: $(reference)/bench.c $(reference)/reference.c $(reference)/baseline.c build/libpakzid.a | build/bench
 	gcc -std=c11 -O2 -Wall -Wextra -I include -I $(reference) -o $@ $^
 
-bench: build/bench/bench
+build/bench/tuning: $(reference)/tuning.c build/libpakzid.a | build/bench
+	gcc -std=c11 -O2 -Wall -Wextra -I include -o $@ $^
+
+bench: build/bench/bench build/bench/tuning
 	build/bench/bench $(ROUNDS)
+	build/bench/tuning $(ROUNDS)
 
 install: all
 	mkdir -p $(DESTDIR)$(PREFIX)/lib/pkgconfig $(DESTDIR)$(PREFIX)/include

@@ -74,6 +74,10 @@ static uint8_t image[PAKZID_IMAGE_LENGTH(OBJECTS, ROOTS)];
 static uint32_t image_length;
 enum { OBJECTS_CHUNK = 6 + 8, SINKS_CHUNK = 6 + 2 }; /* where the objects begin, and how long the list of one sink is */
 
+/* The tuning, which a create and each load are handed; the game would be the
+ * same with any other, but for what analyses and `scanned` say. */
+#define TUNING PAKZID_USUAL_LEAST_MEMBERS, PAKZID_USUAL_OUTS_PER_TEN, PAKZID_USUAL_LOWEST_LIMIT
+
 #define LENGTH(array) (sizeof(array) / sizeof(array)[0])
 #define RECORDS heap->records, LENGTH(heap->records)
 #define SLOTS heap->slots, LENGTH(heap->slots)
@@ -128,7 +132,7 @@ static uint32_t level, player, door[DOORS];
 
 static void build(void)
 {
-    pakzid_done created = pakzid_create(OBJECTS, ROOTS, RECORDS, SLOTS, ROOT_WORDS, SINKS);
+    pakzid_done created = pakzid_create(OBJECTS, ROOTS, TUNING, RECORDS, SLOTS, ROOT_WORDS, SINKS);
     must("create", created.refusal);
     control = created.control;
 
@@ -226,7 +230,7 @@ static void load(uint32_t frame)
 {
     heap = &second;
     memset(heap, 0xA5, sizeof *heap);
-    pakzid_done a = pakzid_load(image, image_length, RECORDS, SLOTS, ROOT_WORDS, SINKS);
+    pakzid_done a = pakzid_load(TUNING, image, image_length, RECORDS, SLOTS, ROOT_WORDS, SINKS);
     must("load", a.refusal);
     control = a.control;
     printf("frame %2u: loaded, objects %u, roots %u, last %u, limit %u\n", (unsigned)frame, (unsigned)control.objects,
@@ -244,7 +248,7 @@ static void load_changed(uint32_t frame, const char *what, size_t at, uint32_t n
         changed[at + i] = (uint8_t)(number >> 8 * i);
 
     buffers before = *heap;
-    pakzid_done a = pakzid_load(changed, image_length, RECORDS, SLOTS, ROOT_WORDS, SINKS);
+    pakzid_done a = pakzid_load(TUNING, changed, image_length, RECORDS, SLOTS, ROOT_WORDS, SINKS);
     printf("frame %2u: %s, load refused with %u, heap %s\n", (unsigned)frame, what, (unsigned)a.refusal,
            memcmp(heap, &before, sizeof before) == 0 ? "as it was" : "changed");
 }

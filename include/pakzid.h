@@ -50,6 +50,34 @@
  * points to the sink in place k. A sink that no root leads to is freed like any
  * other object, and its place is empty then.
  *
+ * Tuning
+ *
+ * An analysis decides by three numbers which clusters it forms and leaves.
+ * Create and load are handed them, the control record carries them, and they
+ * hold for as long as the heap does. Each level may have its own:
+ *
+ *   number         range       usual   what it does
+ *   least_members  1 to 4,095    4     a new cluster with fewer members is deleted
+ *   outs_per_ten   0 to 80      25     a new cluster of s members with p pointers
+ *                                      out of it (those to sinks do not count) is
+ *                                      deleted if 10 * p is more than this number
+ *                                      times s. 25 allows two and a half for each
+ *                                      member, 0 none, 80 all that there can be
+ *   lowest_limit   1 to 4,095    8     the size limit never falls below. That limit
+ *                                      is the most members that a new cluster may
+ *                                      have: at the first analysis a sixteenth of
+ *                                      the objects in use; at each later one half
+ *                                      of what it was, where write_loss exceeds
+ *                                      out_loss, and else twice that
+ *
+ * Every choice in these ranges is legal, also one under which no cluster is ever
+ * left (least_members above all that a cluster can have). No choice changes what
+ * the game sees: all answers are the same, but for `scanned`, what an analysis
+ * answers, and control records. It is a matter of time alone. The usual numbers:
+ *
+ *   pakzid_create(n, r, PAKZID_USUAL_LEAST_MEMBERS, PAKZID_USUAL_OUTS_PER_TEN,
+ *                 PAKZID_USUAL_LOWEST_LIMIT, records, n, slots, ...)
+ *
  * Stack
  *
  * Each call that goes through the whole heap (declare_sink, analyse, both
@@ -72,8 +100,8 @@
  *
  * The first three stand in this order, once each. A heap with sinks has 0x8001
  * behind them, once; without it a load lists the sinks by number. Others, which
- * save does not write, may follow. Clusters, written bits, limit and losses are
- * in no image.
+ * save does not write, may follow. Clusters, written bits, limit, losses and
+ * tuning are in no image.
  *
  * What the engine must see to (nothing here can test it)
  *
@@ -99,7 +127,10 @@
  *    5       no such slot: the object is not that wide            read, write
  *    6       an illegal word, or an immediate for a root          write, set_root
  *    7       no such root: the index is not below r               set_root
- *   20       a field of the control record is out of range        all but create, load
+ *   20       a field of the control record is out of range: n or  all but create, load
+ *            r as for 1; last or a loss above n; a number of the
+ *            tuning as for 30; the limit neither 0 nor from
+ *            lowest_limit to 4,095
  *   21       damage: the record of the object is broken           read, show, write
  *   21       damage anywhere in the heap                          declare_sink, analyse,
  *                                                                 both collections, save
@@ -113,6 +144,8 @@
  *   27       a chunk is out of place, or its body is wrong        load
  *   28       the kind of a chunk is below 0x8000 and unknown      load
  *   29       a new sink, and 64 are listed                        declare_sink
+ *   30       least_members or lowest_limit is not 1 to 4,095, or  create, load
+ *            outs_per_ten is above 80
  *
  * As long as nothing but the library stores into the buffers of a heap, and each
  * call is handed the latest control record, 20, 21 and 25 do not occur.
@@ -133,18 +166,27 @@ extern "C" {
 #define PAKZID_MAP_LENGTH(objects) ((objects) / 64 + 1)
 #define PAKZID_IMAGE_LENGTH(objects, roots) (160 + 36 * (objects) + 4 * (roots))
 
+/* The usual tuning: the numbers for a level of which nothing else is known. */
+#define PAKZID_USUAL_LEAST_MEMBERS 4
+#define PAKZID_USUAL_OUTS_PER_TEN 25
+#define PAKZID_USUAL_LOWEST_LIMIT 8
+
 /*
  * The control record. The engine keeps one for each heap, and replaces it by
  * the one in the answer of each call, refused or not (but not by that of a
- * refused create or load). It may read the fields; the calls alone set them.
+ * refused create or load). It may read the fields; the calls alone set them. The
+ * last three stay as create or load was handed them.
  */
 typedef struct {
-    uint32_t objects;    /* n */
-    uint32_t roots;      /* r */
-    uint32_t last;       /* object allocated last */
-    uint32_t limit;      /* size limit; 0 until an analysis has run */
-    uint32_t write_loss; /* members of clusters dissolved by writes since the last analysis */
-    uint32_t out_loss;   /* members of clusters that the last analysis deleted for out pointers */
+    uint32_t objects;       /* n */
+    uint32_t roots;         /* r */
+    uint32_t last;          /* object allocated last */
+    uint32_t limit;         /* size limit; 0 until an analysis has run */
+    uint32_t write_loss;    /* members of clusters dissolved by writes since the last analysis */
+    uint32_t out_loss;      /* members of clusters that the last analysis deleted for out pointers */
+    uint32_t least_members; /* fewest members of a cluster that is left, 1 to 4,095 */
+    uint32_t outs_per_ten;  /* most pointers out of it for ten members, 0 to 80 */
+    uint32_t lowest_limit;  /* the size limit is never below, 1 to 4,095 */
 } pakzid_control;
 
 /* create, write, set_root, declare_sink, load */
@@ -201,10 +243,12 @@ typedef struct {
 
 /*
  * Makes an empty heap: zeroes records, slots, roots, sinks and sink sets up to
- * the lengths above, whatever they held, and gives the first control record.
- * Tests: 1, 2.
+ * the lengths above, whatever they held, and gives the first control record,
+ * with the three numbers of the tuning in it.
+ * Tests: 1, 30, 2.
  */
 pakzid_done pakzid_create(uint32_t objects, uint32_t roots,
+                          uint32_t least_members, uint32_t outs_per_ten, uint32_t lowest_limit,
                           uint32_t *records, size_t records_length,
                           uint32_t *slots, size_t slots_length,
                           uint32_t *root_words, size_t root_words_length,
@@ -279,9 +323,10 @@ pakzid_done pakzid_declare_sink(pakzid_control control, uint32_t object,
 
 /*
  * Forms clusters for later collections, out of objects that are in none and
- * were not written since the analysis before. The engine decides when; the game
- * can't tell from any other answer whether it ran, but for `scanned`. Changes
- * records, sink sets and work only.
+ * were not written since the analysis before, and leaves those that the tuning
+ * allows. The engine decides when; the game can't tell from any other answer
+ * whether it ran, nor by which tuning, but for `scanned`. Changes records, sink
+ * sets and work only.
  * Tests: 20, 2, 21.
  */
 pakzid_analysed pakzid_analyse(pakzid_control control,
@@ -339,17 +384,20 @@ pakzid_saved pakzid_save(pakzid_control control,
  * records, slots, roots, sinks and sink sets up to the lengths above, whatever
  * they held, and gives the control record. `image_length` is that of the image,
  * in bytes. The heap has no clusters, and its list of sinks no empty place
- * between two of them. Loaded from the image of a heap, it answers each later
- * call as that heap would have, but for `scanned`, what an analysis answers, and
- * control records; the bytes of a later save may have the sinks in another order.
+ * between two of them. Its tuning is what this call is handed, whatever that of
+ * the saved heap was. Loaded from the image of a heap, it answers each later call
+ * as that heap would have, under any tuning, but for `scanned`, what an analysis
+ * answers, and control records; the bytes of a later save may have the sinks in
+ * another order.
  *
  * The image may come from anywhere: all of it is tested before the first store,
  * and what is accepted is a heap without damage. The buffers may be those of a
  * heap in use: a refused load changes none of them, and that heap goes on with
  * its own control record (that of the answer is all 0).
- * Tests: at each chunk 26, 27, 28, and last 2.
+ * Tests: 30, then at each chunk 26, 27, 28, and last 2.
  */
-pakzid_done pakzid_load(const uint8_t *image, size_t image_length,
+pakzid_done pakzid_load(uint32_t least_members, uint32_t outs_per_ten, uint32_t lowest_limit,
+                        const uint8_t *image, size_t image_length,
                         uint32_t *records, size_t records_length,
                         uint32_t *slots, size_t slots_length,
                         uint32_t *roots, size_t roots_length,

@@ -10,6 +10,7 @@ enum { N = 16, R = 2, FRAMES = 100, DOOR = 1, SWITCH = 3 };
 
 static uint32_t records[N], slots[PAKZID_SLOTS_LENGTH(N)], roots[R], sinks[PAKZID_SINKS_LENGTH], work[PAKZID_WORK_LENGTH(N)];
 static uint64_t sets[N], map[PAKZID_MAP_LENGTH(N)];
+#define USUAL PAKZID_USUAL_LEAST_MEMBERS, PAKZID_USUAL_OUTS_PER_TEN, PAKZID_USUAL_LOWEST_LIMIT
 #define RECORDS records, N
 #define SLOTS slots, PAKZID_SLOTS_LENGTH(N)
 #define ROOTS roots, R
@@ -37,7 +38,7 @@ static void store(uint32_t object, uint32_t slot, uint32_t word)
 static void build(void)
 {
     static const uint32_t stores[][3] = {{DOOR, 0, 2}, {DOOR, 1, SWITCH}, {2, 0, 4}, {SWITCH, 0, 5}, {4, 0, 6}};
-    control = pakzid_create(N, R, RECORDS, SLOTS, ROOTS, SINKS).control;
+    control = pakzid_create(N, R, USUAL, RECORDS, SLOTS, ROOTS, SINKS).control;
     for (uint32_t object = 1; object <= 6; object++)
         control = pakzid_allocate(control, object == DOOR ? 3 : 1, RECORDS, SLOTS).control;
     for (size_t i = 0; i < sizeof stores / sizeof stores[0]; i++)

@@ -10,6 +10,9 @@
 
 enum { N = 4, R = 2, THREE = 54, SAVED = 62, SINKS = PAKZID_SINKS_LENGTH, MOST_OBJECTS = 4095, MOST_ROOTS = 64 };
 
+/* The tuning that every load is handed. */
+#define TUNING 3, 40, 16
+
 /* Object 1 points to itself and holds an immediate, and root 1 names it. Object 4 is a sink. 2 and 3 are free. */
 static const uint8_t bytes[SAVED] = {
     8, 0, 0, 0, 1, 0,       /* eight bytes of kind 1 */
@@ -74,9 +77,9 @@ static void expect_heap(void)
 
 static void small_heap(void)
 {
-    pakzid_control control = {.objects = N, .roots = R, .last = 4};
+    pakzid_control control = {N, R, 4, 0, 0, 0, TUNING};
     dirty();
-    pakzid_done loaded = pakzid_load(bytes, SAVED, HEAP(N, R));
+    pakzid_done loaded = pakzid_load(TUNING, bytes, SAVED, HEAP(N, R));
     expect("load", loaded.refusal, 0);
     expect("control record", memcmp(&loaded.control, &control, sizeof control), 0);
     expect_heap();
@@ -123,7 +126,7 @@ static void set_length(size_t chunk, uint32_t to)
 static void expect_load(const char *what, uint32_t refusal)
 {
     static const pakzid_control zeros;
-    pakzid_done a = pakzid_load(image, length, HEAP(N, R));
+    pakzid_done a = pakzid_load(TUNING, image, length, HEAP(N, R));
     expect(what, a.refusal, refusal);
     if (a.refusal != 0)
         expect("control record of zeros", memcmp(&a.control, &zeros, sizeof zeros), 0);
@@ -193,6 +196,13 @@ static void hostile_lengths(void)
             }
 }
 
+/* The image of the small heap into buffers of these lengths. */
+static uint32_t load_into(size_t of_records, size_t of_slots, size_t of_roots, size_t of_sinks, size_t of_sets)
+{
+    return pakzid_load(TUNING, bytes, SAVED, records, of_records, slots, of_slots, roots, of_roots, sinks, of_sinks, sets, of_sets)
+        .refusal;
+}
+
 /* Of two faults the chunk decides that comes first; 2 comes after all chunks. */
 static void first_faults(void)
 {
@@ -210,16 +220,16 @@ static void first_faults(void)
     length = place[1];
     expect_with("version 2, and nothing after it", VERSION, 2, 27);
 
-    expect("too few records", pakzid_load(bytes, SAVED, records, N - 1, slots, 8 * N, roots, R, sinks, SINKS, sets, N).refusal, 2);
-    expect("too few slots", pakzid_load(bytes, SAVED, records, N, slots, 8 * N - 1, roots, R, sinks, SINKS, sets, N).refusal, 2);
-    expect("too few roots", pakzid_load(bytes, SAVED, records, N, slots, 8 * N, roots, R - 1, sinks, SINKS, sets, N).refusal, 2);
-    expect("too few places", pakzid_load(bytes, SAVED, records, N, slots, 8 * N, roots, R, sinks, SINKS - 1, sets, N).refusal, 2);
-    expect("too few sets", pakzid_load(bytes, SAVED, records, N, slots, 8 * N, roots, R, sinks, SINKS, sets, N - 1).refusal, 2);
-    expect("a root of no object, and no room", (image[ROOT_1] = 2, pakzid_load(image, SAVED, HEAP(0, 0)).refusal), 27);
+    expect("too few records", load_into(N - 1, 8 * N, R, SINKS, N), 2);
+    expect("too few slots", load_into(N, 8 * N - 1, R, SINKS, N), 2);
+    expect("too few roots", load_into(N, 8 * N, R - 1, SINKS, N), 2);
+    expect("too few places", load_into(N, 8 * N, R, SINKS - 1, N), 2);
+    expect("too few sets", load_into(N, 8 * N, R, SINKS, N - 1), 2);
+    expect("a root of no object, and no room", (image[ROOT_1] = 2, pakzid_load(TUNING, image, SAVED, HEAP(0, 0)).refusal), 27);
     whole();
     put_chunk(0, 0);
-    expect("an unknown kind at the end, and no room", pakzid_load(image, length, HEAP(0, 0)).refusal, 28);
-    expect("a stray byte at the end, and no room", pakzid_load(image, SAVED + 1, HEAP(0, 0)).refusal, 26);
+    expect("an unknown kind at the end, and no room", pakzid_load(TUNING, image, length, HEAP(0, 0)).refusal, 28);
+    expect("a stray byte at the end, and no room", pakzid_load(TUNING, image, SAVED + 1, HEAP(0, 0)).refusal, 26);
     expect_heap();
     whole();
 }
@@ -285,7 +295,7 @@ static void crowd(uint32_t count, uint32_t refusal)
     }
     put_chunk(3, 4);
     memset(image + length - 4, 0, 4);
-    expect("so many sinks", pakzid_load(image, length, HEAP(65, 1)).refusal, refusal);
+    expect("so many sinks", pakzid_load(TUNING, image, length, HEAP(65, 1)).refusal, refusal);
     for (uint32_t k = 0; refusal == 0 && k < SINKS; k++)
         expect("listed", sinks[k], k < count ? k + 1 : 0);
 }
@@ -312,7 +322,7 @@ static void sizes(void)
         image[length - 6] = (uint8_t)(4 * r);
         image[length - 5] = (uint8_t)(4 * r >> 8);
         memset(image + length, 0, 4 * r);
-        pakzid_done a = pakzid_load(image, length + 4 * r, HEAP(MOST_OBJECTS, MOST_ROOTS));
+        pakzid_done a = pakzid_load(TUNING, image, length + 4 * r, HEAP(MOST_OBJECTS, MOST_ROOTS));
         expect("sizes of a heap", a.refusal, rows[i].refusal);
         expect("n", a.control.objects, a.refusal ? 0 : n);
         expect("r", a.control.roots, a.refusal ? 0 : r);
@@ -325,7 +335,7 @@ static void longest(uint32_t n, uint32_t r)
 {
     uint32_t count = n < SINKS ? n : SINKS;
     size_t most = PAKZID_IMAGE_LENGTH(n, r) - 2 * (SINKS - count);
-    pakzid_control control = pakzid_create(n, r, HEAP(n, r)).control;
+    pakzid_control control = pakzid_create(n, r, TUNING, HEAP(n, r)).control;
     for (uint32_t object = 1; object <= n; object++)
         control = pakzid_allocate(control, 8, records, n, slots, PAKZID_SLOTS_LENGTH(n)).control;
     for (uint32_t object = 1; object <= count; object++)
@@ -335,7 +345,7 @@ static void longest(uint32_t n, uint32_t r)
     expect("a byte too little", pakzid_save(control, HEAP(n, r), image, most - 1).refusal, 2);
     expect("longest image", pakzid_save(control, HEAP(n, r), image, most).length, most);
     dirty();
-    expect("longest image loaded", pakzid_load(image, most, HEAP(n, r)).refusal, 0);
+    expect("longest image loaded", pakzid_load(TUNING, image, most, HEAP(n, r)).refusal, 0);
 }
 
 int main(void)

@@ -6,7 +6,7 @@
 MADE random lists of calls from create on, HOSTILE single calls on random buffers (sinks listed in any place, clusters that
 no call made; illegal records, wrong out bits, lists and sets, clusters without a head, short slices, control records out of
 range), and IMAGES loads (of images as they should be, and with bytes, lengths, kinds and chunks changed, that of the sinks
-above all), with a few of either whose list of sinks is full, are run through the reference. Each answer, with the control
+above all), with a few of either whose list of sinks is full, are run through the reference, under tunings of all kinds. Each answer, with the control
 record, every word of every buffer and every byte of a saved image, is written out as a theorem over the definitions, proved
 by computation, in a crate of its own under target/definitions. `rt dev` accepts it only if all agree. Printed are the last
 calls by their answer, and how often the reference took each of its paths. It is no part of the gate, which needs no
@@ -51,14 +51,17 @@ for crate in crates:
 unfolding = 'unfolding observed ctl nth stateOf ' + ' '.join(names)
 definitions = '''
 unfoldable pub ctl : Control → List ℕ
-ctl c = c .n ∷ c .r ∷ c .last ∷ c .limit ∷ c .«write_loss» ∷ c .«out_loss» ∷ []
+ctl c =
+    c .n ∷ c .r ∷ c .last ∷ c .limit ∷ c .«write_loss» ∷ c .«out_loss»
+    ∷ c .tuning .«least_members» ∷ c .tuning .«outs_per_ten» ∷ c .tuning .«lowest_limit» ∷ []
 
 unfoldable pub nth : List ℕ → ℕ → ℕ
 nth l i = getD l i 0
 
 unfoldable pub stateOf : List ℕ → List ℕ → List ℕ → List ℕ → List ℕ → List ℕ → State
 stateOf c recs slots roots list sets = record {
-  control = LControlRecord.controlWith (nth c 2) (nth c 3) (nth c 4) (nth c 5) (LControlRecord.newControl (nth c 0) (nth c 1));
+  control = LControlRecord.controlWith (nth c 2) (nth c 3) (nth c 4) (nth c 5) 
+    (LControlRecord.newControl (nth c 0) (nth c 1) (LControlRecord.tuningOf (nth c 6) (nth c 7) (nth c 8)));
   records = recs; slots = slots; roots = roots; sinks = list; sets = sets;
 }
 
@@ -98,8 +101,8 @@ observed (analyse work) s =
 observed (save out) s =
     let o = RSave.save (s .control) (s .records) (s .slots) (s .roots) (s .sinks) (s .sets) out in
     (o .answer .refusal ∷ o .answer .length ∷ []) ∷ o .image ∷ ctl (o .answer .control) ∷ s .records ∷ s .slots ∷ s .roots ∷ s .sinks ∷ s .sets ∷ []
-observed (load image recs slots roots list sets) s =
-    let o = RLoad.load image recs slots roots list sets in
+observed (load t image recs slots roots list sets) s =
+    let o = RLoad.load t image recs slots roots list sets in
     (o .answer .refusal ∷ []) ∷ ctl (o .answer .control) ∷ o .records ∷ o .slots ∷ o .roots ∷ o .sinks ∷ o .sets ∷ []
 '''
 
@@ -120,7 +123,7 @@ U, U8, U64 = C.c_uint32, C.c_uint8, C.c_uint64
 paths = re.findall(r'PATH\(\w+, "(.*)"\)', open(f'{top}/tests/reference/reference.h').read())
 taken = (U64 * len(paths)).in_dll(lib, 'ref_path_taken')
 class Ctl(C.Structure):
-    _fields_ = [(x, U) for x in ('n', 'r', 'last', 'limit', 'wl', 'ol')]
+    _fields_ = [(x, U) for x in ('n', 'r', 'last', 'limit', 'wl', 'ol', 'least', 'outs', 'lowest')]
 # Records, slots, roots, sinks and sets are buffers 0 to 4. Of each call: which it is lent, what it answers, and the words of further buffers.
 words_of = (U, U, U, U, U64)
 calls = {
@@ -145,14 +148,14 @@ def run(name, front, given, own=()):
     g, o = bufs(given, words_of), bufs(own, further)
     answer = getattr(lib, 'ref_' + name)(*front, *args([g[j] for j in lent], [given[j] for j in lent]), *args(o, own))
     return answer, after(g, given), after(o, own)
-def create(n, r, buffers):
-    o, after, _ = run('create', (U(n), U(r)), buffers)
+def create(n, r, t, buffers):
+    o, after, _ = run('create', [U(x) for x in (n, r, *t)], buffers)
     return o.k, (ctl(o.c), *after)
 def call(op, s, a):
     """s = (control record, records, slots, roots, sinks, sets); gives (observed, new s)"""
     if op == 'load':
-        image = (U8 * max(1, len(a[0])))(*a[0])
-        o, after, _ = run(op, (image, C.c_size_t(len(a[0]))), a[1:])
+        image = (U8 * max(1, len(a[1])))(*a[1])
+        o, after, _ = run(op, (*[U(x) for x in a[0]], image, C.c_size_t(len(a[1]))), a[2:])
         return [[o.k], ctl(o.c), *after], s if o.k else (ctl(o.c), *after)
     name = a[0] if op == 'collect' else op
     name = names_in_c.get(name, name)
@@ -163,8 +166,16 @@ def call(op, s, a):
 def lst(l):
     runs = [(x, len(list(run))) for x, run in itertools.groupby(l)]
     return '(' + ''.join(f'replicate {k} {x} ++ ' if k > 9 else f'{x} ∷ ' * k for x, k in runs) + '[])'
+def tuned(t):
+    return '(LControlRecord.tuningOf ' + ' '.join(map(str, t)) + ')'
 def term(op, a):
-    return '(' + op + ''.join(f' {lst(x) if type(x) is list else x}' for x in a) + ')'
+    return '(' + op + ''.join(f' {lst(x) if type(x) is list else tuned(x) if type(x) is tuple else x}' for x in a) + ')'
+def tuning(wrong=.04):
+    """The three numbers of the analysis: often the usual ones or such that small clusters are left, at times one out of range."""
+    if R.random() < .3: return 4, 25, 8
+    t = [R.choice([1, 1, 2, 2, 3, 4, 5, 4095]), R.choice([0, 1, 5, 10, 15, 20, 25, 40, 79, 80]), R.choice([1, 1, 2, 2, 3, 4, 8, 9, 4095])]
+    if R.random() < wrong: t[R.randrange(3)] = R.choice([0, 81, 4096, 0xFFFFFFFF])
+    return tuple(t)
 def work(n, ok=True):
     k = 10 * n + 64
     if not ok: k -= 1
@@ -230,7 +241,7 @@ def random_load():
     chunks = drawn(n, r)
     if R.random() < .3: chunks.insert(R.randint(3, len(chunks)), further())
     for _ in range(R.choice([0, 0, 0, 1, 1, 2])): chunks = change(chunks)
-    return [sum(chunks, [])] + [[7] * (k - 1 if R.random() < .03 else k + R.randint(0, 1)) for k in (n, 8 * n, r, 64, n)]
+    return [tuning(), sum(chunks, [])] + [[7] * (k - 1 if R.random() < .03 else k + R.randint(0, 1)) for k in (n, 8 * n, r, 64, n)]
 def saved(s):
     before = list(taken)
     (k, length), bytes = call('save', s, [[0] * (160 + 36 * len(s[1]) + 4 * len(s[3]))])[0][:2]
@@ -252,7 +263,7 @@ def random_call(n, r, s):
     if op == 'declareSink': return op, [o]
     if op == 'analyse': return op, [work(n, R.random() < .95)]
     if op == 'save': return random_save(s)
-    if op == 'load': return op, [saved(s), *[[7] * len(l) for l in s[1:]]] if R.random() < .5 else random_load()
+    if op == 'load': return op, [tuning(), saved(s), *[[7] * len(l) for l in s[1:]]] if R.random() < .5 else random_load()
     return random_collect(n, R.random() < .95)
 
 out = [header()]
@@ -270,8 +281,9 @@ def made_list():
     """Calls from create on: sinks, then clusters that lead to them, then calls at random."""
     n, r = R.randint(5, 8), R.randint(1, 3)
     b = [[1] * (k - 1 if R.random() < .006 else k + 1) for k in (n, 8 * n, r, 64, n)]
-    start = f'(created {n} {r} ' + ' '.join(lst(l) for l in b) + ')'
-    refused, s = create(n, r, b)
+    t = tuning(.02)
+    start = f'(created {n} {r} {tuned(t)} ' + ' '.join(lst(l) for l in b) + ')'
+    refused, s = create(n, r, t, b)
     if refused: return emit([], ('setRoot', [0, 0]), start, call('setRoot', s, [0, 0])[0])
     done = []
     def do(op, a):
@@ -354,8 +366,10 @@ def random_heap(n, r, objects, damage):
     if R.random() < .5: roots[0] = heads[0]
     roots = [y if y and recs[y - 1] else 0 for y in roots]
     if 'root' in faults: roots[R.randrange(r)] = R.choice([n + 1, 0x80000000, R.randint(1, n)])
-    c = [n, r, R.randint(0, n), R.choice([0, 8, 9, 17, 4095]), R.choice([0, 1, n]), R.randint(0, n)]
-    if R.random() < .04: c[R.randrange(6)] = R.choice([0, 7, 65, 4096])
+    t = tuning(0)
+    limit = R.choice([0] + [max(t[2], x) for x in (1, 2, 3, 4, 8, 9, 17, 4095)])
+    c = [n, r, R.randint(0, n), limit, R.choice([0, 1, n]), R.randint(0, n), *t]
+    if R.random() < .06: c[R.randrange(9)] = R.choice([0, 1, 7, 65, 81, 4096])
     # each slice with a word more than it needs, or one fewer
     return c, *[l[:-1] if R.random() < .015 else l + [77 + j] for j, l in enumerate((recs, slots, roots, sinks, sets))]
 def random_write(n, s):
@@ -373,13 +387,13 @@ def full_list(count):
     types = order[:count]
     sinks = types + [0] * (64 - count)
     R.shuffle(sinks)
-    s = [65, 1, 0, 0, 0, 0], [5 if x in types else 1 for x in range(1, 66)], [0] * 520, order[:1], sinks, [0] * 65
+    s = [65, 1, 0, 0, 0, 0, 4, 25, 8], [5 if x in types else 1 for x in range(1, 66)], [0] * 520, order[:1], sinks, [0] * 65
     for op, a in ('declareSink', order[-1:]), ('declareSink', order[:1]), random_save(s): emit_single(op, a, s)
 def full_image(count):
     """An image of 65 objects without words, 64 or all of them sinks, with their chunk and without."""
     types = R.sample(range(1, 66), count)
     chunks = three(65, 1, 0, sum([le(x, 2) + [0, int(x in types)] for x in range(1, 66)], []), le(1, 4))
-    for image in chunks, chunks + [chunk(0x8001, twos(types))]: emit_load([sum(image, []), *[[7] * k for k in (65, 520, 1, 64, 65)]])
+    for image in chunks, chunks + [chunk(0x8001, twos(types))]: emit_load([(4, 25, 8), sum(image, []), *[[7] * k for k in (65, 520, 1, 64, 65)]])
 for _ in range(made): made_list()
 for _ in range(hostile):
     op = R.choice(['any'] * 4 + ['write'] * 5 + ['collect'] * 3 + ['analyse'] * 3 + ['declareSink', 'save'])

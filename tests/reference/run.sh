@@ -1,5 +1,6 @@
 #!/usr/bin/env bash
-# Compares the library with the C reference and with the plain heap: every answer and every word of every buffer.
+# Compares the library with the C reference and with the plain heap: every answer and every word of every buffer. Then levels under
+# several tunings are compared with each other.
 #
 #   tests/reference/run.sh [ARCHIVE]
 #
@@ -55,3 +56,9 @@ for seed in 1 "$fresh"; do
     [ -n "$checks" ] || die "no check passed with seed $seed"
     printf '%s checks passed\n' "$checks"
 done
+
+# The program that times tunings, for one round: it ends with another status than 0 if one of them changes what is freed, kept or left.
+gcc "${flags[@]}" -o "$out/tuning" "$here/tuning.c" "$archive"
+"$out/tuning" 1 >"$out/tuning.txt" || die "a tuning changes what a game sees, or a call was refused"
+rows=$(grep -cE '^\| +[0-9]* \| +[0-9]* \| +[0-9]* \| +[0-9]+ \|' "$out/tuning.txt") || die "no tuning was tried"
+printf '\n%d levels and tunings: the same objects freed and kept\n' "$rows"

@@ -16,6 +16,7 @@
 #include <string.h>
 
 enum { MOST_OBJECTS = 4095, MOST_ROOTS = 64, MOST_WORDS = 8, MAP = MOST_OBJECTS / 64 + 1, LONGEST_LINE = 4096 };
+enum { MOST_LEAST = 4095, MOST_OUTS = 80, MOST_LOWEST = 4095, MOST_NUMBERS = 5 };
 enum { MOST_SINKS = 64, LONGEST_IMAGE = 32 + MOST_OBJECTS * (4 + 4 * MOST_WORDS) + 4 * MOST_ROOTS + 2 * MOST_SINKS };
 
 static _Noreturn void fail(const char *path, unsigned long line, const char *why)
@@ -30,7 +31,7 @@ typedef enum { CREATE, ALLOCATE, READ, SHOW, WRITE, ROOT, SINK, ANALYSE, SAVE, L
 
 static const struct {
     const char *name;
-    int numbers;  /* how many it is given */
+    int numbers;  /* how many it is given; a create may be given MOST_NUMBERS */
     bool answers; /* more than that it is accepted */
 } kinds[KINDS] = {
     {"create", 2, false}, {"allocate", 1, true}, {"read", 2, true}, {"show", 1, true}, {"write", 3, false}, {"root", 2, false},
@@ -39,7 +40,8 @@ static const struct {
 
 typedef struct {
     kind kind;
-    uint32_t number[3];
+    int numbers; /* how many it has; the others are 0 */
+    uint32_t number[MOST_NUMBERS];
     unsigned long line;
 } call;
 
@@ -52,14 +54,14 @@ typedef struct {
 
 static const char blanks[] = " \t\r\n";
 
-/* The number that the next word is. */
-static uint32_t next_number(const list *l, unsigned long line)
+/* The number that a word is. */
+static uint32_t number_of(const list *l, unsigned long line, const char *word)
 {
-    char *word = strtok(NULL, blanks), *end;
+    char *end;
 
-    if (word != NULL && strcmp(word, "nil") == 0)
+    if (strcmp(word, "nil") == 0)
         return 0;
-    if (word == NULL || *word < '0' || *word > '9')
+    if (*word < '0' || *word > '9')
         fail(l->path, line, "no number");
     unsigned long value = strtoul(word, &end, word[0] == '0' && (word[1] | 32) == 'x' ? 16 : 10);
     if (*end != '\0' || value > UINT32_MAX)
@@ -83,6 +85,18 @@ static kind named_kind(const list *l, unsigned long line, const char *name)
     fail(l->path, line, "no call");
 }
 
+/* Gives a call all the words that are left of its line as numbers. */
+static void add_numbers(const list *l, call *made)
+{
+    for (char *word; (word = strtok(NULL, blanks)) != NULL;) {
+        if (made->numbers == MOST_NUMBERS)
+            fail(l->path, made->line, "more numbers than any call has");
+        made->number[made->numbers++] = number_of(l, made->line, word);
+    }
+    if (made->numbers != kinds[made->kind].numbers && (made->kind != CREATE || made->numbers != MOST_NUMBERS))
+        fail(l->path, made->line, "too many or too few numbers");
+}
+
 /* Adds what a line says to the list. */
 static void add_line(list *l, unsigned long line, char *text)
 {
@@ -99,8 +113,7 @@ static void add_line(list *l, unsigned long line, char *text)
             strcpy(build, word);
     } else {
         call made = {.kind = named_kind(l, line, name), .line = line};
-        for (int i = 0; i < kinds[made.kind].numbers; i++)
-            made.number[i] = next_number(l, line);
+        add_numbers(l, &made);
         if ((made.kind == CREATE) != (l->count == 0))
             fail(l->path, line, "create must be the first call, and no other");
         l->calls[l->count++] = made;
@@ -146,7 +159,7 @@ typedef struct {
     size_t next; /* the next call of the list */
     bool plain;  /* run by the plain heap; if not, `heap` is made from the buffers when it is looked at */
     plain_heap heap;
-    pakzid_control control;
+    pakzid_control control; /* in a plain column only the numbers of the analysis */
     uint32_t records[MOST_OBJECTS], slots[MOST_WORDS * MOST_OBJECTS], roots[MOST_ROOTS], sinks[MOST_SINKS], work[10 * MOST_OBJECTS + 64];
     uint64_t sets[MOST_OBJECTS];
     uint8_t image[LONGEST_IMAGE];
@@ -155,6 +168,14 @@ typedef struct {
     uint64_t freed[MAP];          /* the objects that any collection freed */
     hand hands[MOST_OBJECTS + 1]; /* the first time that each number changed hands */
 } column;
+
+/* The numbers of the analysis that a create names, or the usual ones: least members, outs per ten, lowest limit. */
+static const uint32_t *tuning(const call *made)
+{
+    static const uint32_t usual[] = {4, 25, 8};
+
+    return made->numbers == MOST_NUMBERS ? made->number + 2 : usual;
+}
 
 static void run_collect_plain(plain_heap *heap, answer *a)
 {
@@ -167,18 +188,36 @@ static void run_collect_plain(plain_heap *heap, answer *a)
         a->map[i / 64] |= (uint64_t)done.freed_object[i] << i % 64;
 }
 
+/* A create in a plain column. The plain heap leaves the tests of a create to its caller; the numbers of the analysis are kept for a
+ * load, which tests them. */
+static plain_answer create_plain(column *c, const call *made)
+{
+    const uint32_t n = made->number[0], r = made->number[1], *t = tuning(made);
+
+    if (n < 1 || n > MOST_OBJECTS || r < 1 || r > MOST_ROOTS)
+        return (plain_answer){1, 0};
+    if (t[0] < 1 || t[0] > MOST_LEAST || t[1] > MOST_OUTS || t[2] < 1 || t[2] > MOST_LOWEST)
+        return (plain_answer){30, 0};
+    plain_create(&c->heap, n, r);
+    c->control = (pakzid_control){.least_members = t[0], .outs_per_ten = t[1], .lowest_limit = t[2]};
+    return (plain_answer){0, 0};
+}
+
 /* A load in a plain column: the copy, or, before any save, an empty image. */
 static plain_answer load_plain(column *c, answer *a)
 {
+    const pakzid_control *t = &c->control;
+
     if (c->saved == 0)
-        return plain_load(&c->heap, c->image, 0);
+        return plain_load(&c->heap, t->least_members, t->outs_per_ten, t->lowest_limit, c->image, 0);
     c->heap = c->copy;
     a->objects = c->heap.objects;
     a->roots = c->heap.roots;
     return (plain_answer){0, 0};
 }
 
-/* A call on the plain heap. It has no control record: after a refused create every call but a load is refused with 20. */
+/* A call on the plain heap. It has no control record: after a refused create every call but a load is refused with 20, and a load
+ * with 30. */
 static void run_plain(column *c, const call *made, answer *a)
 {
     const uint32_t *x = made->number;
@@ -191,12 +230,7 @@ static void run_plain(column *c, const call *made, answer *a)
         return;
     }
     switch (made->kind) {
-    case CREATE:
-        if (1 <= x[0] && x[0] <= MOST_OBJECTS && 1 <= x[1] && x[1] <= MOST_ROOTS)
-            plain_create(heap, x[0], x[1]);
-        else
-            done.refusal = 1;
-        break;
+    case CREATE: done = create_plain(c, made); break;
     case ALLOCATE: done = plain_allocate(heap, x[0]); a->object = done.value; break;
     case READ: done = plain_read(heap, x[0], x[1]); a->word = done.value; break;
     case WRITE: done = plain_write(heap, x[0], x[1], x[2]); break;
@@ -220,11 +254,13 @@ static void run_plain(column *c, const call *made, answer *a)
     a->refusal = done.refusal;
 }
 
-/* A load of the last image. Refused, it gives a control record of zeros, and the column goes on with its own. */
+/* A load of the last image, with the column's own numbers of the analysis. Refused, it gives a control record of zeros, and the column
+ * goes on with its own. */
 static void run_load(column *c, answer *a)
 {
-    pakzid_done done = ref_load(c->image, c->saved, c->records, MOST_OBJECTS, c->slots, MOST_WORDS * MOST_OBJECTS, c->roots, MOST_ROOTS,
-                                c->sinks, MOST_SINKS, c->sets, MOST_OBJECTS);
+    const pakzid_control *t = &c->control;
+    pakzid_done done = ref_load(t->least_members, t->outs_per_ten, t->lowest_limit, c->image, c->saved, c->records, MOST_OBJECTS, c->slots,
+                                MOST_WORDS * MOST_OBJECTS, c->roots, MOST_ROOTS, c->sinks, MOST_SINKS, c->sets, MOST_OBJECTS);
 
     a->refusal = done.refusal;
     if (done.refusal != 0)
@@ -237,7 +273,7 @@ static void run_load(column *c, answer *a)
 /* A call by the reference, whose answers all have a refusal and a control record. */
 static void run_reference(column *c, const call *made, answer *a)
 {
-    const uint32_t *x = made->number;
+    const uint32_t *x = made->number, *t = tuning(made);
 
 #define RECORDS c->records, MOST_OBJECTS
 #define SLOTS c->slots, MOST_WORDS *MOST_OBJECTS
@@ -248,7 +284,7 @@ static void run_reference(column *c, const call *made, answer *a)
 #define COLLECT(function) RUN(pakzid_collected, function, c->control, WALK, a->map, MAP); \
     a->freed = done.freed; a->kept = done.kept; a->scanned = done.scanned
     switch (made->kind) {
-    case CREATE: { RUN(pakzid_done, ref_create, x[0], x[1], RECORDS, SLOTS, ROOTS, SINKS); break; }
+    case CREATE: { RUN(pakzid_done, ref_create, x[0], x[1], t[0], t[1], t[2], RECORDS, SLOTS, ROOTS, SINKS); break; }
     case ALLOCATE: { RUN(pakzid_allocated, ref_allocate, c->control, x[0], RECORDS, SLOTS); a->object = done.object; break; }
     case READ: { RUN(pakzid_word, ref_read, c->control, x[0], x[1], RECORDS, SLOTS); a->word = done.word; break; }
     case SHOW: {
@@ -348,7 +384,7 @@ static void put_words(text *t, const uint32_t *words, uint32_t count)
 static void put_call(text *t, const call *made)
 {
     put(t, "%s", kinds[made->kind].name);
-    for (int i = 0; i < kinds[made->kind].numbers; i++)
+    for (int i = 0; i < made->numbers; i++)
         put(t, made->number[i] <= 0xFFFF ? " %u" : " 0x%08x", (unsigned)made->number[i]);
 }
 
@@ -357,7 +393,7 @@ static const char *const meanings[] = {
     [1] = "sizes out of range", [3] = "width above 8", [4] = "no such object", [5] = "no such slot", [6] = "illegal word",
     [7] = "no such root", [20] = "control record out of order", [22] = "the object is free",
     [23] = "the word names a free object", [24] = "no object is free", [26] = "the image is cut",
-    [29] = "64 sinks are listed",
+    [29] = "64 sinks are listed", [30] = "an analysis number is out of range",
 };
 
 static void put_collected(text *t, const answer *a)
@@ -434,7 +470,9 @@ static void put_place(text *t, const call *left, const call *right)
     const call *made = left == NULL ? right : left;
     bool both = left != NULL && right != NULL;
 
-    if (both && (left->kind != right->kind || memcmp(left->number, right->number, sizeof left->number) != 0)) {
+    if (both
+        && (left->kind != right->kind || left->numbers != right->numbers
+            || memcmp(left->number, right->number, sizeof left->number) != 0)) {
         put(t, "Line %lu, ", left->line);
         put_call(t, left);
         put(t, "; line %lu, ", right->line);

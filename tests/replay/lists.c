@@ -17,7 +17,7 @@ enum { MOST_CALLS = 3000, ROOM = MOST_CALLS + 64 };
 typedef struct {
     const char *name;
     int numbers;
-    uint32_t number[3];
+    uint32_t number[5];
 } call;
 
 typedef struct {
@@ -169,6 +169,26 @@ static void add_step(uint32_t busy, uint32_t analyses)
     }
 }
 
+/* A number from `low` to `high`: one of these two, or a small one. */
+static uint32_t from_range(uint32_t low, uint32_t high, uint32_t small)
+{
+    return chance(20) ? high : chance(20) ? low : low + below(small);
+}
+
+/* Gives a create numbers of the analysis of its own; now and then one of them is out of its range. */
+static void tune(call *made)
+{
+    static const uint32_t low[] = {1, 0, 1}, high[] = {4095, 80, 4095}, small[] = {6, 40, 24}, outside[] = {4096, 65536, 0xFFFFFFFF};
+
+    made->numbers = 5;
+    for (int i = 0; i < 3; i++)
+        made->number[2 + i] = from_range(low[i], high[i], small[i]);
+    if (chance(6)) {
+        uint32_t wrong = below(3);
+        made->number[2 + wrong] = chance(40) && low[wrong] == 1 ? 0 : chance(40) ? high[wrong] + 1 : outside[below(3)];
+    }
+}
+
 /* The left list: a heap that is small more often than not, so that numbers are given again. */
 static void make_left(void)
 {
@@ -184,6 +204,8 @@ static void make_left(void)
         add("create", 2, chance(50) ? 0 : 4096 + below(100000), chance(50) ? roots : 65, 0);
     else
         add("create", 2, objects, roots, 0);
+    if (chance(50))
+        tune(&left.calls[0]);
     while (left.count < length)
         add_step(busy, analyses);
 }
@@ -217,6 +239,7 @@ static int find(const char *name)
 static const char *const changes[] = {
     "none", "write dropped", "write made a read", "word changed", "collection added", "collection dropped", "analyses added",
     "collections of the other kind", "list cut", "calls added", "sizes changed", "root changed", "sink changed", "another list", "save dropped", "load added", "load dropped",
+    "analysis numbers changed",
 };
 
 /* Another last number for a call that has one. */
@@ -295,6 +318,8 @@ static void make_right(const char *change)
         insert(right.count, chance(50) ? (call){"allocate", 1, {2, 0, 0}} : (call){"sink", 1, {some_object(), 0, 0}});
     else if (strcmp(change, "sizes changed") == 0)
         right.calls[0].number[below(2)] += 1 + below(3);
+    else if (strcmp(change, "analysis numbers changed") == 0)
+        tune(&right.calls[0]);
 }
 
 /* A number in one of the forms that a list may have. */

@@ -50,6 +50,7 @@ same "trials.calls" examples/trials.calls
 same "switch" examples/switch-412.calls examples/switch-415.calls
 same "large.calls" examples/large.calls
 same "save.calls" examples/save.calls
+same "tuned.calls" examples/tuned.calls
 
 # A list of 100,000 calls.
 "$out/large" >"$out/large.calls"
@@ -95,8 +96,35 @@ printf 'create 2 1\nallocate 1\nwrite 1 0 1\nsave\nload\nread 1 0\n' >"$out/righ
 same "save" "$out/left.calls" "$out/right.calls"
 [ "$(tail -n 1 "$out/expected.txt")" = "The columns differ first at line 6 (build that wrote) and line 6 (build that loaded)." ] || die "save"
 
-# Random lists. Each ending that a report may have, objects that changed hands, saves, loads before and after them, and a
-# sink too many must occur.
+# The numbers of the analysis change no answer: tuned.calls agrees with itself run with the usual ones, and only on the right there are clusters.
+sed 's/^create .*/create 16 2/' examples/tuned.calls >"$out/usual.calls"
+same "usual numbers" "$out/usual.calls" examples/tuned.calls
+[ "$(tail -n 1 "$out/expected.txt")" = "The columns agree." ] || die "usual numbers"
+[ "$(grep -c 'analyse  *|.* | clusters 2, members 6$' "$out/expected.txt")" = 1 ] || die "clusters of three"
+
+# The first and the last number of each range are accepted, and the next ones are refused, with every call after them; sizes come first.
+for numbers in '1 0 1' '4095 80 4095'; do
+    printf 'create 2 1 %s\nallocate 1\nanalyse\nsave\nload\ncollect clusters\n' "$numbers" >"$out/left.calls"
+    same "create 2 1 $numbers" "$out/left.calls"
+    if grep -q 'refused' "$out/expected.txt"; then die "create 2 1 $numbers is refused"; fi
+done
+for numbers in '0 25 8' '4096 25 8' '4 81 8' '4 25 0' '4 25 4096' '0 81 4294967295'; do
+    printf 'create 2 1 %s\nallocate 1\nsave\nload\n' "$numbers" >"$out/left.calls"
+    same "create 2 1 $numbers" "$out/left.calls"
+    [ "$(grep -c 'refused 30: an analysis number | refused 30: an analysis number$' "$out/expected.txt")" = 2 ] || die "create 2 1 $numbers"
+done
+printf 'create 2 65 0 25 8\n' >"$out/left.calls"
+same "sizes first" "$out/left.calls"
+grep -q 'refused 1: sizes out of range' "$out/expected.txt" || die "sizes first"
+
+# A create with the usual numbers and one that names zeros are two calls, not one.
+printf 'create 2 1\n' >"$out/left.calls"
+printf 'create 2 1 0 0 0\n' >"$out/right.calls"
+same "zeros named" "$out/left.calls" "$out/right.calls"
+[ "$(tail -n 1 "$out/expected.txt")" = "The columns differ first at line 1 (build that wrote) and line 1 (build that loaded)." ] || die "zeros named"
+
+# Random lists. Each ending that a report may have, objects that changed hands, saves, loads before and after them, a
+# sink too many and a number of the analysis that is refused must occur.
 fresh=$(od -An -N4 -tu4 /dev/urandom | tr -d ' ')
 printf 'replay: random lists, seeds 1 to %d and from %d on\n' $((count / 2)) "$fresh"
 : >"$out/ends.txt"
@@ -109,11 +137,11 @@ for ((i = 1; i <= count; i++)); do
     alone=$((alone + 1))
     same "seed $seed, $change" "$out/left.calls" "$out/right.calls"
     pairs=$((pairs + 1))
-    grep -E '^The columns|given again|, (save|load) |refused 29' "$out/expected.txt" >>"$out/ends.txt"
+    grep -E '^The columns|given again|, (save|load) |refused (29|30)' "$out/expected.txt" >>"$out/ends.txt"
 done
 [ "$alone" -gt 0 ] && [ "$pairs" -gt 0 ] || die "no random list was compared"
 for end in 'agree\.' 'differ first at' 'differ in what survives' 'wrote has more calls' 'loaded has more calls' 'while slot' 'while root' \
-    ', save  *| bytes' ', load  *| objects' ', load  *| refused 26' 'refused 29: 64 sinks are'; do
+    ', save  *| bytes' ', load  *| objects' ', load  *| refused 26' 'refused 29: 64 sinks are' 'refused 30: an analysis number'; do
     grep -q -- "$end" "$out/ends.txt" || die "no report on random lists has: $end"
 done
 printf 'replay: %d random lists and %d random pairs compared, %d objects changed hands\n' \
@@ -148,6 +176,14 @@ refuses ', line 2: expected the end of the line' 'create 1 1\nsink 1 1\n'
 refuses ', line 2: expected the end of the line' 'create 1 1\nsave 1\n'
 refuses ', line 3: expected the end of the line' 'create 1 1\nsave\nload heap.img\n'
 refuses ', line 1: expected create, which is the first call of a list' 'load\ncreate 1 1\n'
+refuses ', line 1: expected a number' 'create 16\n'
+refuses ', line 1: expected a number' 'create 16 2 3\n'
+refuses ', line 1: expected a number' 'create 16 2 3 25 # 8\n'
+refuses ', line 1: expected a number' 'create 16 2 x\n'
+refuses ', line 1: expected a number below 4294967296' 'create 16 2 3 4294967296 8\n'
+refuses ', line 1: expected the end of the line' 'create 16 2 3 4 5 6\n'
+refuses ', line 2: expected the end of the line' 'create 1 1\nwrite 1 0 0 0 0\n'
+refuses ', line 2: a second create, and a list has one' 'create 1 1\ncreate 1 1 3 25 8\n'
 refuses ', line 2: expected plain or clusters' 'create 1 1\ncollect all\n'
 refuses ', line 1: expected a name' 'wrote # nobody\n'
 refuses ', line 2: the line is longer than 4096 bytes' "create 1 1\n$(printf '%4097s' '')\n"

@@ -33,4 +33,5 @@ stored crates/replay/stdout examples/trials.calls
 stored tests/replay/stored/switch.txt examples/switch-412.calls examples/switch-415.calls
 stored tests/replay/stored/large.txt examples/large.calls
 stored tests/replay/stored/save.txt examples/save.calls
+stored tests/replay/stored/tuned.txt examples/tuned.calls
 echo "stored reports: ok"

@@ -12,7 +12,7 @@ use Rattle.layout.proofs.RefusalLaws.{outcome-zero, outcome-number}
 use Rattle.rules.specs.Show.{showTests}
 use Rattle.rules.specs.Show as Show
 use Rattle.rules.proofs.BufferLaws.{used-part}
-use Rattle.table.proofs.NamedLaws.{named}
+use Rattle.table.proofs.NamedLaws.{show-named}
 
 module _ (c : Control) (i : ℕ) (recs slots : List ℕ) where
   -- the two outcomes
@@ -28,7 +28,7 @@ module _ (c : Control) (i : ℕ) (recs slots : List ℕ) where
       }
   unfolding Show.show
   shown z =
-      let N = named c i recs slots z in
+      let N = show-named c i recs slots z in
       outcome-zero _ _ (showTests c i recs slots) z
       ∙ rw (used-part (c .n) recs slots i (N .low) (N .legal .narrow), N .rec-at) refl
 

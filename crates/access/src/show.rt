@@ -4,6 +4,7 @@ ghost use Prim.Native.Nat.{_+_, _*_};
 ghost use Rattle.rules.specs.Show as Show;
 use layout::answers::Control;
 use layout::answers::Part;
+use layout::limits::OBJECT_MAX;
 use layout::limits::slots_len;
 use records::width_of;
 use table::named::object_refusal;
@@ -21,7 +22,7 @@ pub fn show<'a>(
     ensures own { λ r. ⌜ (r .ptr .0 ≡ slots .entry .ptr .0)
         × (r .ptr .1 ≡ Show.show c object (now (records .entry)) (now (slots .entry)) .answer .start * 4 + slots .entry .ptr .1) ⌝ }
 {
-    let k = object_refusal(c, object, records, slots);
+    let k = object_refusal(c, object, records, slots, OBJECT_MAX as usize);
     *refusal = k;
     if k != 0 {
         return &slots[0..0];
@@ -35,7 +36,7 @@ pub fn show<'a>(
 pub fn show_part(c: Control, object: u32, records: &[u32], slots: &[u32]) -> Part
     ensures { λ a. ⌜ a ≡ Show.show c object (now (records .entry)) (now (slots .entry)) .answer ⌝ }
 {
-    let k = object_refusal(c, object, records, slots);
+    let k = object_refusal(c, object, records, slots, OBJECT_MAX as usize);
     if k != 0 {
         return Part {
             refusal: k,

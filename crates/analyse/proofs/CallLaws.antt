@@ -25,11 +25,12 @@ use Rattle.rules.specs.Buffers.{short, recOf, eachFrom, eachRecord, zeros}
 use Rattle.rules.specs.View.{view, heapIn, startsIn, exactSets, encodedRecord, encoded}
 use Rattle.places.specs.Places.{lastPlaces}
 use Rattle.places.proofs.LatestLaws.{fill-exact}
-use Rattle.rules.specs.Analyse.{rule, nextLimit, usedCount, gives, analyseTests, limitAfter, analysed}
+use Rattle.rules.specs.Analyse.{ruleOf, nextLimit, usedCount, gives, analyseTests, limitAfter, analysed}
 use Rattle.rules.specs.Analyse as Rules
 use Rattle.rules.proofs.ListLaws.{records-alike}
 use Rattle.rules.proofs.WellFormedLaws.{Sane, Sinks}
 use Rattle.rules.proofs.SaneLaws.{sane-roots, sane-listed, sane-ready}
+use Rattle.layout.proofs.ControlLaws.{control-facts}
 use Rattle.rules.proofs.AnalyseLaws.{limit-range}
 use Rattle.analyse.specs.Starts.{Formable, formedFrom}
 use Rattle.table.specs.Room.{Accepted}
@@ -70,11 +71,18 @@ module _ (c : Control) (recs slots roots list sets work : List ℕ) where
     heap : Sane (c .n) (c .r) recs slots roots
     heap = accepted-sane c recs slots roots list sets work A
 
+    -- the next limit is at least 1 and at most 4,095
+    limits : (1 ≤ nextLimit c (usedCount (c .n) recs)) × (nextLimit c (usedCount (c .n) recs) ≤ 4095)
+    limits =
+        let S = control-facts c (A .control) in
+        let a = limit-range c S (usedCount (c .n) recs) in
+        (omega (arith, a .0, S .tuned .lowest), a .1)
+
     pub formable : (m : ℕ) → m ≡ nextLimit c (usedCount (c .n) recs)
         → Formable (c .n) m recs slots list sets work (startsIn (c .r) roots) × (c .r ≤ length roots)
     unfolding view
     formable m e =
-        let a = limit-range c (usedCount (c .n) recs) in (
+        let a = limits in (
           record {
             sized = accepted-sized c recs slots roots list sets work A;
             known = record { sinks-long = A .sinks-long; sets-long = A .sets-long; exact = holds .exact };
@@ -88,16 +96,16 @@ module _ (c : Control) (recs slots roots list sets work : List ℕ) where
 
     -- the sets made exact for the records that are left
     pub sets-after : (m : ℕ) → m ≡ nextLimit c (usedCount (c .n) recs) → (recs′ : List ℕ) (loss clusters members : ℕ)
-        → Judged (c .n) recs slots (formedFrom (c .n) recs slots list m (startsIn (c .r) roots)) recs′ loss clusters members → (sets′ : List ℕ)
+        → Judged (c .n) (c .tuning) recs slots (formedFrom (c .n) recs slots list m (startsIn (c .r) roots)) recs′ loss clusters members → (sets′ : List ℕ)
         → sets′ ≡ cond (leb (c .n) objectMax) (exactSets (heapIn (c .n) recs′ slots (lastPlaces list)) sets) sets
-        → sets′ ≡ exactSets (Graph.analyse rule (heapIn (c .n) recs slots list) m (startsIn (c .r) roots) .heap) sets
+        → sets′ ≡ exactSets (Graph.analyse (ruleOf (c .tuning)) (heapIn (c .n) recs slots list) m (startsIn (c .r) roots) .heap) sets
     unfolding Graph.analyse walked leftClusters stays isNew over few view
     sets-after m e recs′ loss clusters members J sets′ f =
-        let l = limit-range c (usedCount (c .n) recs) in
+        let l = limits in
         fill-exact (c .n) recs′ slots list sets sets′ f (A .room .most) (holds .listed .single)
-        ∙ sets-left (c .n) recs slots list (formedFrom (c .n) recs slots list m (startsIn (c .r) roots)) (A .room .most) (A .room .recs-long)
+        ∙ sets-left (c .n) (c .tuning) recs slots list (formedFrom (c .n) recs slots list m (startsIn (c .r) roots)) (A .room .most) (A .room .recs-long)
         (formed-fits (c .n) recs slots list m (startsIn (c .r) roots) (sane-ready heap list (holds .listed)) (omega (arith, l .0)) (sane-roots heap))
-        recs′ loss clusters members J (Graph.analyse rule (heapIn (c .n) recs slots list) m (startsIn (c .r) roots) .heap) refl refl refl refl sets
+        recs′ loss clusters members J (Graph.analyse (ruleOf (c .tuning)) (heapIn (c .n) recs slots list) m (startsIn (c .r) roots) .heap) refl refl refl refl sets
 
 -- ---- the outcome
 
@@ -110,7 +118,7 @@ encoded-is H n cl o recs s = records-alike n _ _ recs (λ x p q. ap (λ (b : Boo
 pub outcome : (c : Control) (recs slots roots list sets work : List ℕ) (u : ℕ) → u ≡ workLen (c .n) → (k : ℕ)
     → k ≡ first (heapTests c recs slots roots list sets (ltb (length work) u)) → k ≡ 0
     → (m : ℕ) → m ≡ nextLimit c (usedCount (c .n) recs) → (recs′ sets′ part work′ : List ℕ) (loss clusters members : ℕ)
-    → Judged (c .n) recs slots (formedFrom (c .n) recs slots list m (startsIn (c .r) roots)) recs′ loss clusters members
+    → Judged (c .n) (c .tuning) recs slots (formedFrom (c .n) recs slots list m (startsIn (c .r) roots)) recs′ loss clusters members
     → sets′ ≡ cond (leb (c .n) objectMax) (exactSets (heapIn (c .n) recs′ slots (lastPlaces list)) sets) sets
     → length part ≡ length (midOf 0 (u - 0) work) → work′ ≡ zeros u (putMid 0 (u - 0) work part) → (d : Control) → d ≡ withAnalysis m loss c
     → gives (record { refusal = 0; clusters = clusters; members = members; control = d }) recs′ sets′ work′
@@ -136,9 +144,9 @@ outcome c recs slots roots list sets work u us k ks z m e recs′ sets′ part w
     lim = nextLimit c (usedCount (c .n) recs)
 
     analysedAt : ℕ → Graph.Analysed
-    analysedAt k = Graph.analyse rule H k from
+    analysedAt k = Graph.analyse (ruleOf (c .tuning)) H k from
 
-    go : (m : ℕ) → lim ≡ m → Judged (c .n) recs slots (formedFrom (c .n) recs slots list m from) recs′ loss clusters members → d ≡ withAnalysis m loss c
+    go : (m : ℕ) → lim ≡ m → Judged (c .n) (c .tuning) recs slots (formedFrom (c .n) recs slots list m from) recs′ loss clusters members → d ≡ withAnalysis m loss c
         → sets′ ≡ exactSets (analysedAt m .heap) sets
         → gives (record { refusal = 0; clusters = clusters; members = members; control = d }) recs′ sets′ work′
         ≡ (let a = analysed c recs slots roots list sets work in
@@ -156,7 +164,7 @@ outcome c recs slots roots list sets work u us k ks z m e recs′ sets′ part w
         control = (q ∙ λ j. withAnalysis (sym f j) ((K .loss-is ∙ at (λ k. analysedAt k .outLoss)) j) c) i;
       };
       records =
-          (K .records ∙ encoded-is H (c .n) (leftOf H (formedFrom (c .n) recs slots list m from)) (outBit (H .kids) (H .sink) (leftOf H (formedFrom (c .n) recs slots list m from))) recs (λ x. refl)
+          (K .records ∙ encoded-is H (c .n) (leftOf (c .tuning) H (formedFrom (c .n) recs slots list m from)) (outBit (H .kids) (H .sink) (leftOf (c .tuning) H (formedFrom (c .n) recs slots list m from))) recs (λ x. refl)
           ∙ ap (λ (k : ℕ). encoded (analysedAt k .heap) recs) (sym f)) i;
       sets = (t ∙ ap (λ (k : ℕ). exactSets (analysedAt k .heap) sets) (sym f)) i;
       work = w i;

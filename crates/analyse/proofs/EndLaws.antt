@@ -18,7 +18,8 @@ use Rattle.graph.proofs.AnalysisInv.{head-range}
 use Rattle.graph.proofs.AnalysisEnds.{begin-inv, finish-inv}
 use Rattle.rules.specs.Buffers.{recOf, eight, usedWords, eachRecord}
 use Rattle.rules.specs.View.{target, view, heapIn, exactSets, encodedRecord}
-use Rattle.rules.specs.Analyse.{rule}
+use Rattle.layout.specs.declared.answers.Tuning.{Tuning}
+use Rattle.rules.specs.Analyse.{ruleOf}
 use Rattle.rules.proofs.ListLaws.{recOf-each}
 use Rattle.rules.proofs.EncodedRecord.{encoded-width, encoded-cluster}
 use Rattle.rules.proofs.SetLaws.{setWord-same, exact-same}
@@ -46,9 +47,9 @@ module _ (n : ℕ) (recs slots list sets : List ℕ) (limit : ℕ) (from work : 
       go x (yes e) = omega arith
       go x (no e) = head-range (W .walked .walking .inv) x e
 
-  pub judged-walk : (recs′ : List ℕ) (loss clusters members : ℕ) → Judged n recs slots (walkClusters n work) recs′ loss clusters members
-      → Judged n recs slots (formedFrom n recs slots list limit from) recs′ loss clusters members
-  judged-walk recs′ loss clusters members J = subst (λ (f : ℕ → ℕ). Judged n recs slots f recs′ loss clusters members) end-formed J
+  pub judged-walk : (t : Tuning) (recs′ : List ℕ) (loss clusters members : ℕ) → Judged n t recs slots (walkClusters n work) recs′ loss clusters members
+      → Judged n t recs slots (formedFrom n recs slots list limit from) recs′ loss clusters members
+  judged-walk t recs′ loss clusters members J = subst (λ (f : ℕ → ℕ). Judged n t recs slots f recs′ loss clusters members) end-formed J
 
 -- ---- the sets
 
@@ -65,17 +66,17 @@ formed-fits n recs slots list limit from R l h x = go (ℕ-discrete (formedFrom 
     go (yes e) = omega arith
     go (no e) = head-range (finish-inv H limit R l (begin H from) (begin-inv H limit from R h)) x e
 
-module _ (n : ℕ) (recs slots list : List ℕ) (cl : ℕ → ℕ) (most : n ≤ objectMax) (long : n ≤ length recs) (fits : (x : ℕ) → cl x ≤ n) (recs′ : List ℕ)
-    (loss clusters members : ℕ) (J : Judged n recs slots cl recs′ loss clusters members) where
+module _ (n : ℕ) (t : Tuning) (recs slots list : List ℕ) (cl : ℕ → ℕ) (most : n ≤ objectMax) (long : n ≤ length recs) (fits : (x : ℕ) → cl x ≤ n) (recs′ : List ℕ)
+    (loss clusters members : ℕ) (J : Judged n t recs slots cl recs′ loss clusters members) where
   abbrev K : Heap
   K = view n recs slots
 
   abbrev lf : ℕ → ℕ
-  lf = leftOf K cl
+  lf = leftOf t K cl
 
   lf-low : (x : ℕ) → lf x < 2 ^ 12
   unfolding keep
-  lf-low x = go (stays rule K cl (cl x))
+  lf-low x = go (stays (ruleOf t) K cl (cl x))
     where
       go : (b : Bool) → cond b (cl x) 0 < 2 ^ 12
       go true = omega (arith, fits x)

@@ -20,6 +20,7 @@ use Rattle.graph.proofs.OutLaws.{outBit-keep, outBit-none}
 use Rattle.rules.specs.Buffers.{recOf}
 use Rattle.rules.specs.View.{view, target}
 use Rattle.table.specs.Clusters.{clusterOf}
+use Rattle.layout.specs.declared.answers.Tuning.{Tuning}
 use Rattle.choices.specs.Choices.{lasts}
 use Rattle.analyse.specs.Memory.{area, clusterIn, sizeIn}
 use Rattle.table.specs.Room.{Sized}
@@ -275,10 +276,10 @@ module _ (n : ℕ) (recs slots work₀ work : List ℕ) (k : ℕ) (S : Counting 
 
 -- ---- does a cluster stay?
 
-pub stays-by : (n : ℕ) (recs work : List ℕ) (c d : ℕ) → d ≡ clusterOf n recs c → (w p : ℕ) → w ≡ area n (8 * n) work c → p ≡ area n 0 work c
-    → (b : Bool) → b ≡ lasts (w / 4096) p → (eqb d 0 && not b) ≡ not (staysIn n recs work c)
+pub stays-by : (n : ℕ) (t : Tuning) (recs work : List ℕ) (c d : ℕ) → d ≡ clusterOf n recs c → (w p : ℕ) → w ≡ area n (8 * n) work c → p ≡ area n 0 work c
+    → (b : Bool) → b ≡ lasts t (w / 4096) p → (eqb d 0 && not b) ≡ not (staysIn n t recs work c)
 unfolding staysIn staysBy
-stays-by n recs work c d is w p ws ps b o = rw (← is, ← ws, ← ps, ← o) (go (eqb d 0) b)
+stays-by n t recs work c d is w p ws ps b o = rw (← is, ← ws, ← ps, ← o) (go (eqb d 0) b)
   where
     go : (e b : Bool) → (e && not b) ≡ not (not e || b)
     go true true = refl
@@ -287,9 +288,9 @@ stays-by n recs work c d is w p ws ps b o = rw (← is, ← ws, ← ps, ← o) (
 
 -- ---- what an object is left with
 
-module _ (n : ℕ) (recs slots work : List ℕ) (x c w : ℕ) (ws : w ≡ area n (9 * n) work x) (is : c ≡ w % 4096) where
+module _ (n : ℕ) (t : Tuning) (recs slots work : List ℕ) (x c w : ℕ) (ws : w ≡ area n (9 * n) work x) (is : c ≡ w % 4096) where
   abbrev q : ℕ → Bool
-  q = staysIn n recs work
+  q = staysIn n t recs work
 
   own-formed : walkClusters n work x ≡ c
   own-formed = ap (λ (v : ℕ). v % 4096) (sym ws) ∙ sym is
@@ -297,13 +298,13 @@ module _ (n : ℕ) (recs slots work : List ℕ) (x c w : ℕ) (ws : w ≡ area n
   abbrev out : ℕ → Bool
   out = outBit (view n recs slots .kids) (view n recs slots .sink) (walkClusters n work)
 
-  word-is : leftWord n recs slots work x ≡ cond (q c) c 0 + 4096 * bit (q c && out x)
+  word-is : leftWord n t recs slots work x ≡ cond (q c) c 0 + 4096 * bit (q c && out x)
   unfolding leftWord keep
   word-is =
       ap (λ (b : Bool). cond (q (walkClusters n work x)) (walkClusters n work x) 0 + 4096 * bit b) (outBit-keep (view n recs slots .kids) (view n recs slots .sink) q (walkClusters n work) x)
       ∙ ap (λ (v : ℕ). cond (q v) v 0 + 4096 * bit (q v && out x)) own-formed
 
-  pub left-none : c ≡ 0 → 0 ≡ leftWord n recs slots work x
+  pub left-none : c ≡ 0 → 0 ≡ leftWord n t recs slots work x
   left-none z = sym (word-is ∙ go (q c) (out x) out-none)
     where
       out-none : out x ≡ false
@@ -314,10 +315,10 @@ module _ (n : ℕ) (recs slots work : List ℕ) (x c w : ℕ) (ws : w ≡ area n
       go false o e = refl
 
   module _ (b : Bool) (e : b ≡ not (q c)) where
-    pub left-gone : b ≡ true → 0 ≡ leftWord n recs slots work x
+    pub left-gone : b ≡ true → 0 ≡ leftWord n t recs slots work x
     left-gone f = sym (word-is ∙ rw (not-true (q c) (sym e ∙ f)) refl)
 
-    pub left-kept : c ≢ 0 → b ≡ false → (m : ℕ) → m ≡ outsAt n recs slots work x c → c + 4096 * bit (not (eqb m 0)) ≡ leftWord n recs slots work x
+    pub left-kept : c ≢ 0 → b ≡ false → (m : ℕ) → m ≡ outsAt n recs slots work x c → c + 4096 * bit (not (eqb m 0)) ≡ leftWord n t recs slots work x
     unfolding outBit outsAt
     left-kept nz f m ms =
         let k : q c ≡ true = not-false (q c) (sym e ∙ f) in
@@ -342,13 +343,13 @@ module _ (n : ℕ) (recs slots work₀ work : List ℕ) (f : ℕ → ℕ) (k : �
   pub judging-now : Judgeable n recs slots work₀ → Judgeable n recs slots work
   judging-now J = judgeable-now n recs slots work₀ work (F .long) links-same states-same J
 
-  stays-same : staysIn n recs work ≡ staysIn n recs work₀
+  stays-same : (t : Tuning) → staysIn n t recs work ≡ staysIn n t recs work₀
   unfolding staysIn
-  stays-same =
-      fun-ext (λ c. ap₂ (λ (g h : ℕ → ℕ). staysBy (clusterOf n recs c) (sizeIn g c) (h c)) links-same counts-same)
+  stays-same t =
+      fun-ext (λ c. ap₂ (λ (g h : ℕ → ℕ). staysBy t (clusterOf n recs c) (sizeIn g c) (h c)) links-same counts-same)
 
-  pub left-same : (x : ℕ) → leftWord n recs slots work x ≡ leftWord n recs slots work₀ x
+  pub left-same : (t : Tuning) (x : ℕ) → leftWord n t recs slots work x ≡ leftWord n t recs slots work₀ x
   unfolding leftWord
-  left-same x =
+  left-same t x =
       ap₂ (λ (g : ℕ → Bool) (h : ℕ → ℕ). keep g (clusterIn h) x + 4096 * bit (outBit (view n recs slots .kids) (view n recs slots .sink) (keep g (clusterIn h)) x))
-      stays-same states-same
+      (stays-same t) states-same

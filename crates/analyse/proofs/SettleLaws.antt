@@ -16,6 +16,7 @@ use Rattle.rules.proofs.PassLaws.{passFrom, pass-begin, pass-turn, pass-end}
 use Rattle.rules.proofs.BufferLaws.{recOf-get}
 use Rattle.table.specs.Clusters.{clusterOf}
 use Rattle.choices.specs.Choices.{settled}
+use Rattle.layout.specs.declared.answers.Tuning.{Tuning}
 use Rattle.analyse.specs.Memory.{area}
 use Rattle.analyse.specs.Judge.{lossAt, Settled}
 use Rattle.analyse.proofs.AnswerLaws.{Found, found-start, found-turn, found-end, clusters-most, members-most, head-is, member-is}
@@ -51,32 +52,32 @@ module _ (n : ℕ) (f : ℕ → ℕ → ℕ) (l₀ : List ℕ) where
 -- ---- with the answers counted
 
 -- The records of 1 to k are settled and counted, and those after them are as they were.
-pub record Settling (n : ℕ) (recs₀ work recs : List ℕ) (k loss clusters members : ℕ) : Type 0 where
+pub record Settling (n : ℕ) (t : Tuning) (recs₀ work recs : List ℕ) (k loss clusters members : ℕ) : Type 0 where
   pub left : Left n (λ x r. settled (area n n work x) r) recs₀ recs k
   pub rest : (j : ℕ) → k ≤ j → getD recs j 0 ≡ getD recs₀ j 0
-  pub found : Found n recs₀ work k loss clusters members
+  pub found : Found n t recs₀ work k loss clusters members
 
-pub settle-start : (n : ℕ) (recs work : List ℕ) → Settling n recs work recs 0 0 0 0
-settle-start n recs work = record { left = left-start n _ recs; rest = λ j h. refl; found = found-start n recs work }
+pub settle-start : (n : ℕ) (t : Tuning) (recs work : List ℕ) → Settling n t recs work recs 0 0 0 0
+settle-start n t recs work = record { left = left-start n _ recs; rest = λ j h. refl; found = found-start n t recs work }
 
-module _ (n : ℕ) (recs₀ work recs : List ℕ) (k loss clusters members : ℕ) (S : Settling n recs₀ work recs k loss clusters members) where
+module _ (n : ℕ) (t : Tuning) (recs₀ work recs : List ℕ) (k loss clusters members : ℕ) (S : Settling n t recs₀ work recs k loss clusters members) where
   pub settle-fits : n ≤ 4095 → (a : ℕ) → a ≤ 4095 → loss + a < 2 ^ 32
   settle-fits h a b = omega (arith, h, b, S .found .loss-most, S .found .most)
 
   pub heads-fit : n ≤ 4095 → (b : Bool) → clusters + bit b < 2 ^ 32
-  heads-fit h b = omega (arith, h, bit-le b, clusters-most _ _ _ _ _ _ _ (S .found), S .found .most)
+  heads-fit h b = omega (arith, h, bit-le b, clusters-most _ _ _ _ _ _ _ _ (S .found), S .found .most)
 
   pub members-fit : n ≤ 4095 → (b : Bool) → members + bit b < 2 ^ 32
-  members-fit h b = omega (arith, h, bit-le b, members-most _ _ _ _ _ _ _ (S .found), S .found .most)
+  members-fit h b = omega (arith, h, bit-le b, members-most _ _ _ _ _ _ _ _ (S .found), S .found .most)
 
   pub settle-turn : k < n → n ≤ length recs₀ → (w : ℕ) → w ≡ area n n work (k + 1) → (d : ℕ) → d ≡ cluster (getD recs k 0)
-      → (a : ℕ) → ((r : List ℕ) → d ≡ clusterOf n r (k + 1) → a ≡ lossAt n r work (k + 1)) × (a ≤ 4095)
+      → (a : ℕ) → ((r : List ℕ) → d ≡ clusterOf n r (k + 1) → a ≡ lossAt n t r work (k + 1)) × (a ≤ 4095)
       → (v : ℕ) → v ≡ settled w (getD recs k 0)
-      → Settling n recs₀ work (set recs (k + 1 - 1) v) (k + 1) (loss + a) (clusters + bit (eqb d 0 && eqb (w % 4096) (k + 1))) (members + bit (eqb d 0 && not (eqb (w % 4096) 0)))
+      → Settling n t recs₀ work (set recs (k + 1 - 1) v) (k + 1) (loss + a) (clusters + bit (eqb d 0 && eqb (w % 4096) (k + 1))) (members + bit (eqb d 0 && not (eqb (w % 4096) 0)))
   settle-turn h m w ws d ds a la v vs = record {
     left = left-turn n _ recs₀ recs k v (S .left) h m (vs ∙ ap (λ (u : ℕ). settled u (getD recs k 0)) ws);
     rest = λ j p. getD-set-other recs (k + 1 - 1) j v 0 (λ e. absurd (omega arith)) ∙ S .rest j (omega arith);
-    found = found-turn n recs₀ work k loss clusters members (S .found) h a _ _ (la .0 recs₀ old, la .1) (head-is n recs₀ work (k + 1) d old w ws) (member-is n recs₀ work (k + 1) d old w ws);
+    found = found-turn n t recs₀ work k loss clusters members (S .found) h a _ _ (la .0 recs₀ old, la .1) (head-is n recs₀ work (k + 1) d old w ws) (member-is n recs₀ work (k + 1) d old w ws);
   }
     where
       at : recOf n recs₀ (k + 1) ≡ getD recs₀ k 0
@@ -85,7 +86,7 @@ module _ (n : ℕ) (recs₀ work recs : List ℕ) (k loss clusters members : ℕ
       old : d ≡ clusterOf n recs₀ (k + 1)
       old = ds ∙ ap cluster (S .rest k (omega arith) ∙ sym at)
 
-  pub settle-end : n ≤ k → Settled n recs₀ work recs loss clusters members
+  pub settle-end : n ≤ k → Settled n t recs₀ work recs loss clusters members
   settle-end h =
-      let f = found-end n recs₀ work k loss clusters members (S .found) h in
+      let f = found-end n t recs₀ work k loss clusters members (S .found) h in
       record { records = left-end n _ recs₀ recs k (S .left) h; loss-is = f .0; clusters-is = f .1; members-is = f .2 }

@@ -6,6 +6,7 @@ use mathlib.Core.Bool.{Bool, false, not, cond, _&&_, _||_}
 use mathlib.Core.List.{List}
 use lib.Dec.{eqb}
 use lib.ListN.{length}
+use Rattle.layout.specs.declared.answers.Tuning.{Tuning}
 use Rattle.records.specs.Record.{isSink}
 use Rattle.graph.specs.Numbers.{bit, sum, count}
 use Rattle.graph.specs.Heap.{Heap}
@@ -14,7 +15,7 @@ use Rattle.graph.specs.Analysis.{stays, outLossOf}
 use Rattle.graph.specs.Invariant.{Sizes}
 use Rattle.rules.specs.Buffers.{eachFrom}
 use Rattle.rules.specs.View.{view, encodedRecord}
-use Rattle.rules.specs.Analyse.{rule}
+use Rattle.rules.specs.Analyse.{ruleOf}
 use Rattle.table.specs.Clusters.{clusterOf}
 use Rattle.choices.specs.Choices.{overBy, lasts, settled}
 use Rattle.analyse.specs.Memory.{area, clusterIn, sizeIn}
@@ -44,23 +45,23 @@ pub record Tallying (n : ℕ) (recs slots work₀ work : List ℕ) (k : ℕ) : T
   pub long : length work ≡ length work₀
 
 -- cluster c, where `old` is its number in the records: does it stay with s members and p out pointers?
-unfoldable pub staysBy : ℕ → ℕ → ℕ → Bool
-staysBy old s p = not (eqb old 0) || lasts s p
+unfoldable pub staysBy : Tuning → ℕ → ℕ → ℕ → Bool
+staysBy t old s p = not (eqb old 0) || lasts t s p
 
 -- the same, by the tables
-unfoldable pub staysIn : ℕ → List ℕ → List ℕ → ℕ → Bool
-staysIn n recs work c = staysBy (clusterOf n recs c) (sizeIn (area n (8 * n) work) c) (area n 0 work c)
+unfoldable pub staysIn : ℕ → Tuning → List ℕ → List ℕ → ℕ → Bool
+staysIn n t recs work c = staysBy t (clusterOf n recs c) (sizeIn (area n (8 * n) work) c) (area n 0 work c)
 
 -- what object x is left with: the cluster, and 4096 where it is an out member
-unfoldable pub leftWord : ℕ → List ℕ → List ℕ → List ℕ → ℕ → ℕ
-leftWord n recs slots work x =
-    keep (staysIn n recs work) (walkClusters n work) x
-    + 4096 * bit (outBit (view n recs slots .kids) (view n recs slots .sink) (keep (staysIn n recs work) (walkClusters n work)) x)
+unfoldable pub leftWord : ℕ → Tuning → List ℕ → List ℕ → List ℕ → ℕ → ℕ
+leftWord n t recs slots work x =
+    keep (staysIn n t recs work) (walkClusters n work) x
+    + 4096 * bit (outBit (view n recs slots .kids) (view n recs slots .sink) (keep (staysIn n t recs work) (walkClusters n work)) x)
 
 -- the members of the cluster that h heads, if it is new and has too many out pointers
-unfoldable pub lossAt : ℕ → List ℕ → List ℕ → ℕ → ℕ
-lossAt n recs work h =
-    cond (eqb (clusterOf n recs h) 0 && (eqb (walkClusters n work h) h && overBy (sizeIn (area n (8 * n) work) h) (area n 0 work h)))
+unfoldable pub lossAt : ℕ → Tuning → List ℕ → List ℕ → ℕ → ℕ
+lossAt n t recs work h =
+    cond (eqb (clusterOf n recs h) 0 && (eqb (walkClusters n work h) h && overBy t (sizeIn (area n (8 * n) work) h) (area n 0 work h)))
     (sizeIn (area n (8 * n) work) h) 0
 
 -- h heads a new cluster that is left
@@ -72,20 +73,20 @@ unfoldable pub newMemberAt : ℕ → List ℕ → List ℕ → ℕ → Bool
 newMemberAt n recs work x = eqb (clusterOf n recs x) 0 && not (eqb (area n n work x % 4096) 0)
 
 -- What the last pass leaves: every record is settled by its word, and the answers are counted.
-pub record Settled (n : ℕ) (recs work recs′ : List ℕ) (loss clusters members : ℕ) : Type 0 where
+pub record Settled (n : ℕ) (t : Tuning) (recs work recs′ : List ℕ) (loss clusters members : ℕ) : Type 0 where
   pub records : recs′ ≡ eachFrom 1 n (λ x r. settled (area n n work x) r) recs
-  pub loss-is : loss ≡ sum n (lossAt n recs work)
+  pub loss-is : loss ≡ sum n (lossAt n t recs work)
   pub clusters-is : clusters ≡ count n (newHeadAt n recs work)
   pub members-is : members ≡ count n (newMemberAt n recs work)
 
 -- the clusters of cl that are left
-abbrev pub leftOf : Heap → (ℕ → ℕ) → ℕ → ℕ
-leftOf H cl = keep (stays rule H cl) cl
+abbrev pub leftOf : Tuning → Heap → (ℕ → ℕ) → ℕ → ℕ
+leftOf t H cl = keep (stays (ruleOf t) H cl) cl
 
 -- What it leaves, where the walk formed the clusters cl: the records and the answers of the definition.
-pub record Judged (n : ℕ) (recs slots : List ℕ) (cl : ℕ → ℕ) (recs′ : List ℕ) (loss clusters members : ℕ) : Type 0 where
-  pub records : recs′ ≡ eachFrom 1 n (λ x r. encodedRecord (leftOf (view n recs slots) cl x)
-      (outBit (view n recs slots .kids) (view n recs slots .sink) (leftOf (view n recs slots) cl) x) (isSink r) false r) recs
-  pub loss-is : loss ≡ outLossOf rule (view n recs slots) cl
-  pub clusters-is : clusters ≡ count n (λ h. eqb (clusterOf n recs h) 0 && eqb (leftOf (view n recs slots) cl h) h)
-  pub members-is : members ≡ count n (λ x. eqb (clusterOf n recs x) 0 && not (eqb (leftOf (view n recs slots) cl x) 0))
+pub record Judged (n : ℕ) (t : Tuning) (recs slots : List ℕ) (cl : ℕ → ℕ) (recs′ : List ℕ) (loss clusters members : ℕ) : Type 0 where
+  pub records : recs′ ≡ eachFrom 1 n (λ x r. encodedRecord (leftOf t (view n recs slots) cl x)
+      (outBit (view n recs slots .kids) (view n recs slots .sink) (leftOf t (view n recs slots) cl) x) (isSink r) false r) recs
+  pub loss-is : loss ≡ outLossOf (ruleOf t) (view n recs slots) cl
+  pub clusters-is : clusters ≡ count n (λ h. eqb (clusterOf n recs h) 0 && eqb (leftOf t (view n recs slots) cl h) h)
+  pub members-is : members ≡ count n (λ x. eqb (clusterOf n recs x) 0 && not (eqb (leftOf t (view n recs slots) cl x) 0))

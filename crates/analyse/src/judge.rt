@@ -18,6 +18,7 @@ use crate::walk::target_of;
 use choices::loss;
 use choices::settled_record;
 use choices::stays;
+use layout::answers::Tuning;
 use records::cluster_of;
 use records::is_sink;
 use records::width_of;
@@ -79,9 +80,9 @@ pub(crate) fn tally(n: u32, records: &[u32], slots: &[u32], work: &mut [u32])
 }
 
 // What object x is left with.
-fn left(n: u32, records: &[u32], slots: &[u32], work: &[u32], x: u32) -> u32
+fn left(n: u32, t: Tuning, records: &[u32], slots: &[u32], work: &[u32], x: u32) -> u32
     requires { ⌜ Judgeable n (now records) (now slots) (now work) × (1 ≤ x) × (x ≤ n) ⌝ }
-    ensures { λ w. ⌜ w ≡ leftWord n (now (records .entry)) (now (slots .entry)) (now (work .entry)) x ⌝ }
+    ensures { λ w. ⌜ w ≡ leftWord n t (now (records .entry)) (now (slots .entry)) (now (work .entry)) x ⌝ }
 {
     let c = word_of(n, work, 9 * n as usize, x) % 4096;
     if c == 0 {
@@ -90,30 +91,30 @@ fn left(n: u32, records: &[u32], slots: &[u32], work: &[u32], x: u32) -> u32
     let old = cluster_of(record_at(n, records, c));
     let s = word_of(n, work, 8 * n as usize, c) / 4096;
     // A cluster of before the walk stays.
-    if (old == 0) & !stays(s, word_of(n, work, 0, c)) {
+    if (old == 0) & !stays(t, s, word_of(n, work, 0, c)) {
         return 0;
     }
     c + 4096 * (outs(n, records, slots, work, x, c) != 0) as u32
 }
 
 // Notes what each object is left with.
-pub(crate) fn decide(n: u32, records: &[u32], slots: &[u32], work: &mut [u32])
+pub(crate) fn decide(n: u32, t: Tuning, records: &[u32], slots: &[u32], work: &mut [u32])
     requires { ⌜ Judgeable n (now records) (now slots) (now work) ⌝ }
-    ensures { λ _. ⌜ Filling n n (leftWord n (now (records .entry)) (now (slots .entry)) (now (work .entry))) (now (work .entry)) (now (work .exit)) n ⌝ }
+    ensures { λ _. ⌜ Filling n n (leftWord n t (now (records .entry)) (now (slots .entry)) (now (work .entry))) (now (work .entry)) (now (work .exit)) n ⌝ }
 {
     let mut k: u32 = 0;
     while k < n {
         k += 1;
-        let w = left(n, records, slots, work, k);
+        let w = left(n, t, records, slots, work, k);
         let i = n as usize + k as usize;
         work[i] = w;
     }
 }
 
 // The members of the cluster that h, of the older cluster `old`, heads, if it is new and has too many out pointers.
-fn loss_of(n: u32, work: &[u32], old: u32, h: u32) -> u32
+fn loss_of(n: u32, t: Tuning, work: &[u32], old: u32, h: u32) -> u32
     requires { ⌜ (n ≤ 4095) × (10 * n < length (now work)) × (1 ≤ h) × (h ≤ n) × (sizeIn (area n (8 * n) (now work)) h ≤ 4095) ⌝ }
-    ensures { λ r. ⌜ ((recs : List ℕ) → old ≡ clusterOf n recs h → r ≡ lossAt n recs (now (work .entry)) h) × (r ≤ 4095) ⌝ }
+    ensures { λ r. ⌜ ((recs : List ℕ) → old ≡ clusterOf n recs h → r ≡ lossAt n t recs (now (work .entry)) h) × (r ≤ 4095) ⌝ }
 {
     if old != 0 {
         return 0;
@@ -122,13 +123,13 @@ fn loss_of(n: u32, work: &[u32], old: u32, h: u32) -> u32
         return 0;
     }
     let s = word_of(n, work, 8 * n as usize, h) / 4096;
-    loss(s, word_of(n, work, 0, h))
+    loss(t, s, word_of(n, work, 0, h))
 }
 
 // Writes what each object is left with into its record, and counts the answers.
-pub(crate) fn settle(n: u32, records: &mut [u32], work: &[u32]) -> Found
+pub(crate) fn settle(n: u32, t: Tuning, records: &mut [u32], work: &[u32]) -> Found
     requires { ⌜ (n ≤ length (now records)) × (10 * n < length (now work)) × (n ≤ 4095) × ((x : ℕ) → sizeIn (area n (8 * n) (now work)) x ≤ 4095) ⌝ }
-    ensures { λ f. ⌜ Settled n (now (records .entry)) (now (work .entry)) (now (records .exit)) (f .loss) (f .clusters) (f .members) ⌝ }
+    ensures { λ f. ⌜ Settled n t (now (records .entry)) (now (work .entry)) (now (records .exit)) (f .loss) (f .clusters) (f .members) ⌝ }
 {
     let mut loss: u32 = 0;
     let mut clusters: u32 = 0;
@@ -139,7 +140,7 @@ pub(crate) fn settle(n: u32, records: &mut [u32], work: &[u32]) -> Found
         k += 1;
         let w = word_of(n, work, n as usize, k);
         let old = cluster_of(r);
-        loss += loss_of(n, work, old, k);
+        loss += loss_of(n, t, work, old, k);
         clusters += ((old == 0) & (w % 4096 == k)) as u32;
         members += ((old == 0) & (w % 4096 != 0)) as u32;
         records[k as usize - 1] = settled_record(w, r);

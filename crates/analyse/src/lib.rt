@@ -22,6 +22,7 @@ use crate::limit::used_count;
 use choices::next_limit;
 use layout::answers::Analysed;
 use layout::answers::Control;
+use layout::answers::Tuning;
 use layout::control::with_analysis;
 use layout::limits::work_len;
 use places::fill_sets;
@@ -33,6 +34,7 @@ fn form_and_judge(
     n: u32,
     r: u32,
     limit: u32,
+    t: Tuning,
     records: &mut [u32],
     slots: &[u32],
     roots: &[u32],
@@ -41,12 +43,12 @@ fn form_and_judge(
     work: &mut [u32],
 ) -> Found
     requires { ⌜ Formable n limit (now records) (now slots) (now sinks) (now sets) (now work) (startsIn r (now roots)) × (r ≤ length (now roots)) ⌝ }
-    ensures { λ f. ⌜ Judged n (now (records .entry)) (now (slots .entry)) (formedFrom n (now (records .entry)) (now (slots .entry)) (now (sinks .entry)) limit (startsIn r (now (roots .entry)))) (now (records .exit)) (f .loss) (f .clusters) (f .members) ⌝ }
+    ensures { λ f. ⌜ Judged n t (now (records .entry)) (now (slots .entry)) (formedFrom n (now (records .entry)) (now (slots .entry)) (now (sinks .entry)) limit (startsIn r (now (roots .entry)))) (now (records .exit)) (f .loss) (f .clusters) (f .members) ⌝ }
 {
     form(n, r, limit, records, slots, roots, sinks, sets, work);
     tally(n, records, slots, work);
-    decide(n, records, slots, work);
-    settle(n, records, work)
+    decide(n, t, records, slots, work);
+    settle(n, t, records, work)
 }
 
 // Analyses the heap.
@@ -76,6 +78,7 @@ pub fn analyse(
         c.n,
         c.r,
         limit,
+        c.tuning,
         records,
         slots,
         roots,

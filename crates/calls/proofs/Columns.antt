@@ -11,11 +11,14 @@ use lib.Dec.{eqb, eqb·suc-zero}
 use lib.ListN.{length, take, drop, getD, set, replicate}
 use lib.Seq.{length-take-le}
 use borrow.Author.Tests.{eq-eqb, ne-eqb, eqb-false}
-use Rattle.layout.specs.Limits.{sinkMax, slotsLen, mapLen}
+use Rattle.layout.specs.Limits.{sinkMax, slotsLen, mapLen, within}
 use Rattle.records.specs.Record as R
 use Rattle.layout.specs.Field.{field}
 use Rattle.layout.specs.declared.answers.Control.{Control}
-use Rattle.layout.specs.ControlRecord.{newControl, withLast}
+use Rattle.layout.specs.ControlRecord.{badTuning, usualTuning, newControl, noControl, withLast}
+use Rattle.layout.specs.declared.answers.Tuning.{Tuning}
+use Rattle.layout.proofs.ControlLaws.{facts-tuning}
+use Rattle.layout.proofs.RefusalLaws.{first-fails}
 use Rattle.layout.specs.Refusal.{first, by, outcome}
 use Rattle.graph.specs.Heap.{pointers}
 use Rattle.rules.specs.Buffers.{recOf, usedWords, zeros}
@@ -24,13 +27,13 @@ use Rattle.rules.specs.Collect as Collect
 use Rattle.rules.specs.Save as Save
 use Rattle.rules.specs.Load as Load
 use Rattle.rules.specs.Image.{past, savedLast}
-use Rattle.rules.specs.Load.{sizes, imageTests, chunkTests, imageN, imageR}
+use Rattle.rules.specs.Load.{sizes, imageTests, inputTests, chunkTests, imageN, imageR}
 use Rattle.rules.specs.Calls as rule
 use Rattle.rules.specs.Calls.{Answer, gave, gotWord, gotWords, did, swept, savedAs}
 use Rattle.rules.specs.Plain.{Plain, Played, isFree, isSink, cellAt, wordsIn, plainSlots, plainCreated, plainStep, plainImage, plainLoaded, answer}
 use Rattle.rules.specs.Steps.{State, created, loaded, step}
 use Rattle.rules.specs.PlainOf.{plainOf}
-use Rattle.rules.specs.Demands.{Long}
+use Rattle.rules.specs.Demands.{Long, loads}
 use Rattle.rules.proofs.BoolLaws.{or-true}
 use Rattle.rules.proofs.Invariant.{Inv}
 use Rattle.rules.proofs.ListLaws.{length-numbers, take-zeros}
@@ -46,6 +49,7 @@ use Rattle.rules.proofs.SaveLaws.{heap-image, longest, save-within, save-contro
 use Rattle.rules.proofs.LoadTests.{load-tests}
 use Rattle.rules.proofs.LoadLaws.{load-answered}
 use Rattle.rules.proofs.Demand3.{LentOne, step-same, same-slots}
+use Rattle.rules.proofs.Tuned.{retuned-step}
 use Rattle.lines.specs.declared.kinds.Call.{Call}
 use Rattle.lines.specs.Kinds as kind
 use Rattle.lines.specs.Kinds.{number, withNumber}
@@ -53,7 +57,7 @@ use Rattle.calls.specs.declared.Ran.{Ran}
 use Rattle.calls.specs.Run as Run
 use Rattle.calls.specs.Run.{Outcome, run}
 use Rattle.calls.specs.Compare.{plainCall, isCompared, agrees}
-use Rattle.calls.specs.Columns.{next, NoCreate, Lent, Unsaved, lastImage, SameHeap, shown, SameOutput, Columns, creates, SameColumns}
+use Rattle.calls.specs.Columns.{next, NoCreate, Lent, Unsaved, lastImage, SameHeap, shown, SameOutput, Columns, Creates, SameColumns}
 use Rattle.calls.proofs.SizeLaws.{Sized, Fitting, sizes-kept}
 use Rattle.calls.proofs.PlacesLaws.{placesDeclared, placesLeft, placesLoaded, declared-places, left-places, loaded-places}
 
@@ -389,17 +393,28 @@ module _ (n r : ℕ) (P : Plain) (L b : List ℕ) (l : Call) (x : Outcome) (H : 
   load-sized : Sized n r (lastImage x)
   load-sized = subst (Sized n r) (sym (H .last)) (H .fits)
 
-  load-room : first (imageTests (lastImage x)) ≡ 0 → Long (imageN (lastImage x)) (imageR (lastImage x)) (x .records) (x .slots) (x .roots) (x .sinks) (x .sets)
+  abbrev tuning : Tuning
+  tuning = x .answer .control .tuning
+
+  -- the column's numbers are legal, so the image alone decides
+  load-tuned : badTuning tuning ≡ false
+  load-tuned = facts-tuning tuning (H .inv .sound .tuned)
+
+  load-input : first (inputTests tuning (lastImage x)) ≡ first (imageTests (lastImage x))
+  unfolding inputTests
+  load-input = first-fails 30 _ (badTuning tuning) load-tuned
+
+  load-room : first (inputTests tuning (lastImage x)) ≡ 0 → Long (imageN (lastImage x)) (imageR (lastImage x)) (x .records) (x .slots) (x .roots) (x .sinks) (x .sets)
   unfolding slotsLen
   load-room z =
-      let f = load-sized z in
+      let f = load-sized (sym load-input ∙ z) in
       let e = H .objects in
       let g = H .roots in
       let I = H .inv in
       (omega (arith, f, e, I .recs-long), omega (arith, f, e, I .slots-long), omega (arith, f, g, I .roots-long), I .sinks-long, omega (arith, f, e, I .sets-long))
 
   -- refused, the column goes on with the record that it has
-  load-state : stateOf (next (ofKind l kind.load) x) ≡ step (rule.load (lastImage x) (x .records) (x .slots) (x .roots) (x .sinks) (x .sets)) s .after
+  load-state : stateOf (next (ofKind l kind.load) x) ≡ step (rule.load tuning (lastImage x) (x .records) (x .slots) (x .roots) (x .sinks) (x .sets)) s .after
   unfolding next run Run.load Run.ranLoad step answer loaded Load.load by
   load-state =
       all-by
@@ -410,20 +425,23 @@ module _ (n r : ℕ) (P : Plain) (L b : List ℕ) (l : Call) (x : Outcome) (H : 
 
   -- a size of the record that it answers
   load-told : (f : Control → ℕ) (k : ℕ)
-      → first (Load.loadTests (lastImage x) (x .records) (x .slots) (x .roots) (x .sinks) (x .sets)) ≡ first (imageTests (lastImage x))
+      → first (Load.loadTests tuning (lastImage x) (x .records) (x .slots) (x .roots) (x .sinks) (x .sets)) ≡ first (imageTests (lastImage x))
       → (first (imageTests (lastImage x)) ≡ 0
-      → f (withLast (savedLast (sizes (lastImage x))) (newControl (imageN (lastImage x)) (imageR (lastImage x)))) ≡ k)
-      → f (newControl 0 0) ≡ 0
-      → f (Load.load (lastImage x) (x .records) (x .slots) (x .roots) (x .sinks) (x .sets) .answer .control) ≡ outcome (imageTests (lastImage x)) k (λ m. 0)
+      → f (withLast (savedLast (sizes (lastImage x))) (newControl (imageN (lastImage x)) (imageR (lastImage x)) tuning)) ≡ k)
+      → f noControl ≡ 0
+      → f (Load.load tuning (lastImage x) (x .records) (x .slots) (x .roots) (x .sinks) (x .sets) .answer .control) ≡ outcome (imageTests (lastImage x)) k (λ m. 0)
   unfolding Load.load
   load-told f k t h e = same-by _ _ _ _ _ _ (λ (o : Load.Outcome). f (o .answer .control)) (λ (m : ℕ). m) t (λ z. h (sym t ∙ z)) (λ m. e)
+
+  load-decides : first (Load.loadTests tuning (lastImage x) (x .records) (x .slots) (x .roots) (x .sinks) (x .sets)) ≡ first (imageTests (lastImage x))
+  load-decides = load-tests tuning (lastImage x) (x .records) (x .slots) (x .roots) (x .sinks) (x .sets) load-room ∙ load-input
 
   load-tells : Tells n (ofKind l kind.load) (toldBy (lastImage x)) (next (ofKind l kind.load) x)
   unfolding next run Run.load Run.ranLoad withLast newControl
   load-tells =
-      let t = load-tests (lastImage x) (x .records) (x .slots) (x .roots) (x .sinks) (x .sets) load-room in
+      let t = load-decides in
       record {
-        refusal = load-answered (lastImage x) (x .records) (x .slots) (x .roots) (x .sinks) (x .sets) ∙ t;
+        refusal = load-answered tuning (lastImage x) (x .records) (x .slots) (x .roots) (x .sinks) (x .sets) ∙ t;
         first = load-told (λ (c : Control). c .n) n t (λ z. load-sized z .0) refl;
         second = load-told (λ (c : Control). c .r) r t (λ z. load-sized z .1) refl;
         words = λ z. absurd (eqb-false kind.load kind.show refl z);
@@ -433,18 +451,22 @@ module _ (n r : ℕ) (P : Plain) (L b : List ℕ) (l : Call) (x : Outcome) (H : 
   load-list : take sinkMax (next (ofKind l kind.load) x .sinks) ≡ placesLoaded (lastImage x) L
   load-list =
       ap (λ (t : State). take sinkMax (t .sinks)) load-state
-      ∙ loaded-places s (H .inv) (lastImage x) (x .records) (x .slots) (x .roots) (x .sinks) (x .sets) (load-tests (lastImage x) (x .records) (x .slots) (x .roots) (x .sinks) (x .sets) load-room)
+      ∙ loaded-places s (H .inv) tuning (lastImage x) (x .records) (x .slots) (x .roots) (x .sinks) (x .sets) load-decides
       ∙ ap (placesLoaded (lastImage x)) (H .list)
 
-  load-held : Held n r (plainStep (rule.load (lastImage x) [] [] [] [] []) P .after) (placesLoaded (lastImage x) L) (lastImage x) (next (ofKind l kind.load) x)
+  load-held : Held n r (plainStep (rule.load usualTuning (lastImage x) [] [] [] [] []) P .after) (placesLoaded (lastImage x) L) (lastImage x) (next (ofKind l kind.load) x)
   unfolding next run Run.load Run.ranLoad plainStep
   load-held =
-      let C = called n r (rule.load (lastImage x) (x .records) (x .slots) (x .roots) (x .sinks) (x .sets)) P L _ b (lastImage x) x (next (ofKind l kind.load) x) H load-state (record { work = refl; map = refl; image = refl }) load-room load-sized load-list refl load-sized in
-      C .held
+      let C = called n r (rule.load tuning (lastImage x) (x .records) (x .slots) (x .roots) (x .sinks) (x .sets)) P L _ b (lastImage x) x (next (ofKind l kind.load) x) H load-state (record { work = refl; map = refl; image = refl }) load-room load-sized load-list refl load-sized in
+      subst (λ (Q : Played Plain). Held n r (Q .after) (placesLoaded (lastImage x) L) (lastImage x) (next (ofKind l kind.load) x))
+      (retuned-step (loads tuning usualTuning (lastImage x) (x .records) (x .slots) (x .roots) (x .sinks) (x .sets) (load-tuned ∙ usual)) P) (C .held)
+    where
+      usual : false ≡ badTuning usualTuning
+      usual = unfold badTuning within in refl
 
-  was-loaded : Column n r (ofKind l kind.load) (toldBy b) (plainStep (rule.load b [] [] [] [] []) P .after) (placesLoaded b L) b (next (ofKind l kind.load) x)
+  was-loaded : Column n r (ofKind l kind.load) (toldBy b) (plainStep (rule.load usualTuning b [] [] [] [] []) P .after) (placesLoaded b L) b (next (ofKind l kind.load) x)
   was-loaded =
-      subst (λ (i : List ℕ). Column n r (ofKind l kind.load) (toldBy i) (plainStep (rule.load i [] [] [] [] []) P .after) (placesLoaded i L) i (next (ofKind l kind.load) x)) (H .last)
+      subst (λ (i : List ℕ). Column n r (ofKind l kind.load) (toldBy i) (plainStep (rule.load usualTuning i [] [] [] [] []) P .after) (placesLoaded i L) i (next (ofKind l kind.load) x)) (H .last)
       (record { tells = load-tells; held = load-held })
 
   -- the outcome of a line that makes no call
@@ -561,20 +583,32 @@ unfolding imageTests chunkTests past first
 none-sized n r e = absurd (suc-ne-zero 25 e)
 
 -- a create that is accepted
-begun : (n r : ℕ) (x : Outcome) → next (creates n r) x .answer .refusal ≡ 0 → Lent n r x → Unsaved x → Held n r (plainCreated n r) (replicate sinkMax 0) [] (next (creates n r) x)
-unfolding next run Run.create newControl created zeros
-begun n r x e h u =
-    let a = accepted n r (x .records) (x .slots) (x .roots) (x .sinks) (x .sets) e in
+abbrev create-of : Outcome → ℕ → ℕ → Tuning → Outcome
+create-of x = Run.create (x .answer .control) (x .answer .saved) (x .records) (x .slots) (x .roots) (x .sinks) (x .sets) (x .work) (x .map) (x .image)
+
+made-with : (n r : ℕ) (t : Tuning) (x : Outcome) → create-of x n r t .answer .refusal ≡ 0 → Lent n r x → Unsaved x
+    → Held n r (plainCreated n r) (replicate sinkMax 0) [] (create-of x n r t)
+unfolding Run.create newControl created zeros
+made-with n r t x e h u =
+    let a = accepted n r t (x .records) (x .slots) (x .roots) (x .sinks) (x .sets) e in
     record {
-      inv = subst Inv (sym (a .1)) (zeroed-inv n r (x .records) (x .slots) (x .roots) (x .sinks) (x .sets) (a .0));
+      inv = subst Inv (sym (a .1)) (zeroed-inv n r t (x .records) (x .slots) (x .roots) (x .sinks) (x .sets) (a .0));
       objects = ap (λ (s : State). s .control .n) (a .1);
       roots = ap (λ (s : State). s .control .r) (a .1);
-      plain = ap plainOf (a .1) ∙ zeroed-plain n r (x .records) (x .slots) (x .roots) (x .sinks) (x .sets) (a .0);
+      plain = ap plainOf (a .1) ∙ zeroed-plain n r t (x .records) (x .slots) (x .roots) (x .sinks) (x .sets) (a .0);
       list = ap (λ (s : State). take sinkMax (s .sinks)) (a .1) ∙ take-zeros 0 sinkMax (x .sinks) (a .0 .sinks-long);
       lent = h;
       last = ap (λ (k : ℕ). take k (x .image)) u;
       fits = none-sized n r;
     }
 
+begun : (n r : ℕ) (l : Call) (x : Outcome) → Creates n r l → next l x .answer .refusal ≡ 0 → Lent n r x → Unsaved x
+    → Held n r (plainCreated n r) (replicate sinkMax 0) [] (next l x)
+begun n r l x c e h u =
+    subst (Held n r (plainCreated n r) (replicate sinkMax 0) []) (sym made) (made-with n r (Run.tuningIn l) x (ap (λ (o : Outcome). o .answer .refusal) (sym made) ∙ e) h u)
+  where
+    made : next l x ≡ create-of x n r (Run.tuningIn l)
+    made = unfold next run in (rw (eq-eqb (l .kind) kind.create (c .0), c .1, c .2) refl)
+
 pub same-columns : SameColumns
-same-columns n r x y e f h k u v calls c = columns n r (plainCreated n r) _ [] calls _ _ (begun n r x e h u) (begun n r y f k v) c
+same-columns n r l m x y a b e f h k u v calls c = columns n r (plainCreated n r) _ [] calls _ _ (begun n r l x a e h u) (begun n r m y b f k v) c

@@ -15,6 +15,7 @@ use Rattle.rules.specs.Buffers.{numbers}
 use Rattle.rules.specs.View.{view}
 use Rattle.rules.specs.DeclareSink as DeclareSink
 use Rattle.rules.specs.Collect.{Kind}
+use Rattle.layout.specs.declared.answers.Tuning.{Tuning}
 use Rattle.rules.specs.Load.{imageTests, loadedSinks, loadTests}
 use Rattle.rules.specs.Load as Load
 use Rattle.rules.specs.Calls.{declareSink, collect, load}
@@ -92,13 +93,13 @@ module _ (s : State) (I : Inv s) where
       unfolding placesLeft
       left-places = ext-getD 0 _ _ (left-long ∙ sym (length-numbers _ 0 sinkMax)) (λ k p. left-at k (omega (arith, left-long)))
 
-  pub loaded-places : (b recs slots roots list sets : List ℕ) → first (loadTests b recs slots roots list sets) ≡ first (imageTests b)
-      → take sinkMax (step (load b recs slots roots list sets) s .after .sinks) ≡ placesLoaded b before
+  pub loaded-places : (t : Tuning) (b recs slots roots list sets : List ℕ) → first (loadTests t b recs slots roots list sets) ≡ first (imageTests b)
+      → take sinkMax (step (load t b recs slots roots list sets) s .after .sinks) ≡ placesLoaded b before
   unfolding step answer placesLoaded outcome
-  loaded-places b recs slots roots list sets e =
-      go _ refl ∙ ap (λ (m : ℕ). by m (loadedSinks b ++ replicate (sinkMax - length (loadedSinks b)) 0) (λ k. before)) (load-answered b recs slots roots list sets ∙ e)
+  loaded-places t b recs slots roots list sets e =
+      go _ refl ∙ ap (λ (m : ℕ). by m (loadedSinks b ++ replicate (sinkMax - length (loadedSinks b)) 0) (λ k. before)) (load-answered t b recs slots roots list sets ∙ e)
     where
-      go : (m : ℕ) → Load.load b recs slots roots list sets .answer .refusal ≡ m
-          → take sinkMax (by m (loaded b recs slots roots list sets) (λ k. s) .sinks) ≡ by m (loadedSinks b ++ replicate (sinkMax - length (loadedSinks b)) 0) (λ k. before)
-      go zero f = unfold by in (load-sinks b recs slots roots list sets f)
+      go : (m : ℕ) → Load.load t b recs slots roots list sets .answer .refusal ≡ m
+          → take sinkMax (by m (loaded t b recs slots roots list sets) (λ k. s) .sinks) ≡ by m (loadedSinks b ++ replicate (sinkMax - length (loadedSinks b)) 0) (λ k. before)
+      go zero f = unfold by in (load-sinks t b recs slots roots list sets f)
       go (suc m) f = unfold by in refl

@@ -11,6 +11,7 @@ use Rattle.rules.specs.Write as Write
 use Rattle.rules.specs.SetRoot as SetRoot
 use Rattle.rules.specs.Analyse as Analyse
 use Rattle.rules.specs.Collect as Collect
+use Rattle.layout.specs.declared.answers.Tuning.{Tuning}
 use Rattle.rules.specs.Load.{imageTests, imageN, imageR}
 use Rattle.rules.specs.Load as Load
 use Rattle.rules.specs.Calls.{Call, allocate, allocateInPlace, read, show, write, writeInPlace, setRoot, declareSink, collect, analyse, save, load}
@@ -39,7 +40,7 @@ Fitting n r (declareSink i) = Unit {0}
 Fitting n r (collect kind work map) = Unit {0}
 Fitting n r (analyse work) = Unit {0}
 Fitting n r (save out) = Unit {0}
-Fitting n r (load image recs slots roots list sets) = Sized n r image
+Fitting n r (load t image recs slots roots list sets) = Sized n r image
 
 abbrev Sizes : ℕ → ℕ → Control → Type 0
 Sizes n r c = (c .n ≡ n) × (c .r ≡ r)
@@ -53,13 +54,13 @@ module _ (n r : ℕ) (s : State) (z : Sizes n r (s .control)) where
   unfolding Write.write withWriteLoss
   write-sizes i k w = all-by (λ (o : Write.Outcome). Sizes n r (o .answer .control)) _ _ _ (λ _. z) (λ _. z)
 
-  load-sizes : (b recs slots roots list sets : List ℕ) → Sized n r b → Sizes n r (step (load b recs slots roots list sets) s .after .control)
+  load-sizes : (t : Tuning) (b recs slots roots list sets : List ℕ) → Sized n r b → Sizes n r (step (load t b recs slots roots list sets) s .after .control)
   unfolding step answer loaded Load.load withLast newControl by
-  load-sizes b recs slots roots list sets h =
+  load-sizes t b recs slots roots list sets h =
       all-by
       (λ (o : Load.Outcome).
       Sizes n r (by (o .answer .refusal) (record { control = o .answer .control; records = o .records; slots = o .slots; roots = o .roots; sinks = o .sinks; sets = o .sets }) (λ k. s) .control)) _ _ _
-      (λ e. h (load-passed b recs slots roots list sets e .0)) (λ _. z)
+      (λ e. h (load-passed t b recs slots roots list sets e .1)) (λ _. z)
 
   pub sizes-kept : (call : Call) → Fitting n r call → Sizes n r (step call s .after .control)
   unfolding step answer Allocate.allocateInPlace Write.writeInPlace SetRoot.setRoot Collect.collect Analyse.analyse withAnalysis
@@ -75,4 +76,4 @@ module _ (n r : ℕ) (s : State) (z : Sizes n r (s .control)) where
   sizes-kept (collect kind work map) h = all-by (λ (o : Collect.Outcome). Sizes n r (o .answer .control)) _ _ _ (λ _. z) (λ _. z)
   sizes-kept (analyse work) h = all-by (λ (o : Analyse.Outcome). Sizes n r (o .answer .control)) _ _ _ (λ _. z) (λ _. z)
   sizes-kept (save out) h = subst (λ (t : State). Sizes n r (t .control)) (sym (save-stays s out)) z
-  sizes-kept (load image recs slots roots list sets) h = load-sizes image recs slots roots list sets h
+  sizes-kept (load t image recs slots roots list sets) h = load-sizes t image recs slots roots list sets h

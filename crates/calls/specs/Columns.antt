@@ -8,7 +8,7 @@ use Rattle.layout.specs.Limits.{sinkMax, slotsLen, workLen, mapLen}
 use Rattle.records.specs.Record.{width, free, isSink}
 use Rattle.rules.specs.Buffers.{recOf}
 use Rattle.lines.specs.declared.kinds.Call.{Call}
-use Rattle.lines.specs.Kinds.{create, show, collect}
+use Rattle.lines.specs.Kinds.{create, show, collect, number}
 use Rattle.calls.specs.Run.{Outcome, run}
 use Rattle.calls.specs.Compare.{plainCall, agrees}
 
@@ -58,13 +58,14 @@ Columns n r (l ∷ ls) x y =
     SameHeap n r x y × (agrees l (next l x .answer) (next (plainCall l) y .answer) ≡ true) × SameOutput n l (next l x) (next (plainCall l) y)
     × Columns n r ls (next l x) (next (plainCall l) y)
 
--- the call that creates a heap of n objects and r roots
-abbrev pub creates : ℕ → ℕ → Call
-creates n r = record { kind = create; count = 2; numbers = n ∷ r ∷ 0 ∷ [] }
+-- a call that creates a heap of n objects and r roots, with the usual numbers of the analysis or with others
+abbrev pub Creates : ℕ → ℕ → Call → Type 0
+Creates n r l = (l .kind ≡ create) × (number 0 l ≡ n) × (number 1 l ≡ r)
 
--- for two columns that begin with an accepted create of n objects and r roots, each in buffers of its own, of any contents, and with nothing saved
+-- for two columns that begin with an accepted create of n objects and r roots, each in buffers of its own, of any contents, and with nothing saved; the
+-- numbers of the analysis need not be the same
 abbrev pub SameColumns : Type 0
 SameColumns =
-    (n r : ℕ) (x y : Outcome) → next (creates n r) x .answer .refusal ≡ 0 → next (creates n r) y .answer .refusal ≡ 0
+    (n r : ℕ) (l m : Call) (x y : Outcome) → Creates n r l → Creates n r m → next l x .answer .refusal ≡ 0 → next m y .answer .refusal ≡ 0
     → Lent n r x → Lent n r y → Unsaved x → Unsaved y → (calls : List Call) → NoCreate calls
-    → Columns n r calls (next (creates n r) x) (next (creates n r) y)
+    → Columns n r calls (next l x) (next m y)

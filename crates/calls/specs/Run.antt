@@ -7,6 +7,8 @@ use lib.ListN.{take}
 use Rattle.layout.specs.declared.answers.Control.{Control}
 use Rattle.layout.specs.declared.answers.Done.{Done}
 use Rattle.layout.specs.declared.answers.Saved.{Saved}
+use Rattle.layout.specs.declared.answers.Tuning.{Tuning}
+use Rattle.layout.specs.ControlRecord.{tuningOf, usualTuning}
 use Rattle.rules.specs.Create as Create
 use Rattle.rules.specs.Allocate as Allocate
 use Rattle.rules.specs.Read as Read
@@ -20,7 +22,7 @@ use Rattle.rules.specs.Save as Save
 use Rattle.rules.specs.Load as Load
 use Rattle.lines.specs.declared.kinds.Call.{Call}
 use Rattle.lines.specs.Kinds as kind
-use Rattle.lines.specs.Kinds.{number}
+use Rattle.lines.specs.Kinds.{number, tunedCount}
 use Rattle.calls.specs.declared.Ran.{Ran}
 
 -- the answer and the buffers after the call
@@ -51,15 +53,19 @@ ranSave a saved = ran (a .refusal) (a .length) 0 0 (a .control) (cond (eqb (a .r
 unfoldable pub ranLoad : Done → Control → ℕ → Ran
 ranLoad a c saved = ran (a .refusal) (a .control .n) (a .control .r) 0 (cond (eqb (a .refusal) 0) (a .control) c) saved
 
+-- the numbers of the analysis that a create names; the usual ones where it names none
+unfoldable pub tuningIn : Call → Tuning
+tuningIn l = cond (eqb (l .count) tunedCount) (tuningOf (number 2 l) (number 3 l) (number 4 l)) usualTuning
+
 -- c is the control record that the call is handed; the first `saved` bytes of the image are what was saved last
 module _ (c : Control) (saved : ℕ) (recs slots roots list sets work map image : List ℕ) where
   -- nothing is done
   unfoldable pub idle : Outcome
   idle = gives (ran 0 0 0 0 c saved) recs slots roots list sets work map image
 
-  unfoldable pub create : ℕ → ℕ → Outcome
-  create n r =
-      let o = Create.create n r recs slots roots list sets in
+  unfoldable pub create : ℕ → ℕ → Tuning → Outcome
+  create n r t =
+      let o = Create.create n r t recs slots roots list sets in
       gives (ran (o .answer .refusal) 0 0 0 (o .answer .control) saved) (o .records) (o .slots) (o .roots) (o .sinks) (o .sets) work map image
 
   unfoldable pub allocate : ℕ → Outcome
@@ -106,10 +112,10 @@ module _ (c : Control) (saved : ℕ) (recs slots roots list sets work map image 
       let o = Save.save c recs slots roots list sets image in
       gives (ranSave (o .answer) saved) recs slots roots list sets work map (o .image)
 
-  -- of the last image
+  -- of the last image, with the numbers that the column has
   unfoldable pub load : Outcome
   load =
-      let o = Load.load (take saved image) recs slots roots list sets in
+      let o = Load.load (c .tuning) (take saved image) recs slots roots list sets in
       gives (ranLoad (o .answer) c saved) (o .records) (o .slots) (o .roots) (o .sinks) (o .sets) work map image
 
   -- by clusters unless the number is 0
@@ -119,7 +125,7 @@ module _ (c : Control) (saved : ℕ) (recs slots roots list sets work map image 
   -- the call by its kind; a line that makes none does nothing
   unfoldable pub run : Call → Outcome
   run l =
-      cond (eqb (l .kind) kind.create) (create (number 0 l) (number 1 l))
+      cond (eqb (l .kind) kind.create) (create (number 0 l) (number 1 l) (tuningIn l))
       (cond (eqb (l .kind) kind.allocate) (allocate (number 0 l))
       (cond (eqb (l .kind) kind.read) (read (number 0 l) (number 1 l))
       (cond (eqb (l .kind) kind.show) (show (number 0 l))

@@ -12,6 +12,8 @@ use collect::collect;
 use heap::allocate::allocate;
 use heap::create::create;
 use layout::answers::*;
+use layout::control::tuning;
+use layout::control::usual_tuning;
 use lines::kinds::*;
 use loads::load;
 use saves::save;
@@ -103,6 +105,7 @@ fn of_loaded(a: Done, c: Control, saved: u32) -> Ran
 
 // Loads as many of the bytes as were saved last.
 fn load_last(
+    t: Tuning,
     saved: u32,
     image: &[u8],
     records: &mut [u32],
@@ -112,13 +115,24 @@ fn load_last(
     sets: &mut [u64],
 ) -> Done
     ensures { λ a. ⌜ Load.gives a (now (records .exit)) (now (slots .exit)) (now (roots .exit)) (now (sinks .exit)) (now (sets .exit))
-        ≡ Load.load (take saved (now (image .entry))) (now (records .entry)) (now (slots .entry)) (now (roots .entry)) (now (sinks .entry)) (now (sets .entry)) ⌝ }
+        ≡ Load.load t (take saved (now (image .entry))) (now (records .entry)) (now (slots .entry)) (now (roots .entry)) (now (sinks .entry)) (now (sets .entry)) ⌝ }
 {
     let end = saved as usize;
     if image.len() < end {
-        return load(image, records, slots, roots, sinks, sets);
+        return load(t, image, records, slots, roots, sinks, sets);
     }
-    load(&image[..end], records, slots, roots, sinks, sets)
+    load(t, &image[..end], records, slots, roots, sinks, sets)
+}
+
+// The numbers of the analysis that a create names; the usual ones where it names none.
+fn tuning_in(call: Call) -> Tuning
+    ensures { λ t. ⌜ t ≡ Run.tuningIn call ⌝ }
+{
+    let v = call.numbers;
+    if call.count == TUNED {
+        return tuning(v[2], v[3], v[4]);
+    }
+    usual_tuning()
 }
 
 // The call as a heap without clusters runs it: no analysis, and every collection plainly.
@@ -162,7 +176,16 @@ pub fn run(
     let v = call.numbers;
     match kind {
         CREATE => of_done(
-            create(v[0], v[1], records, slots, roots, sinks, sets),
+            create(
+                v[0],
+                v[1],
+                tuning_in(call),
+                records,
+                slots,
+                roots,
+                sinks,
+                sets,
+            ),
             saved,
         ),
         ALLOCATE => of_allocated(allocate(c, v[0], records, slots), saved),
@@ -184,7 +207,7 @@ pub fn run(
         ),
         SAVE => of_saved(save(c, records, slots, roots, sinks, sets, image), saved),
         LOAD => of_loaded(
-            load_last(saved, image, records, slots, roots, sinks, sets),
+            load_last(c.tuning, saved, image, records, slots, roots, sinks, sets),
             c,
             saved,
         ),

@@ -1,14 +1,16 @@
 -- Each choice, each way that the code takes.
 -- Assumes nothing.
-use Prim.Native.Nat.{ℕ, _+_, _*_, _%_, _≤_, _<_}
+use Prim.Native.Nat.{ℕ, _+_, _-_, _*_, _%_, _^_, _≤_, _<_}
 use mathlib.Core.Path.{_≡_, refl, sym, ap, _∙_}
 use mathlib.Core.Bool.{Bool, true, false, not, cond}
 use mathlib.Core.Logic.{_≢_}
 use native.Mathlib.Decide.{decLe}
+use native.Mathlib.Nat.{mul-le-mul}
 use native.Mathlib.Omega.{arith}
 use lib.Dec.{ltb, leb}
 use borrow.Author.Tests.{ne-eqb, le-ltb, lt-ltb, le-leb, lt-leb}
 use Rattle.layout.specs.declared.answers.Control.{Control}
+use Rattle.layout.specs.declared.answers.Tuning.{Tuning}
 use Rattle.layout.proofs.FieldLaws.{flag-stays, flag-put-other}
 use Rattle.records.specs.Record.{isWritten, isSink, withCluster, withOut, withWritten}
 use Rattle.rules.specs.View.{encodedRecord}
@@ -19,21 +21,21 @@ use Rattle.choices.specs.Choices.{joined, goesBy, overBy, lasts, lossBy,
 -- ---- the next limit
 
 module _ (c : Control) (used m : ℕ) where
-  pub limit-first : c .limit ≡ 0 → m ≡ clamped (sixteenth used) → m ≡ nextLimit c used
+  pub limit-first : c .limit ≡ 0 → m ≡ clamped (c .tuning .«lowest_limit») (sixteenth used) → m ≡ nextLimit c used
   unfolding nextLimit
   limit-first z e = e ∙ rw z refl
 
-  pub limit-halved : c .limit ≢ 0 → c .«out_loss» < c .«write_loss» → m ≡ clamped (half (c .limit)) → m ≡ nextLimit c used
+  pub limit-halved : c .limit ≢ 0 → c .«out_loss» < c .«write_loss» → m ≡ clamped (c .tuning .«lowest_limit») (half (c .limit)) → m ≡ nextLimit c used
   unfolding nextLimit
   limit-halved p h e = e ∙ rw (ne-eqb (c .limit) 0 p, lt-ltb (c .«out_loss») (c .«write_loss») h) refl
 
-  pub limit-doubled : c .limit ≢ 0 → c .«write_loss» ≤ c .«out_loss» → m ≡ clamped (2 * c .limit) → m ≡ nextLimit c used
+  pub limit-doubled : c .limit ≢ 0 → c .«write_loss» ≤ c .«out_loss» → m ≡ clamped (c .tuning .«lowest_limit») (2 * c .limit) → m ≡ nextLimit c used
   unfolding nextLimit
   limit-doubled p h e = e ∙ rw (ne-eqb (c .limit) 0 p, le-ltb (c .«out_loss») (c .«write_loss») h) refl
 
-pub clamp-most : (x : ℕ) → 2047 < x → 4095 ≡ clamped (2 * x)
+pub clamp-most : (lowest x : ℕ) → 2047 < x → clamped lowest 4095 ≡ clamped lowest (2 * x)
 unfolding clamped
-clamp-most x h = omega arith
+clamp-most lowest x h = omega arith
 
 -- ---- the cluster that an object gets
 
@@ -61,28 +63,34 @@ module _ (limit r size o c : ℕ) where
 
 -- ---- a new cluster of s members with p out pointers
 
-module _ (s p : ℕ) (b : Bool) (o : b ≡ overBy s p) where
-  pub lasts-over : b ≡ true → false ≡ lasts s p
-  unfolding lasts
-  lasts-over t = rw (← o, t) refl
+-- words of 64 bits hold the products of any two numbers of 32
+pub product-fits : (a b : ℕ) → a < 2 ^ 32 → b < 2 ^ 32 → a * b < 2 ^ 64
+product-fits a b p q =
+    let h : a * b ≤ (2 ^ 32 - 1) * (2 ^ 32 - 1) = mul-le-mul {n₁ = a} {m₁ = b} {n₂ = 2 ^ 32 - 1} {m₂ = 2 ^ 32 - 1} (omega arith) (omega arith) in
+    omega (arith, h)
 
-  pub lasts-least : b ≡ false → leb 4 s ≡ lasts s p
+module _ (t : Tuning) (s p : ℕ) (b : Bool) (o : b ≡ overBy t s p) where
+  pub lasts-over : b ≡ true → false ≡ lasts t s p
   unfolding lasts
-  lasts-least t = rw (← o, t) (go (decLe 4 s))
+  lasts-over e = rw (← o, e) refl
+
+  pub lasts-least : b ≡ false → leb (t .«least_members») s ≡ lasts t s p
+  unfolding lasts
+  lasts-least e = rw (← o, e) (go (t .«least_members») (decLe (t .«least_members») s))
     where
-      go : Dec (4 ≤ s) → leb 4 s ≡ not (ltb s 4)
-      go (yes l) = rw (le-leb 4 s l, le-ltb s 4 l) refl
-      go (no l) = rw (lt-leb 4 s (omega (arith, l)), lt-ltb s 4 (omega (arith, l))) refl
+      go : (k : ℕ) → Dec (k ≤ s) → leb k s ≡ not (ltb s k)
+      go k (yes l) = rw (le-leb k s l, le-ltb s k l) refl
+      go k (no l) = rw (lt-leb k s (omega (arith, l)), lt-ltb s k (omega (arith, l))) refl
 
-  loss-is : lossBy s p ≡ cond (not b) 0 s
+  loss-is : lossBy t s p ≡ cond (not b) 0 s
   unfolding lossBy
   loss-is = rw (← o) (sym (cond-not b 0 s))
 
-  pub loss-none : not b ≡ true → 0 ≡ lossBy s p
-  loss-none t = sym (loss-is ∙ rw t refl)
+  pub loss-none : not b ≡ true → 0 ≡ lossBy t s p
+  loss-none e = sym (loss-is ∙ rw e refl)
 
-  pub loss-over : not b ≡ false → s ≡ lossBy s p
-  loss-over t = sym (loss-is ∙ rw t refl)
+  pub loss-over : not b ≡ false → s ≡ lossBy t s p
+  loss-over e = sym (loss-is ∙ rw e refl)
 
 -- ---- the record of an object when the analysis is over
 

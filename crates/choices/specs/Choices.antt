@@ -4,7 +4,7 @@ use mathlib.Core.Bool.{Bool, true, false, not, cond, _&&_, _||_}
 use lib.Dec.{eqb, ltb, leb}
 use Rattle.records.specs.Record.{isWritten, isSink}
 use Rattle.rules.specs.View.{encodedRecord}
-use Rattle.rules.specs.Analyse.{least, outPerTen}
+use Rattle.layout.specs.declared.answers.Tuning.{Tuning}
 
 -- the cluster that an object in none gets: none where it is barred, the one passed on where that has room, else its own
 unfoldable pub joined : Bool → Bool → ℕ → ℕ → ℕ
@@ -17,16 +17,16 @@ unfoldable pub goesBy : ℕ → ℕ → ℕ → ℕ → ℕ → ℕ
 goesBy limit r size o c = joined (isWritten r || isSink r) (not (eqb c 0) && leb (size + 1) limit) o c
 
 -- s members have p out pointers: too many
-unfoldable pub overBy : ℕ → ℕ → Bool
-overBy s p = ltb (outPerTen * s) (10 * p)
+unfoldable pub overBy : Tuning → ℕ → ℕ → Bool
+overBy t s p = ltb (t .«outs_per_ten» * s) (10 * p)
 
 -- a new cluster of s members with p out pointers stays: neither too many out pointers nor too few members
-unfoldable pub lasts : ℕ → ℕ → Bool
-lasts s p = not (overBy s p || ltb s least)
+unfoldable pub lasts : Tuning → ℕ → ℕ → Bool
+lasts t s p = not (overBy t s p || ltb s (t .«least_members»))
 
 -- what it adds to the out loss
-unfoldable pub lossBy : ℕ → ℕ → ℕ
-lossBy s p = cond (overBy s p) s 0
+unfoldable pub lossBy : Tuning → ℕ → ℕ → ℕ
+lossBy t s p = cond (overBy t s p) s 0
 
 -- record r of an object that is left with w: the cluster, and 4096 where it is an out member
 unfoldable pub settled : ℕ → ℕ → ℕ

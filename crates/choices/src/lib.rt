@@ -1,22 +1,17 @@
 // The choices of an analysis ("Analysis"), each from a record or a few numbers: the next size limit, the cluster that an object gets, whether a
 // new cluster stays, and the record that is left. Small total functions.
 ghost use mathlib.Core.Path.{_≡_};
+ghost use Prim.Native.Nat.{max};
 ghost use Rattle.rules.specs.Analyse.{sixteenth, half, clamped, nextLimit};
 ghost use Rattle.choices.specs.Choices.{goesBy, overBy, lasts, lossBy, settled};
 use layout::answers::Control;
+use layout::answers::Tuning;
 use layout::limits::LIMIT_MAX;
-use layout::limits::LIMIT_MIN;
 use records::is_sink;
 use records::is_written;
 use records::with_cluster;
 use records::with_out;
 use records::with_written;
-
-// A new cluster with fewer members is deleted.
-const LEAST: u32 = 4;
-
-// And one with more out pointers than this for ten members.
-const OUT_PER_TEN: u64 = 25;
 
 // ---- the size limit
 
@@ -34,34 +29,39 @@ fn half(x: u32) -> u32
     x / 2
 }
 
-// x, clamped to the range of limits.
-pub fn clamp(x: u32) -> u32
-    ensures { λ m. ⌜ m ≡ clamped x ⌝ }
+// x, or the lowest if x is below it.
+fn raised(lowest: u32, x: u32) -> u32
+    ensures { λ m. ⌜ m ≡ max lowest x ⌝ }
 {
-    if x < LIMIT_MIN {
-        return LIMIT_MIN;
-    }
+    if x < lowest { lowest } else { x }
+}
+
+// x, clamped to the range of limits.
+pub fn clamp(lowest: u32, x: u32) -> u32
+    ensures { λ m. ⌜ m ≡ clamped lowest x ⌝ }
+{
     if LIMIT_MAX < x {
-        return LIMIT_MAX;
+        return raised(lowest, LIMIT_MAX);
     }
-    x
+    raised(lowest, x)
 }
 
 // The next size limit, where so many objects are in use.
 pub fn next_limit(c: Control, used: u32) -> u32
     ensures { λ m. ⌜ m ≡ nextLimit c used ⌝ }
 {
+    let lowest = c.tuning.lowest_limit;
     if c.limit == 0 {
-        return clamp(sixteenth(used));
+        return clamp(lowest, sixteenth(used));
     }
     if c.out_loss < c.write_loss {
-        return clamp(half(c.limit));
+        return clamp(lowest, half(c.limit));
     }
     // Cut off before it is doubled, so that the double of any word fits.
     if LIMIT_MAX / 2 < c.limit {
-        return LIMIT_MAX;
+        return clamp(lowest, LIMIT_MAX);
     }
-    clamp(2 * c.limit)
+    clamp(lowest, 2 * c.limit)
 }
 
 // ---- the cluster of an object
@@ -88,27 +88,27 @@ pub fn choose(limit: u32, r: u32, size: u32, o: u32, c: u32) -> u32
 // ---- a new cluster of s members with p out pointers
 
 // Whether these are too many out pointers. Words of 64 bits hold the products of any two numbers.
-pub fn is_over(s: u32, p: u32) -> bool
-    ensures { λ b. ⌜ b ≡ overBy s p ⌝ }
+pub fn is_over(t: Tuning, s: u32, p: u32) -> bool
+    ensures { λ b. ⌜ b ≡ overBy t s p ⌝ }
 {
-    OUT_PER_TEN * (s as u64) < 10 * (p as u64)
+    (t.outs_per_ten as u64) * (s as u64) < 10 * (p as u64)
 }
 
 // Whether it stays.
-pub fn stays(s: u32, p: u32) -> bool
-    ensures { λ b. ⌜ b ≡ lasts s p ⌝ }
+pub fn stays(t: Tuning, s: u32, p: u32) -> bool
+    ensures { λ b. ⌜ b ≡ lasts t s p ⌝ }
 {
-    if is_over(s, p) {
+    if is_over(t, s, p) {
         return false;
     }
-    LEAST <= s
+    t.least_members <= s
 }
 
 // What it adds to the out loss: its members, where it has too many out pointers.
-pub fn loss(s: u32, p: u32) -> u32
-    ensures { λ k. ⌜ k ≡ lossBy s p ⌝ }
+pub fn loss(t: Tuning, s: u32, p: u32) -> u32
+    ensures { λ k. ⌜ k ≡ lossBy t s p ⌝ }
 {
-    if !is_over(s, p) {
+    if !is_over(t, s, p) {
         return 0;
     }
     s

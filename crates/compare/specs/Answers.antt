@@ -14,9 +14,9 @@ use Rattle.calls.specs.Compare.{agrees}
 abbrev pub sameList : List ℕ → List ℕ → Bool
 sameList = sameBytes
 
--- the same kind and numbers
+-- the same kind and numbers, and as many
 unfoldable pub sameCall : Call → Call → Bool
-sameCall x y = eqb (x .kind) (y .kind) && sameList (x .numbers) (y .numbers)
+sameCall x y = eqb (x .kind) (y .kind) && eqb (x .count) (y .count) && sameList (x .numbers) (y .numbers)
 
 -- the words of a list from start on, n of them
 abbrev pub part : ℕ → ℕ → List ℕ → List ℕ

@@ -38,13 +38,13 @@ fn same_map(x: &[u64], y: &[u64]) -> bool
     true
 }
 
-// Whether two calls are the same, numbers too.
+// Whether two calls are the same, numbers too, and as many of them.
 pub fn same_call(x: Call, y: Call) -> bool
     ensures { λ t. ⌜ t ≡ sameCall x y ⌝ }
 {
     let a = x.numbers;
     let b = y.numbers;
-    (x.kind == y.kind) & same_words(&a, &b)
+    (x.kind == y.kind) & (x.count == y.count) & same_words(&a, &b)
 }
 
 // Whether the answers of the call in two heaps are the same, as far as they count.

@@ -153,16 +153,6 @@ analyse-good P H limit from loss G p h = record {
   losses = let a = count-le (H .n) (λ x. not (eqb (leftClusters P H limit from x) 0)) in omega arith;
 }
 
--- ---- which new clusters go
-
--- more than 25 out pointers for ten members is more than 5 for two
-pub over-halves : (s p : ℕ) → ltb (25 * s) (10 * p) ≡ ltb (5 * s) (2 * p)
-over-halves s p = go (ltb (5 * s) (2 * p)) refl
-  where
-    go : (b : Bool) → ltb (5 * s) (2 * p) ≡ b → ltb (25 * s) (10 * p) ≡ b
-    go true e = let a = ltb-true (5 * s) (2 * p) e in lt-ltb (25 * s) (10 * p) (omega arith)
-    go false e = let a = ltb-false (5 * s) (2 * p) e in le-ltb (25 * s) (10 * p) (omega arith)
-
 -- ---- what the walk meets
 
 -- after a visit its object is seen, unless it is 0

@@ -119,6 +119,7 @@ pub record Given (c : Control) (width : ℕ) (recs slots : List ℕ) (x : ℕ) :
   pub low : 1 ≤ x
   pub high : x ≤ c .n
   pub recs-long : c .n ≤ length recs
+  pub slots-long : slotsLen (c .n) ≤ length slots
 
 module _ (c : Control) (width : ℕ) (recs slots : List ℕ) where
   pub refused : (k : ℕ) → Refusal k ≡ choice c width recs slots
@@ -145,9 +146,11 @@ module _ (c : Control) (width : ℕ) (recs slots : List ℕ) where
   given-named d l =
       candidates-of (c .last) (c .n) _ l (firstOf-found (λ y. free (recOf (c .n) recs y)) (candidates (c .last) (c .n)) d .0)
 
-  long : (t : Bool) → (short (c .n) recs || t) ≡ false → c .n ≤ length recs
+  long : (short (c .n) recs || short (slotsLen (c .n)) slots) ≡ false → (c .n ≤ length recs) × (slotsLen (c .n) ≤ length slots)
   unfolding short
-  long t e = ltb-false (length recs) (c .n) (or-split (ltb (length recs) (c .n)) t e .0)
+  long e =
+      let t = or-split (ltb (length recs) (c .n)) (ltb (length slots) (slotsLen (c .n))) e in
+      (ltb-false (length recs) (c .n) (t .0), ltb-false (length slots) (slotsLen (c .n)) (t .1))
 
   passes : (x : ℕ) → first (allocateTests c width recs slots) ≡ 0 → x ≡ given c recs → Given c width recs slots x
   unfolding allocateTests
@@ -157,7 +160,7 @@ module _ (c : Control) (width : ℕ) (recs slots : List ℕ) where
       let v = first-passed 2 _ _ (u .1) in
       let d = first-passed 23 _ _ (v .1) in
       let n = given-named (eqb-false _ _ (d .0)) (control-facts c (t .0) .last) in
-      record { passed = z; same = s; low = rw s (n .0); high = rw s (n .1); recs-long = long _ (u .0) }
+      record { passed = z; same = s; low = rw s (n .0); high = rw s (n .1); recs-long = long (u .0) .0; slots-long = long (u .0) .1 }
 
   pub given-facts : (x : ℕ) → Object x ≡ choice c width recs slots → Given c width recs slots x
   unfolding choice outcome by refusalOf objectOf
@@ -166,6 +169,11 @@ module _ (c : Control) (width : ℕ) (recs slots : List ℕ) where
       go : (m : ℕ) → first (allocateTests c width recs slots) ≡ m → Object x ≡ by m (Object (given c recs)) (λ j. Refusal j) → Given c width recs slots x
       go zero z e = passes x z (ap objectOf e)
       go (suc m) z e = let q : 0 ≡ suc (suc m) = ap refusalOf e in absurd (omega arith)
+
+  -- its eight slots are there
+  pub given-slots : {x : ℕ} → Given c width recs slots x → (s : ℕ) → s ≡ slotsLen (x - 1) → s + 8 ≤ length slots
+  unfolding slotsLen
+  given-slots G s e = omega (arith, G .low, G .high, G .slots-long)
 
   pub accepted : (x : ℕ) → Object x ≡ choice c width recs slots → (v s : ℕ) (slots′ : List ℕ) (d : Control)
       → v ≡ newRecord width → s ≡ slotsLen (x - 1) → slots′ ≡ cleared s (s + 8) slots → d ≡ withLast x c

@@ -1,33 +1,34 @@
 -- What create answers at each of its ends. Assumes nothing.
-use Prim.Native.Nat.{ℕ, suc}
-use mathlib.Core.Path.{_≡_, refl, sym, _∙_}
-use mathlib.Core.Bool.{Bool, true, false}
-use mathlib.Core.List.{List}
+use Prim.Native.Nat.{ℕ}
+use mathlib.Core.Path.{_≡_, refl, sym, ap, _∙_}
+use mathlib.Core.Bool.{Bool}
+use mathlib.Core.List.{List, [], _∷_}
+use mathlib.Core.Logic.{_≢_}
 use Rattle.layout.specs.declared.answers.Control.{Control}
+use Rattle.layout.specs.declared.answers.Tuning.{Tuning}
 use Rattle.layout.specs.Limits.{sinkMax, slotsLen}
-use Rattle.layout.specs.ControlRecord.{badSizes, newControl}
-use Rattle.layout.specs.Refusal.{first, by, outcome}
+use Rattle.layout.specs.ControlRecord.{badSizes, badTuning, newControl, noControl}
+use Rattle.layout.specs.Refusal.{first}
+use Rattle.layout.proofs.RefusalLaws.{outcome-number, outcome-zero}
 use Rattle.rules.specs.Buffers.{shortHeap, zeros}
 use Rattle.rules.specs.Create as Create
 
-module _ (n r : ℕ) (recs slots roots list sets : List ℕ) where
-  refused : (k : ℕ) → first (Create.createTests n r recs slots roots list sets) ≡ suc k → (c : Control) → c ≡ newControl 0 0
-      → Create.gives (record { refusal = suc k; control = c }) recs slots roots list sets ≡ Create.create n r recs slots roots list sets
-  unfolding Create.create outcome by
-  refused k e c f = rw (e, f) refl
+-- its refusal, from what the tests found
+module _ (n r : ℕ) (t : Tuning) (recs slots roots list sets : List ℕ) (h : Bool) (eh : h ≡ shortHeap n r recs slots roots list sets)
+    (k : ℕ) (ek : k ≡ first ((1, badSizes n r) ∷ (30, badTuning t) ∷ (2, h) ∷ [])) where
+  is-first : first (Create.createTests n r t recs slots roots list sets) ≡ k
+  unfolding Create.createTests
+  is-first = sym (ek ∙ ap (λ (b : Bool). first ((1, badSizes n r) ∷ (30, badTuning t) ∷ (2, b) ∷ [])) eh)
 
-  pub bad-sizes : badSizes n r ≡ true → (c : Control) → c ≡ newControl 0 0
-      → Create.gives (record { refusal = 1; control = c }) recs slots roots list sets ≡ Create.create n r recs slots roots list sets
-  bad-sizes b = refused 0 (unfold Create.createTests first in (rw b refl))
+  pub refused : k ≢ 0 → (c : Control) → c ≡ noControl
+      → Create.gives (record { refusal = k; control = c }) recs slots roots list sets ≡ Create.create n r t recs slots roots list sets
+  unfolding Create.create
+  refused d c f = rw f (sym (outcome-number _ _ (Create.createTests n r t recs slots roots list sets) k is-first d))
 
-  module _ (b : badSizes n r ≡ false) (h : Bool) (eh : h ≡ shortHeap n r recs slots roots list sets) where
-    pub too-short : h ≡ true → (c : Control) → c ≡ newControl 0 0
-        → Create.gives (record { refusal = 2; control = c }) recs slots roots list sets ≡ Create.create n r recs slots roots list sets
-    too-short l = refused 1 (unfold Create.createTests first in (rw (b, sym eh ∙ l) refl))
-
-    pub created : h ≡ false → (c : Control) (recs′ slots′ roots′ list′ sets′ : List ℕ) (s : ℕ)
-        → c ≡ newControl n r → recs′ ≡ zeros n recs → s ≡ slotsLen n → slots′ ≡ zeros s slots → roots′ ≡ zeros r roots
-        → list′ ≡ zeros sinkMax list → sets′ ≡ zeros n sets
-        → Create.gives (record { refusal = 0; control = c }) recs′ slots′ roots′ list′ sets′ ≡ Create.create n r recs slots roots list sets
-    unfolding Create.create Create.createTests outcome by first
-    created l c recs′ slots′ roots′ list′ sets′ s e f k g o i j = rw (b, sym eh ∙ l, e, f, g, o, i, j, k) refl
+  pub created : k ≡ 0 → (c : Control) (recs′ slots′ roots′ list′ sets′ : List ℕ) (s : ℕ)
+      → c ≡ newControl n r t → recs′ ≡ zeros n recs → s ≡ slotsLen n → slots′ ≡ zeros s slots → roots′ ≡ zeros r roots
+      → list′ ≡ zeros sinkMax list → sets′ ≡ zeros n sets
+      → Create.gives (record { refusal = 0; control = c }) recs′ slots′ roots′ list′ sets′ ≡ Create.create n r t recs slots roots list sets
+  unfolding Create.create
+  created z c recs′ slots′ roots′ list′ sets′ s e f m g o i j =
+      rw (e, f, g, o, i, j, m) (sym (outcome-zero _ _ (Create.createTests n r t recs slots roots list sets) (is-first ∙ z)))

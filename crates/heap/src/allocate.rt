@@ -1,11 +1,12 @@
 // Allocate: the first free object past the last one given, or else from 1 on.
 ghost use mathlib.Core.Path.{_≡_};
-ghost use Prim.Native.Nat.{suc, _-_, _≤_};
+ghost use Prim.Native.Nat.{suc, _+_, _-_, _≤_};
 ghost use lib.ListN.{length};
-ghost use Rattle.layout.specs.Limits.{objectMax};
+ghost use Rattle.layout.specs.Limits.{widthMax, objectMax};
 ghost use Rattle.records.specs.Record.{free};
 ghost use Rattle.rules.specs.Buffers.{recOf, numbers};
 ghost use Rattle.rules.specs.Allocate as Allocate;
+ghost use Rattle.table.specs.Cleared.{cleared};
 ghost use Rattle.heap.specs.Choice.{choice};
 use layout::answers::Allocated;
 use layout::answers::Control;
@@ -18,7 +19,6 @@ use layout::refusals::TOO_SHORT;
 use layout::refusals::TOO_WIDE;
 use layout::refusals::bad_control;
 use records::new_record;
-use table::buffers::clear_eight;
 
 // The first free object above `from` and up to `to`, 0 where there is none.
 pub(crate) fn first_free(n: u32, from: u32, to: u32, records: &[u32]) -> u32
@@ -73,6 +73,22 @@ pub(crate) fn choose(c: Control, width: u32, records: &[u32], slots: &[u32]) -> 
     Choice::Object(x)
 }
 
+// The eight slots from place `at` on become 0. With `table::buffers::clear_eight`, which asks for no room, allocate is too long to be put
+// into its exports (docs/DECISIONS.md, "Time").
+fn clear_object(slots: &mut [u32], at: usize)
+    requires { ⌜ at + widthMax ≤ length (now slots) ⌝ }
+    ensures { λ _. ⌜ now (slots .exit) ≡ cleared at (at + widthMax) (now (slots .entry)) ⌝ }
+{
+    slots[at] = 0;
+    slots[at + 1] = 0;
+    slots[at + 2] = 0;
+    slots[at + 3] = 0;
+    slots[at + 4] = 0;
+    slots[at + 5] = 0;
+    slots[at + 6] = 0;
+    slots[at + 7] = 0;
+}
+
 // The object's record becomes a new one and its eight slots 0.
 pub fn allocate(c: Control, width: u32, records: &mut [u32], slots: &mut [u32]) -> Allocated
     ensures { λ a. ⌜ Allocate.gives a (now (records .exit)) (now (slots .exit))
@@ -86,7 +102,7 @@ pub fn allocate(c: Control, width: u32, records: &mut [u32], slots: &mut [u32]) 
         },
         Choice::Object(x) => {
             records[(x - 1) as usize] = new_record(width);
-            clear_eight(slots, slots_len(x - 1));
+            clear_object(slots, slots_len(x - 1));
             Allocated {
                 refusal: 0,
                 object: x,

@@ -1,21 +1,42 @@
 // Create: a heap of n free objects and r nil roots.
 ghost use mathlib.Core.Path.{_≡_};
+ghost use mathlib.Core.List.{[], _∷_};
+ghost use Rattle.layout.specs.Refusal.{first};
+ghost use Rattle.layout.specs.ControlRecord.{badSizes, badTuning};
 ghost use Rattle.rules.specs.Create as Create;
 use layout::answers::Done;
+use layout::answers::Tuning;
 use layout::control::new_control;
+use layout::control::no_control;
 use layout::limits::SINK_MAX;
 use layout::limits::slots_len;
 use layout::refusals::BAD_SIZES;
+use layout::refusals::BAD_TUNING;
 use layout::refusals::TOO_SHORT;
 use layout::refusals::bad_sizes;
+use layout::refusals::bad_tuning;
 use table::buffers::zero;
 use table::buffers::zero_sets;
 use table::room::short_heap;
+
+// The first test that holds, where a slice is too short or not; 0 where none does.
+fn create_refusal(n: u32, r: u32, t: Tuning, short: bool) -> u32
+    ensures { λ k. ⌜ k ≡ first ((1, badSizes n r) ∷ (30, badTuning t) ∷ (2, short) ∷ []) ⌝ }
+{
+    if bad_sizes(n, r) {
+        return BAD_SIZES;
+    }
+    if bad_tuning(t) {
+        return BAD_TUNING;
+    }
+    if short { TOO_SHORT } else { 0 }
+}
 
 // n records, 8 n slots, r roots, the 64 places of sinks and n sets become 0; after a refusal nothing changes and the control record is all zeros.
 pub fn create(
     n: u32,
     r: u32,
+    t: Tuning,
     records: &mut [u32],
     slots: &mut [u32],
     roots: &mut [u32],
@@ -23,18 +44,14 @@ pub fn create(
     sets: &mut [u64],
 ) -> Done
     ensures { λ a. ⌜ Create.gives a (now (records .exit)) (now (slots .exit)) (now (roots .exit)) (now (sinks .exit)) (now (sets .exit))
-        ≡ Create.create n r (now (records .entry)) (now (slots .entry)) (now (roots .entry)) (now (sinks .entry)) (now (sets .entry)) ⌝ }
+        ≡ Create.create n r t (now (records .entry)) (now (slots .entry)) (now (roots .entry)) (now (sinks .entry)) (now (sets .entry)) ⌝ }
 {
-    if bad_sizes(n, r) {
+    let short = short_heap(n, r, records, slots, roots, sinks, sets);
+    let refusal = create_refusal(n, r, t, short);
+    if refusal != 0 {
         return Done {
-            refusal: BAD_SIZES,
-            control: new_control(0, 0),
-        };
-    }
-    if short_heap(n, r, records, slots, roots, sinks, sets) {
-        return Done {
-            refusal: TOO_SHORT,
-            control: new_control(0, 0),
+            refusal: refusal,
+            control: no_control(),
         };
     }
     zero(records, n as usize);
@@ -44,6 +61,6 @@ pub fn create(
     zero_sets(sets, n as usize);
     Done {
         refusal: 0,
-        control: new_control(n, r),
+        control: new_control(n, r, t),
     }
 }

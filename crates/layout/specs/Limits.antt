@@ -19,11 +19,15 @@ widthMax = 8
 abbrev pub sinkMax : ℕ
 sinkMax = 64
 
--- the lowest size limit ("Analysis")
-abbrev pub limitMin : ℕ
-limitMin = 8
+-- the most that the least members of a new cluster may be ("The control record")
+abbrev pub leastMax : ℕ
+leastMax = 4095
 
--- the highest size limit ("Analysis")
+-- the most that the out pointers for ten members may be: eight for each
+abbrev pub outsMax : ℕ
+outsMax = 80
+
+-- the highest size limit, and the most that the lowest may be ("Analysis")
 abbrev pub limitMax : ℕ
 limitMax = 4095
 

@@ -1,7 +1,17 @@
 // The control record and the answers of the calls, as they cross to C: structs of u32 by value.
 // `refusal` is 0 for an accepted call. After a refusal every count, word and number is 0 and the control record is the one handed in.
 
-// n objects, r roots, the number given last, the size limit (0 until there was an analysis), and the two losses.
+// What an analysis goes by: a new cluster with fewer members than the least is deleted, and so is one with more out pointers than
+// so many for ten members; no size limit is below the lowest.
+#[repr(C)]
+pub struct Tuning {
+    pub least_members: u32,
+    pub outs_per_ten: u32,
+    pub lowest_limit: u32,
+}
+
+// n objects, r roots, the number given last, the size limit (0 until there was an analysis), the two losses, and the tuning: nine
+// numbers, one after the other.
 #[repr(C)]
 pub struct Control {
     pub n: u32,
@@ -10,6 +20,7 @@ pub struct Control {
     pub limit: u32,
     pub write_loss: u32,
     pub out_loss: u32,
+    pub tuning: Tuning,
 }
 
 // What create, write, set root, declare sink and load answer.

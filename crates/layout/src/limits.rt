@@ -10,7 +10,9 @@ pub const WIDTH_MAX: u32 = 8;
 
 pub const SINK_MAX: u32 = 64;
 
-pub const LIMIT_MIN: u32 = 8;
+pub const LEAST_MAX: u32 = 4095;
+
+pub const OUTS_MAX: u32 = 80;
 
 pub const LIMIT_MAX: u32 = 4095;
 

@@ -15,8 +15,8 @@ use Rattle.lines.specs.declared.kinds.Call.{Call}
 use Rattle.lines.specs.Text.{bytes}
 use Rattle.lines.specs.Word.{wordAt, none, text, sameBytes}
 use Rattle.lines.specs.Numeral.{numeralOf, isHex, valueOf}
-use Rattle.lines.specs.Kinds.{table, create, collect, bare, noCall, withNumber}
-use Rattle.lines.specs.Line.{aCall, aNumber, theEnd, aWay, aName, ended, nextOf, numberAt, andThen, rowFrom, rowOf, numbersFrom, named, way, follows, parsed}
+use Rattle.lines.specs.Kinds.{table, create, collect, tunedCount, bare, noCall, withNumber, withCount}
+use Rattle.lines.specs.Line.{aCall, aNumber, theEnd, aWay, aName, ended, nextOf, numberAt, andThen, rowFrom, rowOf, numbersFrom, further, sizes, named, way, follows, parsed}
 use Rattle.lines.proofs.WordLaws.{text-none}
 
 -- the bytes of a word, as a part of the line
@@ -138,6 +138,18 @@ numbers-all s at c count =
     let d : count - 0 ≡ count = omega arith in
     rw d refl
 
+-- ---- a create
+
+-- r is the reading with the sizes alone
+module _ (c : Call) (s : List ℕ) (at : ℕ) (r : Call) (e : r ≡ numbersFrom (c .count) 0 c s at) where
+  pub sizes-usual : further r ≡ false → r ≡ sizes c s at
+  unfolding sizes
+  sizes-usual q = rw (← e, q) refl
+
+  pub sizes-tuned : further r ≡ true → (d : Call) → d ≡ withCount tunedCount c → numbersFrom (d .count) 0 d s at ≡ sizes c s at
+  unfolding sizes
+  sizes-tuned q d f = rw (f, ← e, q) refl
+
 -- ---- the line
 
 module _ (c : Call) (s : List ℕ) (at : ℕ) where
@@ -149,13 +161,17 @@ module _ (c : Call) (s : List ℕ) (at : ℕ) where
   unfolding follows
   follow-name d h = rw (ne-eqb (c .kind) 0 d, lt-ltb (c .kind) create h) refl
 
-  pub follow-way : (c .kind ≡ 0 → ⊥) → create ≤ c .kind → c .kind ≡ collect → way c s at ≡ follows c s at
+  pub follow-sizes : c .kind ≡ create → sizes c s at ≡ follows c s at
   unfolding follows
-  follow-way d h e = rw (ne-eqb (c .kind) 0 d, le-ltb (c .kind) create h, eq-eqb (c .kind) collect e) refl
+  follow-sizes e = rw e refl
 
-  pub follow-numbers : (c .kind ≡ 0 → ⊥) → create ≤ c .kind → (c .kind ≡ collect → ⊥) → numbersFrom (c .count) 0 c s at ≡ follows c s at
+  pub follow-way : c .kind ≡ collect → way c s at ≡ follows c s at
   unfolding follows
-  follow-numbers d h f = rw (ne-eqb (c .kind) 0 d, le-ltb (c .kind) create h, ne-eqb (c .kind) collect f) refl
+  follow-way e = rw e refl
+
+  pub follow-numbers : (c .kind ≡ 0 → ⊥) → create ≤ c .kind → (c .kind ≡ create → ⊥) → (c .kind ≡ collect → ⊥) → numbersFrom (c .count) 0 c s at ≡ follows c s at
+  unfolding follows
+  follow-numbers d h k f = rw (ne-eqb (c .kind) 0 d, le-ltb (c .kind) create h, ne-eqb (c .kind) create k, ne-eqb (c .kind) collect f) refl
 
 -- w is the first word of the line s
 module _ (s : List ℕ) (w : Span) (e : w ≡ wordAt s 0) where

@@ -4,11 +4,15 @@ use Prim.Native.String.{String}
 use mathlib.Core.List.{List, [], _∷_}
 use Rattle.lines.specs.Line.{aCall, aNumber, aSmallNumber, theEnd, aWay, aName}
 use Rattle.lines.specs.declared.kinds.Call.{Call}
-use Rattle.lines.specs.Kinds.{wrote, loaded, create, allocate, read, show, write, root, sink, analyse, collect, save, load, noCall}
+use Rattle.lines.specs.Kinds.{wrote, loaded, create, allocate, read, show, write, root, sink, analyse, collect, save, load, tunedCount, noCall}
 
--- a call of a kind, with its three places for numbers
+-- a call of a kind, with up to three numbers
 abbrev of : ℕ → ℕ → ℕ → ℕ → ℕ → Call
-of kind count a b c = record { kind = kind; count = count; numbers = a ∷ b ∷ c ∷ [] }
+of kind count a b c = record { kind = kind; count = count; numbers = a ∷ b ∷ c ∷ 0 ∷ 0 ∷ [] }
+
+-- a create with its sizes and the numbers of the analysis
+abbrev tuned : ℕ → ℕ → ℕ → ℕ → ℕ → Call
+tuned n r least outs lowest = record { kind = create; count = tunedCount; numbers = n ∷ r ∷ least ∷ outs ∷ lowest ∷ [] }
 
 abbrev pub examples : List (String × Call)
 examples =
@@ -27,6 +31,22 @@ examples =
     ∷ ("load", of load 0 0 0 0)
     ∷ ("wrote heap.img", of wrote 0 0 0 0)
     ∷ ("loaded a", of loaded 0 0 0 0)
+    -- a create with the numbers of the analysis, all three or none
+    ∷ ("create 16 2 3 25 8", tuned 16 2 3 25 8)
+    ∷ (" create 4095 64\t1 nil 0xfff\r", tuned 4095 64 1 0 4095)
+    ∷ ("create 16 2 3 25 8# c", tuned 16 2 3 25 8)
+    ∷ ("create 16 2 # 3 25 8", of create 2 16 2 0)
+    ∷ ("create 16 2 # c", of create 2 16 2 0)
+    ∷ ("create 16", noCall aNumber)
+    ∷ ("create 16 x", noCall aNumber)
+    ∷ ("create 16 2 3", noCall aNumber)
+    ∷ ("create 16 2 3 25", noCall aNumber)
+    ∷ ("create 16 2 3 25 # 8", noCall aNumber)
+    ∷ ("create 16 2 x", noCall aNumber)
+    ∷ ("create 16 2 3 25 x", noCall aNumber)
+    ∷ ("create 16 4294967296 3", noCall aSmallNumber)
+    ∷ ("create 16 2 3 4294967296 8", noCall aSmallNumber)
+    ∷ ("create 16 2 3 4 5 6", noCall theEnd)
     -- a number of the table names no call
     ∷ ("2", noCall aCall)
     -- blanks and comments
@@ -66,6 +86,7 @@ examples =
     ∷ ("sink nill", noCall aNumber)
     ∷ ("sink ni", noCall aNumber)
     ∷ ("sink 4 5", noCall theEnd)
+    ∷ ("write 1 2 3 4 5", noCall theEnd)
     ∷ ("analyse 1", noCall theEnd)
     ∷ ("save 1", noCall theEnd)
     ∷ ("load heap.img", noCall theEnd)

@@ -13,7 +13,7 @@ table = bytes "wrote 0 loaded 0 create 2 allocate 1 read 2 show 1 write 3 root 2
 
 -- the most numbers of a call
 abbrev pub most : ℕ
-most = 3
+most = 5
 
 -- a kind is a place in the table, from 1 on
 abbrev pub wrote : ℕ
@@ -56,17 +56,25 @@ save = 12
 abbrev pub load : ℕ
 load = 13
 
+-- the numbers of a create that names those of the analysis behind its sizes
+abbrev pub tunedCount : ℕ
+tunedCount = 5
+
 -- a call without numbers
 abbrev pub bare : ℕ → ℕ → Call
-bare kind count = record { kind = kind; count = count; numbers = 0 ∷ 0 ∷ 0 ∷ [] }
+bare kind count = record { kind = kind; count = count; numbers = 0 ∷ 0 ∷ 0 ∷ 0 ∷ 0 ∷ [] }
 
 -- v as the k-th number, where a call has room for it
 unfoldable pub withNumber : ℕ → ℕ → Call → Call
 withNumber k v c = cond (ltb k most) (record { kind = c .kind; count = c .count; numbers = set (c .numbers) k v }) c
 
+-- another count of numbers
+abbrev pub withCount : ℕ → Call → Call
+withCount count c = record { kind = c .kind; count = count; numbers = c .numbers }
+
 -- no call: the first number says what was expected, 0 for nothing
 abbrev pub noCall : ℕ → Call
-noCall expected = record { kind = 0; count = 0; numbers = expected ∷ 0 ∷ 0 ∷ [] }
+noCall expected = record { kind = 0; count = 0; numbers = expected ∷ 0 ∷ 0 ∷ 0 ∷ 0 ∷ [] }
 
 -- the k-th number of a call
 abbrev pub number : ℕ → Call → ℕ

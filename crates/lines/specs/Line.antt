@@ -1,6 +1,6 @@
 -- The call that a line makes, or what was expected where the line first goes wrong.
 use Prim.Native.Nat.{ℕ, zero, suc}
-use mathlib.Core.Bool.{cond}
+use mathlib.Core.Bool.{Bool, cond, _&&_}
 use mathlib.Core.List.{List}
 use lib.Dec.{eqb, ltb}
 use lib.ListN.{length}
@@ -12,7 +12,7 @@ use Rattle.lines.specs.declared.numbers.Number.the-variants as number
 use Rattle.lines.specs.declared.parse.Next.{Next}
 use Rattle.lines.specs.declared.parse.Next.the-variants as next
 use Rattle.lines.specs.declared.kinds.Call.{Call}
-use Rattle.lines.specs.Kinds.{table, create, collect, bare, noCall, withNumber}
+use Rattle.lines.specs.Kinds.{table, create, collect, tunedCount, bare, noCall, number as numberOf, withNumber, withCount}
 
 -- what a bad line should have had at the place where it goes wrong
 abbrev pub aCall : ℕ
@@ -72,6 +72,16 @@ unfoldable pub numbersFrom : ℕ → ℕ → Call → List ℕ → ℕ → Call
 numbersFrom zero k c s at = ended s at c
 numbersFrom (suc left) k c s at = andThen (numberAt s at) (λ v after. numbersFrom left (suc k) (withNumber k v c) s after)
 
+-- the line goes wrong by a further word, and nowhere before it
+unfoldable pub further : Call → Bool
+further c = eqb (c .kind) 0 && eqb (numberOf 0 c) theEnd
+
+-- the create c with its sizes; where a further word stands behind them, with the numbers of the analysis too
+unfoldable pub sizes : Call → List ℕ → ℕ → Call
+sizes c s at =
+    let usual = numbersFrom (c .count) 0 c s at in
+    cond (further usual) (numbersFrom tunedCount 0 (withCount tunedCount c) s at) usual
+
 -- a name, and the end of the line
 unfoldable pub named : Call → List ℕ → ℕ → Call
 named c s at = cond (none (wordAt s at)) (noCall aName) (ended s (wordAt s at .end) c)
@@ -88,7 +98,8 @@ unfoldable pub follows : Call → List ℕ → ℕ → Call
 follows c s at =
     cond (eqb (c .kind) 0) c
     (cond (ltb (c .kind) create) (named c s at)
-    (cond (eqb (c .kind) collect) (way c s at) (numbersFrom (c .count) 0 c s at)))
+    (cond (eqb (c .kind) create) (sizes c s at)
+    (cond (eqb (c .kind) collect) (way c s at) (numbersFrom (c .count) 0 c s at))))
 
 -- the line s: its first word names the call
 unfoldable pub parsed : List ℕ → Call

@@ -1,12 +1,13 @@
 // The call that a line makes: its kind, and its numbers.
 ghost use mathlib.Core.Path.{_≡_};
-ghost use Rattle.lines.specs.Kinds.{noCall, withNumber, problemOf};
+ghost use Rattle.lines.specs.Kinds.{noCall, withNumber, withCount, problemOf};
 
 // The most numbers of a call.
-pub const MOST: usize = 3;
+pub const MOST: usize = 5;
 
 // A line's kind is its place in the table, from 1 on. Of its numbers only the first `count` are used, and the others are 0. `collect` has one: 0 for
-// `plain`, 1 for `clusters`. A line that makes no call has the kind 0, and its first number says what was expected, 0 for nothing.
+// `plain`, 1 for `clusters`. `create` has its two sizes, or TUNED numbers. A line that makes no call has the kind 0, and its first number says what was
+// expected, 0 for nothing.
 pub struct Call {
     pub kind: usize,
     pub count: u32,
@@ -46,6 +47,9 @@ pub const SAVE: usize = 12;
 
 pub const LOAD: usize = 13;
 
+// The numbers of a create that names those of the analysis behind its sizes.
+pub const TUNED: u32 = 5;
+
 // What a line should have had: the name of a call, a number, one below 2^32, no further word, `plain` or `clusters`, a name.
 pub const A_CALL: u32 = 1;
 
@@ -71,7 +75,7 @@ pub fn no_call(expected: u32) -> Call
     Call {
         kind: NO_CALL,
         count: 0,
-        numbers: [expected, 0, 0],
+        numbers: [expected, 0, 0, 0, 0],
     }
 }
 
@@ -83,6 +87,15 @@ pub fn with_number(call: Call, k: usize, v: u32) -> Call
     if k < MOST {
         c.numbers[k] = v;
     }
+    c
+}
+
+// The call with another count of numbers.
+pub fn with_count(call: Call, count: u32) -> Call
+    ensures { λ r. ⌜ r ≡ withCount count call ⌝ }
+{
+    let mut c = call;
+    c.count = count;
     c
 }
 

@@ -1,6 +1,6 @@
 // The call that a line makes.
 ghost use mathlib.Core.Path.{_≡_};
-ghost use Rattle.lines.specs.Line.{ended as endedAt, numberAt, rowOf, numbersFrom, named as namedAt, way as wayAt, parsed};
+ghost use Rattle.lines.specs.Line.{ended as endedAt, numberAt, rowOf, numbersFrom, further as furtherWord, sizes as sizesAt, named as namedAt, way as wayAt, parsed};
 use crate::kinds::*;
 use crate::numbers::Number;
 use crate::numbers::value;
@@ -64,7 +64,7 @@ fn row_of(table: &[u8], word: &[u8]) -> Call
                     return Call {
                         kind,
                         count,
-                        numbers: [0, 0, 0],
+                        numbers: [0, 0, 0, 0, 0],
                     };
                 }
                 at = after;
@@ -97,6 +97,26 @@ fn numbers(line: &[u8], from: usize, call: Call) -> Call
         k += 1;
     }
     ended(line, at, c)
+}
+
+// Whether the line goes wrong by a further word, and nowhere before it.
+fn further(call: Call) -> bool
+    ensures { λ t. ⌜ t ≡ furtherWord call ⌝ }
+{
+    let expected = call.numbers;
+    call.kind == NO_CALL && expected[0] == THE_END
+}
+
+// The create with its sizes; where a further word stands behind them, with the numbers of the analysis too.
+fn sizes(line: &[u8], from: usize, call: Call) -> Call
+    ensures { λ r. ⌜ r ≡ sizesAt call (now (line .entry)) from ⌝ }
+{
+    let usual = numbers(line, from, call);
+    if further(usual) {
+        numbers(line, from, with_count(call, TUNED))
+    } else {
+        usual
+    }
 }
 
 fn named(line: &[u8], from: usize, call: Call) -> Call
@@ -144,6 +164,9 @@ pub fn parse(line: &[u8]) -> Call
     }
     if call.kind < CREATE {
         return named(line, end, call);
+    }
+    if call.kind == CREATE {
+        return sizes(line, end, call);
     }
     if call.kind == COLLECT {
         return way(line, end, call);

@@ -10,15 +10,16 @@ use borrow.Author.Tests.{eqb-true}
 use lib.Dec.{eqb}
 use lib.ListN.{length, getD, take, drop}
 use Rattle.layout.specs.declared.answers.Control.{Control}
+use Rattle.layout.specs.declared.answers.Tuning.{Tuning}
 use Rattle.layout.specs.Limits.{widthMax, sinkMax, slotsLen}
-use Rattle.layout.specs.ControlRecord.{newControl, withLast}
+use Rattle.layout.specs.ControlRecord.{badTuning, newControl, noControl, withLast}
 use Rattle.layout.specs.Refusal.{Test, first}
-use Rattle.layout.proofs.RefusalLaws.{Numbered, nil, cons, first-front, first-skip, first-zero, first-holds, first-fails, outcome-zero, outcome-number}
+use Rattle.layout.proofs.RefusalLaws.{Numbered, nil, cons, first-passed, first-front, first-skip, first-zero, first-holds, first-fails, outcome-zero, outcome-number}
 use Rattle.endian.specs.Bytes.{numberAt}
 use Rattle.rules.specs.Buffers.{shortHeap, eachFrom, eachRecord, zeros}
 use Rattle.rules.specs.Image.{frontLen, bodyOf, past, cut, savedRoot, rootsOk}
 use Rattle.rules.specs.Load as Load
-use Rattle.rules.specs.Load.{imageN, imageR, imageTests, chunkTests, loadedRecord, loadedWord, loadedSinks, rootWords}
+use Rattle.rules.specs.Load.{imageN, imageR, imageTests, inputTests, chunkTests, loadedRecord, loadedWord, loadedSinks, rootWords}
 use Rattle.rules.proofs.ListLaws.{each-same, each-each}
 use Rattle.rules.proofs.BoolLaws.{and-split}
 use Rattle.rules.proofs.BufferLaws.{zeros-from}
@@ -133,28 +134,34 @@ numbered image (suc f) t = go (eqb (length (past t image)) 0) (numbered image f 
     go true n a b c d = some 25 a [] nil
     go false n a b c d = some 25 b _ (some 26 c _ (some 27 d _ n))
 
-module _ (image recs slots roots list sets : List ℕ) where
+module _ (t : Tuning) (image recs slots roots list sets : List ℕ) where
   abbrev ends : List Test
   ends = (2, shortHeap (imageN image) (imageR image) recs slots roots list sets) ∷ []
 
-  tests : Load.loadTests image recs slots roots list sets ≡ imageTests image ++ ends
+  tests : Load.loadTests t image recs slots roots list sets ≡ inputTests t image ++ ends
   unfolding Load.loadTests
   tests = refl
 
-  refused : (k : ℕ) → first (Load.loadTests image recs slots roots list sets) ≡ k → k ≢ 0 → (c : Control) → c ≡ newControl 0 0
-      → Load.gives (record { refusal = k; control = c }) recs slots roots list sets ≡ Load.load image recs slots roots list sets
+  refused : (k : ℕ) → first (Load.loadTests t image recs slots roots list sets) ≡ k → k ≢ 0 → (c : Control) → c ≡ noControl
+      → Load.gives (record { refusal = k; control = c }) recs slots roots list sets ≡ Load.load t image recs slots roots list sets
   unfolding Load.load
-  refused k e d c f = rw f (sym (outcome-number _ _ (Load.loadTests image recs slots roots list sets) k e d))
+  refused k e d c f = rw f (sym (outcome-number _ _ (Load.loadTests t image recs slots roots list sets) k e d))
 
-  pub image-refused : (k : ℕ) → k ≡ first (imageTests image) → k ≢ 0 → (c : Control) → c ≡ newControl 0 0
-      → Load.gives (record { refusal = k; control = c }) recs slots roots list sets ≡ Load.load image recs slots roots list sets
+  pub image-refused : (k : ℕ) → k ≡ first (inputTests t image) → k ≢ 0 → (c : Control) → c ≡ noControl
+      → Load.gives (record { refusal = k; control = c }) recs slots roots list sets ≡ Load.load t image recs slots roots list sets
   image-refused k e d =
-      refused k (ap first tests ∙ first-front (imageTests image) ends (λ z. d (e ∙ z)) ∙ sym e) d
+      refused k (ap first tests ∙ first-front (inputTests t image) ends (λ z. d (e ∙ z)) ∙ sym e) d
 
-  module _ (none : first (imageTests image) ≡ 0) where
-    short-decides : first (Load.loadTests image recs slots roots list sets) ≡ first ends
-    unfolding imageTests
-    short-decides = ap first tests ∙ first-skip (imageTests image) ends (first-zero (imageTests image) (numbered image (suc (length image)) 0) none)
+  module _ (given : first (inputTests t image) ≡ 0) where
+    none : first (imageTests image) ≡ 0
+    unfolding inputTests
+    none = first-passed 29 _ _ given .1
+
+    short-decides : first (Load.loadTests t image recs slots roots list sets) ≡ first ends
+    unfolding imageTests inputTests
+    short-decides =
+        ap first tests
+        ∙ first-skip (inputTests t image) ends (first-zero (inputTests t image) (cons {t = (30, badTuning t)} (omega arith) (numbered image (suc (length image)) 0)) given)
 
     -- the sizes stand at fixed places
     module _ (n r : ℕ) (en : n ≡ numberAt 2 8 image) (er : r ≡ numberAt 2 10 image) where
@@ -167,8 +174,8 @@ module _ (image recs slots roots list sets : List ℕ) where
       same-r : r ≡ imageR image
       same-r = er ∙ is-sized .r-at
 
-      pub too-short : shortHeap n r recs slots roots list sets ≡ true → (c : Control) → c ≡ newControl 0 0
-          → Load.gives (record { refusal = 2; control = c }) recs slots roots list sets ≡ Load.load image recs slots roots list sets
+      pub too-short : shortHeap n r recs slots roots list sets ≡ true → (c : Control) → c ≡ noControl
+          → Load.gives (record { refusal = 2; control = c }) recs slots roots list sets ≡ Load.load t image recs slots roots list sets
       too-short h =
           refused 2 (short-decides ∙ first-holds 2 [] (shortHeap (imageN image) (imageR image) recs slots roots list sets) (rw (sym same-n, sym same-r) h)) (λ z. omega arith)
 
@@ -188,14 +195,14 @@ module _ (image recs slots roots list sets : List ℕ) where
           }
 
       pub loaded : shortHeap n r recs slots roots list sets ≡ false → (c d : Control) (last : ℕ) (recs′ slots′ roots′ list′ sets′ : List ℕ)
-          → c ≡ newControl n r → last ≡ numberAt 2 12 image → d ≡ withLast last c
+          → c ≡ newControl n r t → last ≡ numberAt 2 12 image → d ≡ withLast last c
           → recs′ ≡ eachRecord n (λ x w. loadedRecord image x) recs
           → slots′ ≡ eachFrom 0 (slotsLen n) (λ j w. loadedWord image (j / widthMax + 1) (j % widthMax)) slots
           → roots′ ≡ eachFrom 0 r (λ j w. savedRoot (rootWords image) j) roots
           → list′ ≡ eachFrom 0 sinkMax (λ k y. getD (loadedSinks image) k 0) list → sets′ ≡ zeros n sets
-          → Load.gives (record { refusal = 0; control = d }) recs′ slots′ roots′ list′ sets′ ≡ Load.load image recs slots roots list sets
+          → Load.gives (record { refusal = 0; control = d }) recs′ slots′ roots′ list′ sets′ ≡ Load.load t image recs slots roots list sets
       unfolding Load.load
       loaded h c d last recs′ slots′ roots′ list′ sets′ p q s e f g u v =
           rw (s, p, q, e, f, g, u, v, is-sized .last-at, same-n, same-r)
-          (sym (outcome-zero _ _ (Load.loadTests image recs slots roots list sets)
+          (sym (outcome-zero _ _ (Load.loadTests t image recs slots roots list sets)
           (short-decides ∙ first-fails 2 [] (shortHeap (imageN image) (imageR image) recs slots roots list sets) (rw (sym same-n, sym same-r) h) ∙ none-first)))

@@ -1,5 +1,6 @@
 // The calls as C sees them: numbers and structs by value, a slice as a pointer and a length. Only exports are here.
 ghost use mathlib.Core.Path.{_≡_};
+ghost use Rattle.layout.specs.ControlRecord.{tuningOf};
 ghost use Rattle.rules.specs.Create as Create;
 ghost use Rattle.rules.specs.Allocate as Allocate;
 ghost use Rattle.rules.specs.Read as Read;
@@ -19,6 +20,7 @@ use layout::answers::Done;
 use layout::answers::Part;
 use layout::answers::Saved;
 use layout::answers::WordRead;
+use layout::control::tuning;
 
 pub mod in_place;
 
@@ -26,6 +28,9 @@ pub mod in_place;
 pub extern "C" fn pakzid_create(
     n: u32,
     r: u32,
+    least: u32,
+    outs: u32,
+    lowest: u32,
     records: &mut [u32],
     slots: &mut [u32],
     roots: &mut [u32],
@@ -33,9 +38,18 @@ pub extern "C" fn pakzid_create(
     sets: &mut [u64],
 ) -> Done
     ensures { λ a. ⌜ Create.gives a (now (records .exit)) (now (slots .exit)) (now (roots .exit)) (now (sinks .exit)) (now (sets .exit))
-        ≡ Create.create n r (now (records .entry)) (now (slots .entry)) (now (roots .entry)) (now (sinks .entry)) (now (sets .entry)) ⌝ }
+        ≡ Create.create n r (tuningOf least outs lowest) (now (records .entry)) (now (slots .entry)) (now (roots .entry)) (now (sinks .entry)) (now (sets .entry)) ⌝ }
 {
-    heap::create::create(n, r, records, slots, roots, sinks, sets)
+    heap::create::create(
+        n,
+        r,
+        tuning(least, outs, lowest),
+        records,
+        slots,
+        roots,
+        sinks,
+        sets,
+    )
 }
 
 #[no_mangle]
@@ -186,6 +200,9 @@ pub extern "C" fn pakzid_save(
 
 #[no_mangle]
 pub extern "C" fn pakzid_load(
+    least: u32,
+    outs: u32,
+    lowest: u32,
     image: &[u8],
     records: &mut [u32],
     slots: &mut [u32],
@@ -194,7 +211,15 @@ pub extern "C" fn pakzid_load(
     sets: &mut [u64],
 ) -> Done
     ensures { λ a. ⌜ Load.gives a (now (records .exit)) (now (slots .exit)) (now (roots .exit)) (now (sinks .exit)) (now (sets .exit))
-        ≡ Load.load (now (image .entry)) (now (records .entry)) (now (slots .entry)) (now (roots .entry)) (now (sinks .entry)) (now (sets .entry)) ⌝ }
+        ≡ Load.load (tuningOf least outs lowest) (now (image .entry)) (now (records .entry)) (now (slots .entry)) (now (roots .entry)) (now (sinks .entry)) (now (sets .entry)) ⌝ }
 {
-    loads::load(image, records, slots, roots, sinks, sets)
+    loads::load(
+        tuning(least, outs, lowest),
+        image,
+        records,
+        slots,
+        roots,
+        sinks,
+        sets,
+    )
 }

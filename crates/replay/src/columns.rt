@@ -6,7 +6,7 @@ use calls::as_run;
 use calls::run;
 use compare::turns::*;
 use files::*;
-use layout::control::new_control;
+use layout::control::no_control;
 use lines::kinds::Call;
 use lines::kinds::no_call;
 
@@ -35,7 +35,7 @@ fn start(fd: i32, plain: bool) -> Column {
         source: opened(fd),
         plain,
         call: no_call(0),
-        ran: answer(0, 0, 0, 0, new_control(0, 0), 0),
+        ran: answer(0, 0, 0, 0, no_control(), 0),
         state: READING,
     }
 }

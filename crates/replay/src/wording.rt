@@ -12,8 +12,8 @@ use lines::words::Span;
 use lines::words::next_word;
 use std::num::wrapping_add_usize;
 
-// The words for refusals: those of arguments, up to 7, then those of a heap's state and of an image, from 20 on.
-const REASONS: [u8; 337] = *b"
+// The words for refusals: those of arguments, up to 7, then those of a heap's state, of an image and of the analysis, from 20 on.
+const REASONS: [u8; 372] = *b"
 sizes out of range
 a buffer is too short
 width above 8
@@ -31,6 +31,7 @@ the image is cut
 the image is not a heap
 a chunk of unknown kind
 64 sinks are listed
+an analysis number is out of range
 ";
 
 // The answers of accepted calls.

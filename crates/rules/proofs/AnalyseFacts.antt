@@ -1,11 +1,13 @@
 -- What an accepted analysis does to the clusters of a heap with the invariant.
 -- Assumes nothing.
-use Prim.Native.Nat.{ℕ, _*_, _/_, _≤_, min, max}
+use Prim.Native.Nat.{ℕ, _*_, _/_, _≤_, _<_, min, max}
 use mathlib.Core.Path.{_≡_, refl, sym, ap, _∙_}
 use mathlib.Core.Bool.{Bool, true, false, not, cond, _&&_, _||_}
 use mathlib.Core.List.{List}
 use mathlib.Core.Logic.{_≢_}
 use native.Mathlib.Nat.{suc-ne-zero}
+use native.Mathlib.Decide.{ℕ-discrete}
+use native.Mathlib.Omega.{arith}
 use lib.Dec.{eqb, ltb}
 use lib.ListN.{length}
 use borrow.Author.Tests.{eq-eqb, ne-eqb, lt-ltb, le-ltb}
@@ -18,20 +20,21 @@ use Rattle.records.specs.Record.{inUse, isWritten, isSink, isOut, cluster}
 use Rattle.graph.specs.Numbers.{sum, count}
 use Rattle.graph.specs.Clusters.{keep, size}
 use Rattle.graph.specs.Heap.{Heap}
-use Rattle.graph.specs.Analysis.{bars, walked, isNew, newHead, over, few, stays, outLossOf, leftClusters}
+use Rattle.graph.specs.Analysis.{Rule, bars, walked, isNew, newHead, over, few, stays, outLossOf, leftClusters}
 use Rattle.graph.specs.Analysis as Graph
 use Rattle.graph.specs.Invariant.{Ready}
-use Rattle.graph.proofs.NumberLaws.{sum-ext, count-ext}
-use Rattle.graph.proofs.AnalysisLaws.{ended-inv, left-older, left-out, left-new, over-halves, seen-reach, placed}
+use Rattle.graph.proofs.NumberLaws.{count-ext}
+use Rattle.graph.proofs.AnalysisLaws.{ended-inv, left-older, left-out, left-new, seen-reach, placed}
 use Rattle.graph.proofs.DepthFirst.{forms, forms-one}
 use Rattle.graph.proofs.State.{good-ready}
 use Rattle.rules.specs.View.{view}
-use Rattle.rules.specs.Analyse.{rule, sixteenth, half, clamped, nextLimit, usedCount}
+use Rattle.rules.specs.Analyse.{ruleOf, sixteenth, half, clamped, nextLimit, usedCount}
 use Rattle.rules.specs.Analyse as Analyse
 use Rattle.rules.specs.Calls.{analyse}
 use Rattle.rules.specs.Steps.{State, step}
-use Rattle.rules.specs.Demands.{recordIn, refusalOf, Analyses, Adjusts, heapOf, rootsOf, limitIn, walkedIn, membersIn, outsIn}
-use Rattle.rules.proofs.BoolLaws.{cond-not}
+use Rattle.rules.specs.Demands.{recordIn, refusalOf, Analyses, Adjusts, heapOf, rootsOf, limitIn, walkedIn, membersIn, outsIn, tooManyOuts}
+use Rattle.graph.proofs.Paths.{keep-zero}
+use Rattle.rules.proofs.BoolLaws.{cond-not, or-true}
 use Rattle.rules.proofs.Invariant.{Inv, inv-control, inv-long, inv-formed, enough}
 use Rattle.rules.proofs.Simulation.{all-by}
 use Rattle.rules.proofs.PointerLaws.{roots-low}
@@ -41,6 +44,9 @@ use Rattle.rules.proofs.AnalyseLaws.{analyse-ruled, limit-low}
 module _ (s : State) (I : Inv s) (work : List ℕ) (accepted : refusalOf (analyse work) s ≡ 0) where
   abbrev H : Heap
   H = heapOf s
+
+  abbrev rule : Rule
+  rule = ruleOf (s .control .tuning)
 
   abbrev limit : ℕ
   limit = limitIn s work
@@ -81,6 +87,7 @@ module _ (s : State) (I : Inv s) (work : List ℕ) (accepted : refusalOf (analys
         (p, fresh x z p);
     sizes = λ c nz z. small c nz z;
     deleted = λ x nz z. left x ∙ kept-or-not x (walked H limit roots x) refl z ∙ gone (walked H limit roots x);
+    none = none;
     unwritten = λ x. unfold Graph.analyse in (ap (λ (K : Heap). K .written x) (analyse-ruled s I work accepted));
     older = λ x nz. (left x ∙ left-older rule H limit roots ready low (roots-low s I) x nz, out x ∙ sym (was x nz));
     closed = λ x z nz. ap (λ (c : ℕ). H .cluster c) (left x) ∙ left-new rule H limit roots ready low (roots-low s I) x z (λ e. nz (left x ∙ e));
@@ -103,9 +110,8 @@ module _ (s : State) (I : Inv s) (work : List ℕ) (accepted : refusalOf (analys
 
       -- the two bounds as they are written
       gone : (c : ℕ) → cond (over rule H (walked H limit roots) c || few rule H (walked H limit roots) c) 0 c
-          ≡ cond (ltb (5 * membersIn s work c) (2 * outsIn s work c) || ltb (membersIn s work c) 4) 0 c
-      gone c = unfold over few in
-          (ap (λ (b : Bool). cond (b || ltb (membersIn s work c) 4) 0 c) (over-halves (membersIn s work c) (outsIn s work c)))
+          ≡ cond (tooManyOuts s work c || ltb (membersIn s work c) (s .control .tuning .«least_members»)) 0 c
+      gone c = unfold over few in refl
 
       unbarred : (x : ℕ) → isWritten (recordIn s x) ≡ false → isSink (recordIn s x) ≡ false → bars H x ≡ false
       unbarred x w k = unfold bars in (rw (w, k) refl)
@@ -115,6 +121,17 @@ module _ (s : State) (I : Inv s) (work : List ℕ) (accepted : refusalOf (analys
 
       small : (c : ℕ) → c ≢ 0 → H .cluster c ≡ 0 → size (s .control .n) (walked H limit roots) c ≤ limit
       small c nz z = unfold walked in (ended-inv H limit roots ready low (roots-low s I) .small c nz z)
+
+      none : limit < s .control .tuning .«least_members» → (x : ℕ) → H .cluster x ≡ 0 → cluster (recordIn (step (analyse work) s .after) x) ≡ 0
+      none l x z = left x ∙ go (ℕ-discrete (walked H limit roots x) 0)
+        where
+          go : Dec (walked H limit roots x ≡ 0) → leftClusters rule H limit roots x ≡ 0
+          go (yes e) = unfold leftClusters in (keep-zero (stays rule H (walked H limit roots)) (walked H limit roots) x e)
+          go (no d) =
+              let c = walked H limit roots x in
+              let m = small c d (fresh x z d) in
+              kept-or-not x c refl (fresh x z d)
+              ∙ (unfold few in (rw (lt-ltb (size (s .control .n) (walked H limit roots) c) (s .control .tuning .«least_members») (omega (arith, m, l)), or-true (over rule H (walked H limit roots) c)) refl))
 
       was : (x : ℕ) → H .cluster x ≢ 0 → H .out x ≡ Graph.analyse rule H limit roots .heap .out x
       was x nz = unfold Graph.analyse in (sym (left-out rule H limit roots ready low (roots-low s I) (I .good .exact) x nz))
@@ -128,7 +145,7 @@ module _ (s : State) (work : List ℕ) (accepted : refusalOf (analyse work) s �
   used = count (before .n) (λ x. inUse (recordIn s x))
 
   abbrev lossIn : ℕ → ℕ
-  lossIn limit = outLossOf rule (heapOf s) (walked (heapOf s) limit (rootsOf s))
+  lossIn limit = outLossOf (ruleOf (before .tuning)) (heapOf s) (walked (heapOf s) limit (rootsOf s))
 
   passed : first (Analyse.analyseTests before (s .records) (s .slots) (s .roots) (s .sinks) (s .sets) work) ≡ 0
   unfolding Analyse.analyse
@@ -145,21 +162,19 @@ module _ (s : State) (work : List ℕ) (accepted : refusalOf (analyse work) s �
 
   -- the next limit by what its two tests tell
   limit-by : (b d : Bool) → eqb (before .limit) 0 ≡ b → ltb (before .«out_loss») (before .«write_loss») ≡ d
-      → nextLimit before used ≡ max 8 (min 4095 (cond b (used / 16) (cond d (before .limit / 2) (2 * before .limit))))
+      → nextLimit before used ≡ max (before .tuning .«lowest_limit») (min 4095 (cond b (used / 16) (cond d (before .limit / 2) (2 * before .limit))))
   unfolding nextLimit clamped sixteenth half
-  limit-by b d e f = λ i. max 8 (min 4095 (cond (e i) (used / 16) (cond (f i) (before .limit / 2) (2 * before .limit))))
+  limit-by b d e f = λ i. max (before .tuning .«lowest_limit») (min 4095 (cond (e i) (used / 16) (cond (f i) (before .limit / 2) (2 * before .limit))))
 
   loss-left : lossIn (limitIn s work)
-      ≡ sum (before .n) (λ h. cond (eqb (cluster (recordIn s h)) 0 && eqb (walkedIn s work h) h && ltb (5 * membersIn s work h) (2 * outsIn s work h)) (membersIn s work h) 0)
+      ≡ sum (before .n) (λ h. cond (eqb (cluster (recordIn s h)) 0 && eqb (walkedIn s work h) h && tooManyOuts s work h) (membersIn s work h) 0)
   unfolding outLossOf newHead isNew over view
-  loss-left =
-      sum-ext (before .n) _ _ (λ h p q. ap (λ (b : Bool). cond (eqb (cluster (recordIn s h)) 0 && eqb (walkedIn s work h) h && b) (membersIn s work h) 0)
-      (over-halves (membersIn s work h) (outsIn s work h)))
+  loss-left = refl
 
   pub analyse-adjusts : Adjusts s work
   unfolding withAnalysis
   analyse-adjusts = record {
-    same = (ap (λ (c : Control). c .n) control-left, ap (λ (c : Control). c .r) control-left, ap (λ (c : Control). c .last) control-left);
+    same = (ap (λ (c : Control). c .n) control-left, ap (λ (c : Control). c .r) control-left, ap (λ (c : Control). c .last) control-left, ap (λ (c : Control). c .tuning) control-left);
     first = λ z. limit-left ∙ limit-by true _ (eq-eqb (before .limit) 0 z) refl;
     halved = λ nz l. limit-left ∙ limit-by false true (ne-eqb (before .limit) 0 nz) (lt-ltb (before .«out_loss») (before .«write_loss») l);
     doubled = λ nz l. limit-left ∙ limit-by false false (ne-eqb (before .limit) 0 nz) (le-ltb (before .«out_loss») (before .«write_loss») l);

@@ -10,8 +10,8 @@ use native.Mathlib.Omega.{arith}
 use Rattle.layout.specs.ControlRecord.{withAnalysis}
 use Rattle.layout.specs.Field.{field, flag}
 use Rattle.layout.specs.declared.answers.Control.{Control}
-use Rattle.layout.proofs.ControlLaws.{analysis-sound}
-use Rattle.graph.specs.Analysis.{walked, stays, leftClusters, outLossOf}
+use Rattle.layout.proofs.ControlLaws.{Sound, analysis-sound}
+use Rattle.graph.specs.Analysis.{Rule, walked, stays, leftClusters, outLossOf}
 use Rattle.graph.specs.Analysis as Graph
 use Rattle.graph.specs.Clusters.{outBit}
 use Rattle.graph.specs.Heap.{Heap}
@@ -19,7 +19,7 @@ use Rattle.graph.proofs.AnalysisLaws.{analyse-good, outLoss-le, walked-met}
 use Rattle.graph.proofs.Paths.{keep-zero}
 use Rattle.graph.proofs.SinkLaws.{sinks-from}
 use Rattle.graph.proofs.State.{Good, good-ready}
-use Rattle.rules.specs.Analyse.{rule, clamped, nextLimit, usedCount, analysed}
+use Rattle.rules.specs.Analyse.{ruleOf, clamped, nextLimit, usedCount, analysed}
 use Rattle.rules.specs.View.{view, heapIn, exactSets, target, encoded}
 use Rattle.rules.specs.Calls.{analyse}
 use Rattle.rules.specs.Analyse as Analyse
@@ -38,13 +38,16 @@ use Rattle.rules.proofs.PointerLaws.{kids-in-use, roots-in-use, roots-l
 
 -- ---- the call
 
-pub limit-range : (c : Control) (used : ℕ) → (8 ≤ nextLimit c used) × (nextLimit c used ≤ 4095)
+pub limit-range : (c : Control) → Sound c → (used : ℕ) → (c .tuning .«lowest_limit» ≤ nextLimit c used) × (nextLimit c used ≤ 4095)
 unfolding nextLimit clamped
-limit-range c used = (omega arith, omega arith)
+limit-range c S used = (omega arith, omega (arith, S .tuned .lowests))
 
 module _ (s : State) (I : Inv s) (work : List ℕ) where
   abbrev H : Heap
   H = heapOf s
+
+  abbrev rule : Rule
+  rule = ruleOf (s .control .tuning)
 
   abbrev limit : ℕ
   limit = nextLimit (s .control) (usedCount (s .control .n) (s .records))
@@ -56,7 +59,7 @@ module _ (s : State) (I : Inv s) (work : List ℕ) where
   cl′ = leftClusters rule H limit roots
 
   low : 1 ≤ limit
-  low = let a = limit-range (s .control) (usedCount (s .control .n) (s .records)) in omega (arith, a .0)
+  low = let a = limit-range (s .control) (I .sound) (usedCount (s .control .n) (s .records)) in omega (arith, a .0, I .sound .tuned .lowest)
 
   G : Good (Graph.analyse rule H limit roots .heap) 0
   unfolding view
@@ -107,7 +110,7 @@ module _ (s : State) (I : Inv s) (work : List ℕ) where
   after-inv : Inv after
   unfolding Graph.analyse view withAnalysis
   after-inv =
-      let l = limit-range (s .control) (usedCount (s .control .n) (s .records)) in
+      let l = limit-range (s .control) (I .sound) (usedCount (s .control .n) (s .records)) in
       encoded-inv s I (H .kids) (H .listed) fits (s .slots) same-kids (s .sinks) (after .sets) (s .control .last) limit 0 (outLossOf rule H (walked H limit roots)) G
       (analysis-sound (s .control) (I .sound) limit _ (l .0) (l .1) (outLoss-le rule H (walked H limit roots)))
       (I .slots-long) (I .empty) (I .named) (I .sinks-long) refl (I .single) (rw (length-exact _ (s .sets)) (I .sets-long))
@@ -132,7 +135,7 @@ module _ (s : State) (I : Inv s) (work : List ℕ) where
   -- the buffers hold the heap that the rule gives
   pub analyse-ruled : Analyse.analyse (s .control) (s .records) (s .slots) (s .roots) (s .sinks) (s .sets) work .answer .refusal ≡ 0
       → heapOf (step (analyse work) s .after)
-      ≡ Graph.analyse rule (heapOf s) (limitIn s work) (rootsOf s) .heap
+      ≡ Graph.analyse (ruleOf (s .control .tuning)) (heapOf s) (limitIn s work) (rootsOf s) .heap
   unfolding step Analyse.analyse Analyse.limitAfter analysed withAnalysis
   analyse-ruled =
       all-by (λ (o : Analyse.Outcome). o .answer .refusal ≡ 0 → heapIn (o .answer .control .n) (o .records) (s .slots) (s .sinks) ≡ Graph.analyse rule H (o .answer .control .limit) roots .heap) _ _ _

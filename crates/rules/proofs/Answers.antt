@@ -15,6 +15,7 @@ use Rattle.layout.specs.Field.{put, putFlag, digit}
 use Rattle.layout.specs.Limits.{sinkMax, slotsLen}
 use Rattle.layout.specs.Refusal.{Test, first, outcome}
 use Rattle.layout.specs.declared.answers.Control.{Control}
+use Rattle.layout.specs.declared.answers.Tuning.{Tuning}
 use Rattle.layout.specs.declared.answers.WordRead.{WordRead}
 use Rattle.layout.proofs.ControlLaws.{control-facts}
 use Rattle.layout.proofs.RefusalLaws.{first-passed}
@@ -51,26 +52,27 @@ use Rattle.rules.proofs.Simulation.{all-by}
 
 -- ---- create
 
-pub create-new : (n r : ℕ) (recs slots roots list sets : List ℕ)
-    → let o = Create.create n r recs slots roots list sets in
+pub create-new : (n r : ℕ) (t : Tuning) (recs slots roots list sets : List ℕ)
+    → let o = Create.create n r t recs slots roots list sets in
     o .answer .refusal ≡ 0
-    → (o .answer .control ≡ newControl n r) × Cleared n (o .records) × Cleared (slotsLen n) (o .slots) × Cleared r (o .roots)
+    → (o .answer .control ≡ newControl n r t) × Cleared n (o .records) × Cleared (slotsLen n) (o .slots) × Cleared r (o .roots)
     × Cleared sinkMax (o .sinks) × Cleared n (o .sets)
 unfolding Create.create
-create-new n r recs slots roots list sets =
+create-new n r t recs slots roots list sets =
     all-by
     (λ (o : Create.Outcome).
     o .answer .refusal ≡ 0
-    → (o .answer .control ≡ newControl n r) × Cleared n (o .records) × Cleared (slotsLen n) (o .slots) × Cleared r (o .roots)
+    → (o .answer .control ≡ newControl n r t) × Cleared n (o .records) × Cleared (slotsLen n) (o .slots) × Cleared r (o .roots)
     × Cleared sinkMax (o .sinks) × Cleared n (o .sets)) _ _ _
     (λ z e. new z) (λ m e. absurd (suc-ne-zero m e))
   where
-    new : first (Create.createTests n r recs slots roots list sets) ≡ 0
-        → (newControl n r ≡ newControl n r) × Cleared n (zeros n recs) × Cleared (slotsLen n) (zeros (slotsLen n) slots) × Cleared r (zeros r roots)
+    new : first (Create.createTests n r t recs slots roots list sets) ≡ 0
+        → (newControl n r t ≡ newControl n r t) × Cleared n (zeros n recs) × Cleared (slotsLen n) (zeros (slotsLen n) slots) × Cleared r (zeros r roots)
         × Cleared sinkMax (zeros sinkMax list) × Cleared n (zeros n sets)
     new z = unfold Create.createTests shortHeap in
         (let t1 = first-passed 0 _ _ z in
-        let t2 = first-passed 1 (short n recs || short (slotsLen n) slots || short r roots || short sinkMax list || short n sets) _ (t1 .1) in
+        let t30 = first-passed 29 _ _ (t1 .1) in
+        let t2 = first-passed 1 (short n recs || short (slotsLen n) slots || short r roots || short sinkMax list || short n sets) _ (t30 .1) in
         let e = or-split (short n recs || short (slotsLen n) slots || short r roots || short sinkMax list) (short n sets) (t2 .0) in
         let d = or-split (short n recs || short (slotsLen n) slots || short r roots) (short sinkMax list) (e .0) in
         let a = or-split (short n recs || short (slotsLen n) slots) (short r roots) (d .0) in

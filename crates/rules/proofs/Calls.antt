@@ -3,6 +3,7 @@
 use Prim.Native.Nat.{ℕ}
 use mathlib.Core.Path.{_≡_, sym, subst}
 use mathlib.Core.List.{List}
+use Rattle.layout.specs.declared.answers.Tuning.{Tuning}
 use Rattle.rules.specs.Create.{create}
 use Rattle.rules.specs.Calls.{Call, allocate, allocateInPlace, read, show, write, writeInPlace, setRoot, declareSink, collect, analyse, save, load}
 use Rattle.rules.specs.Plain.{Played}
@@ -32,15 +33,15 @@ step-inv (declareSink i) s I = declare-inv s I i
 step-inv (collect kind work map) s I = collect-inv s I kind work map
 step-inv (analyse work) s I = analyse-inv s I work
 step-inv (save out) s I = subst Inv (sym (save-stays s out)) I
-step-inv (load image recs slots roots list sets) s I = load-step-inv image recs slots roots list sets s I
+step-inv (load t image recs slots roots list sets) s I = load-step-inv t image recs slots roots list sets s I
 
-pub created-inv : (n r : ℕ) (recs slots roots list sets : List ℕ) → create n r recs slots roots list sets .answer .refusal ≡ 0
-    → Inv (created n r recs slots roots list sets)
-created-inv n r recs slots roots list sets e =
-    let a = accepted n r recs slots roots list sets e in
-    subst Inv (sym (a .1)) (zeroed-inv n r recs slots roots list sets (a .0))
+pub created-inv : (n r : ℕ) (t : Tuning) (recs slots roots list sets : List ℕ) → create n r t recs slots roots list sets .answer .refusal ≡ 0
+    → Inv (created n r t recs slots roots list sets)
+created-inv n r t recs slots roots list sets e =
+    let a = accepted n r t recs slots roots list sets e in
+    subst Inv (sym (a .1)) (zeroed-inv n r t recs slots roots list sets (a .0))
 
 pub made-inv : {s : State} → Made s → Inv s
-made-inv (new n r recs slots roots list sets e p) = subst Inv (sym p) (created-inv n r recs slots roots list sets e)
-made-inv (took image recs slots roots list sets e p) = subst Inv (sym p) (load-inv image recs slots roots list sets e)
+made-inv (new n r t recs slots roots list sets e p) = subst Inv (sym p) (created-inv n r t recs slots roots list sets e)
+made-inv (took t image recs slots roots list sets e p) = subst Inv (sym p) (load-inv t image recs slots roots list sets e)
 made-inv (called {s = s} call m p) = subst Inv (sym p) (step-inv call s (made-inv m))

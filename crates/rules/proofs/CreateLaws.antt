@@ -11,13 +11,14 @@ use lib.ListN.{length, take, drop, replicate}
 use borrow.Author.Tests.{ltb-false}
 use Rattle.layout.proofs.RefusalLaws.{first-passed}
 use Rattle.records.specs.Record as R
-use Rattle.layout.specs.ControlRecord.{newControl}
+use Rattle.layout.specs.ControlRecord.{newControl, noControl}
+use Rattle.layout.specs.declared.answers.Tuning.{Tuning}
 use Rattle.layout.specs.Field.{field, flag}
 use Rattle.layout.specs.Limits.{slotsLen, sinkMax}
 use Rattle.records.specs.Record.{width}
 use Rattle.layout.specs.Refusal.{first, by, outcome}
 use Rattle.layout.specs.Word.{isNil}
-use Rattle.layout.proofs.ControlLaws.{Sizes, sizes-facts, new-sound}
+use Rattle.layout.proofs.ControlLaws.{Sizes, Tuned, sizes-facts, tuning-facts, new-sound}
 use Rattle.graph.proofs.Lifecycle.{unclustered-good}
 use Rattle.graph.proofs.State.{Good}
 use Rattle.rules.specs.Buffers.{recOf, short, shortHeap, eachSlot, zeros, eight, usedWords, otherWords, allOf}
@@ -45,10 +46,10 @@ nil-map (w ∷ l) (suc k) = nil-map l k
 
 -- ---- an accepted create
 
-module _ (n r : ℕ) (recs slots roots list sets : List ℕ) where
+module _ (n r : ℕ) (t : Tuning) (recs slots roots list sets : List ℕ) where
   abbrev zeroed : State
   zeroed = record {
-    control = newControl n r;
+    control = newControl n r t;
     records = zeros n recs;
     slots = zeros (slotsLen n) slots;
     roots = zeros r roots;
@@ -58,23 +59,26 @@ module _ (n r : ℕ) (recs slots roots list sets : List ℕ) where
 
   pub record Fits : Type 0 where
     pub sizes : Sizes n r
+    pub tuned : Tuned t
     pub recs-long : n ≤ length recs
     pub slots-long : 8 * n ≤ length slots
     pub roots-long : r ≤ length roots
     pub sinks-long : sinkMax ≤ length list
     pub sets-long : n ≤ length sets
 
-  fits : first (createTests n r recs slots roots list sets) ≡ 0 → Fits
+  fits : first (createTests n r t recs slots roots list sets) ≡ 0 → Fits
   unfolding createTests short shortHeap slotsLen
   fits z =
       let t1 = first-passed 0 _ _ z in
-      let t2 = first-passed 1 _ _ (t1 .1) in
+      let t30 = first-passed 29 _ _ (t1 .1) in
+      let t2 = first-passed 1 _ _ (t30 .1) in
       let a = or-split _ _ (t2 .0) in
       let b = or-split _ _ (a .0) in
       let d = or-split _ _ (b .0) in
       let e = or-split _ _ (d .0) in
       record {
         sizes = sizes-facts n r (t1 .0);
+        tuned = tuning-facts t (t30 .0);
         recs-long = ltb-false _ _ (e .0);
         slots-long = ltb-false _ _ (e .1);
         roots-long = ltb-false _ _ (d .1);
@@ -83,15 +87,15 @@ module _ (n r : ℕ) (recs slots roots list sets : List ℕ) where
       }
 
   -- accepted: the tests pass, and the state is zeroed
-  pub accepted : create n r recs slots roots list sets .answer .refusal ≡ 0 → Fits × (created n r recs slots roots list sets ≡ zeroed)
+  pub accepted : create n r t recs slots roots list sets .answer .refusal ≡ 0 → Fits × (created n r t recs slots roots list sets ≡ zeroed)
   unfolding create outcome created
-  accepted e = go (first (createTests n r recs slots roots list sets)) refl e
+  accepted e = go (first (createTests n r t recs slots roots list sets)) refl e
     where
-      go : (m : ℕ) → first (createTests n r recs slots roots list sets) ≡ m
+      go : (m : ℕ) → first (createTests n r t recs slots roots list sets) ≡ m
           → by {A = Outcome} m
-          (gives (record { refusal = 0; control = newControl n r }) (zeros n recs) (zeros (slotsLen n) slots) (zeros r roots) (zeros sinkMax list) (zeros n sets))
-          (λ k. gives (record { refusal = k; control = newControl 0 0 }) recs slots roots list sets) .answer .refusal ≡ 0
-          → Fits × (created n r recs slots roots list sets ≡ zeroed)
+          (gives (record { refusal = 0; control = newControl n r t }) (zeros n recs) (zeros (slotsLen n) slots) (zeros r roots) (zeros sinkMax list) (zeros n sets))
+          (λ k. gives (record { refusal = k; control = noControl }) recs slots roots list sets) .answer .refusal ≡ 0
+          → Fits × (created n r t recs slots roots list sets ≡ zeroed)
       go zero z h = (fits z, (unfold created create outcome in (rw z (unfold by in refl))))
       go (suc m) z h = absurd (suc-ne-zero m (unfold by in h))
 
@@ -130,7 +134,7 @@ module _ (n r : ℕ) (recs slots roots list sets : List ℕ) where
     pub zeroed-inv : Inv zeroed
     unfolding newControl
     zeroed-inv = record {
-      sound = new-sound n r (F .sizes);
+      sound = new-sound n r t (F .sizes) (F .tuned);
       recs-long = unfold zeros in (rw (length-each 0 n (λ _ w. 0) recs) (F .recs-long));
       slots-long = unfold zeros slotsLen in (rw (length-each 0 (8 * n) (λ _ w. 0) slots) (F .slots-long));
       roots-long = unfold zeros in (rw (length-each 0 r (λ _ w. 0) roots) (F .roots-long));

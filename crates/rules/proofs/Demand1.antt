@@ -20,6 +20,7 @@ use Rattle.rules.specs.Collect as Collect
 use Rattle.rules.specs.Save as Save
 use Rattle.rules.specs.Load as Load
 use Rattle.rules.specs.Demands.{Demand1, Decided, inOrder}
+use Rattle.rules.proofs.OrderLaws.{tuning-legal, control-legal}
 use Rattle.rules.proofs.Refused.{decided, create-ordered, allocate-ordered, read-ordered, show-ordered, write-ordered, root-ordered, declare-ordered, analyse-ordered, collect-ordered}
 use Rattle.rules.proofs.Frames.{create-within, allocate-within, write-within, root-within, declare-within, analyse-within, collect-within, analyse-clears, collect-clears}
 use Rattle.rules.proofs.Answers.{create-new, allocate-full, allocate-gives, allocate-in-place, read-word, show-part, write-stores, write-in-place, root-stores, read-control, show-control, write-control, root-control, declare-control, collect-control}
@@ -45,7 +46,9 @@ declare-decided c i recs slots roots list sets e =
 pub demand1 : Demand1
 unfolding Create.create Allocate.allocate Read.read Show.show Write.write SetRoot.setRoot DeclareSink.declareSink Analyse.analyse Collect.collect Save.save Load.load
 demand1 = record {
-  created = λ n r recs slots roots list sets. (decided _ _ _ (λ (o : Create.Outcome). o .answer .refusal) refl (λ k. refl) (create-ordered n r recs slots roots list sets), create-within n r recs slots roots list sets .0, create-within n r recs slots roots list sets .1, create-within n r recs slots roots list sets .2, create-within n r recs slots roots list sets .3, create-within n r recs slots roots list sets .4, create-new n r recs slots roots list sets);
+  tunings = tuning-legal;
+  controls = control-legal;
+  created = λ n r t recs slots roots list sets. (decided _ _ _ (λ (o : Create.Outcome). o .answer .refusal) refl (λ k. refl) (create-ordered n r t recs slots roots list sets), create-within n r t recs slots roots list sets .0, create-within n r t recs slots roots list sets .1, create-within n r t recs slots roots list sets .2, create-within n r t recs slots roots list sets .3, create-within n r t recs slots roots list sets .4, create-new n r t recs slots roots list sets);
   allocated = λ c width recs slots. (decided _ _ _ (λ (o : Allocate.Outcome). o .answer .refusal) refl (λ k. refl) (allocate-ordered c width recs slots), allocate-within c width recs slots .0, allocate-within c width recs slots .1, allocate-full c width recs slots, allocate-gives c width recs slots, allocate-in-place c width recs slots);
   wordRead = λ c i k recs slots. (decided _ _ _ (λ (a : WordRead). a .refusal) refl (λ m. refl) (read-ordered c i k recs slots), read-control c i k recs slots, read-word c i k recs slots);
   shown = λ c i recs slots. (decided _ _ _ (λ (o : Show.Outcome). o .answer .refusal) refl (λ k. refl) (show-ordered c i recs slots), show-control c i recs slots, show-part c i recs slots);
@@ -56,7 +59,7 @@ demand1 = record {
   collected = λ kind c recs slots roots list sets work map.
       (decided _ _ _ (λ (o : Collect.Outcome). o .answer .refusal) refl (λ k. refl) (collect-ordered c recs slots roots list sets work map), collect-within kind c recs slots roots list sets work map .0, collect-within kind c recs slots roots list sets work map .1, collect-within kind c recs slots roots list sets work map .2, collect-within kind c recs slots roots list sets work map .3, collect-within kind c recs slots roots list sets work map .4, collect-within kind c recs slots roots list sets work map .5, collect-clears kind c recs slots roots list sets work map, collect-control kind c recs slots roots list sets work map);
   saved = λ c recs slots roots list sets out. (decided _ _ _ (λ (o : Save.Outcome). o .answer .refusal) refl (λ k. refl) (save-ordered c recs slots roots list sets out), save-within c recs slots roots list sets out, save-control c recs slots roots list sets out, save-length c recs slots roots list sets out);
-  loaded = λ image recs slots roots list sets. (decided _ _ _ (λ (o : Load.Outcome). o .answer .refusal) refl (λ k. refl) (load-ordered image recs slots roots list sets), load-within image recs slots roots list sets .0, load-within image recs slots roots list sets .1, load-within image recs slots roots list sets .2, load-within image recs slots roots list sets .3, load-within image recs slots roots list sets .4, load-fresh image recs slots roots list sets);
+  loaded = λ t image recs slots roots list sets. (decided _ _ _ (λ (o : Load.Outcome). o .answer .refusal) refl (λ k. refl) (load-ordered t image recs slots roots list sets), load-within t image recs slots roots list sets .0, load-within t image recs slots roots list sets .1, load-within t image recs slots roots list sets .2, load-within t image recs slots roots list sets .3, load-within t image recs slots roots list sets .4, load-fresh t image recs slots roots list sets);
   ends = λ c recs slots roots list sets e.
       let S = sane _ _ _ _ _ (formed-of c recs slots roots list sets e) in
       let L = sinks-of c recs slots roots list sets e .listed in

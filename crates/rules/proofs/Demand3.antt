@@ -15,7 +15,7 @@ use Rattle.layout.specs.Refusal.{first}
 use Rattle.rules.specs.Buffers.{eight, usedWords, otherWords, allOf, numbers}
 use Rattle.rules.specs.Collect.{byClusters}
 use Rattle.rules.specs.Collect as Collect
-use Rattle.rules.specs.Load.{imageTests, imageN, imageR}
+use Rattle.rules.specs.Load.{inputTests, imageN, imageR}
 use Rattle.rules.specs.Calls.{Call, allocate, allocateInPlace, read, show, write, writeInPlace, setRoot, declareSink, collect, analyse, save, load}
 use Rattle.rules.specs.Plain.{Plain, Played, Cell, plainSize, eightOf, plainSlots, plainStep, plainCreated}
 use Rattle.rules.specs.Steps.{State, step, answersOf, afterAll}
@@ -93,7 +93,7 @@ LentOne n (declareSink i) = Unit {0}
 LentOne n (collect kind work map) = (workLen n ≤ length work) × (mapLen n ≤ length map) × Unit {0}
 LentOne n (analyse work) = Unit {0}
 LentOne n (save out) = Unit {0}
-LentOne n (load image recs slots roots list sets) = first (imageTests image) ≡ 0 → Long (imageN image) (imageR image) recs slots roots list sets
+LentOne n (load t image recs slots roots list sets) = first (inputTests t image) ≡ 0 → Long (imageN image) (imageR image) recs slots roots list sets
 
 lent-one : (n : ℕ) (call : Call) → LentCollection n call → LentLoad call → LentOne n call
 lent-one n (allocate width) h k = tt
@@ -107,7 +107,7 @@ lent-one n (declareSink i) h k = tt
 lent-one n (collect kind work map) h k = let t = h kind work map refl in (t .0, t .1, tt)
 lent-one n (analyse work) h k = tt
 lent-one n (save out) h k = tt
-lent-one n (load image recs slots roots list sets) h k = k image recs slots roots list sets refl
+lent-one n (load t image recs slots roots list sets) h k = k t image recs slots roots list sets refl
 
 -- a call whose step, of either heap, is that of another
 same-call : (call call′ : Call) (s : State) → step call s ≡ step call′ s → plainStep call (plainOf s) ≡ plainStep call′ (plainOf s) → Same call′ s → Same call s
@@ -128,7 +128,7 @@ step-same (declareSink i) s I h = declare-same s I i
 step-same (collect kind work map) s I h = collect-same s I kind work map (h .0) (h .1)
 step-same (analyse work) s I h = analyse-same s I work
 step-same (save out) s I h = save-same s I out
-step-same (load image recs slots roots list sets) s I h = load-same image recs slots roots list sets s h
+step-same (load t image recs slots roots list sets) s I h = load-same t image recs slots roots list sets s h
 
 step-scans : (call : Call) (s : State) → Inv s → LentOne (s .control .n) call → ScansFew s call
 step-scans call s I h work map e =
@@ -156,10 +156,10 @@ alike (call ∷ l) s P I p h =
     }
 
 pub demand3 : Demand3
-demand3 n r recs slots roots list sets e calls h =
-    let a = accepted n r recs slots roots list sets e in
+demand3 n r t recs slots roots list sets e calls h =
+    let a = accepted n r t recs slots roots list sets e in
     subst (λ (s : State). Alike calls s (plainCreated n r)) (sym (a .1))
-    (alike calls _ (plainCreated n r) (zeroed-inv n r recs slots roots list sets (a .0)) (zeroed-plain n r recs slots roots list sets (a .0)) h)
+    (alike calls _ (plainCreated n r) (zeroed-inv n r t recs slots roots list sets (a .0)) (zeroed-plain n r t recs slots roots list sets (a .0)) h)
 
 pub plain-keeps : PlainKeeps
 plain-keeps = plain-reach

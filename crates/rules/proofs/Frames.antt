@@ -17,6 +17,7 @@ use Rattle.layout.specs.Refusal.{Test, first}
 use Rattle.layout.specs.Word.{isPointer, legalWord}
 use Rattle.records.specs.Record.{width, cluster, isSink, free, legal, damaged}
 use Rattle.layout.specs.declared.answers.Control.{Control}
+use Rattle.layout.specs.declared.answers.Tuning.{Tuning}
 use Rattle.records.proofs.RecordLaws.{legal-facts, undamaged}
 use Rattle.graph.specs.Heap.{Heap}
 use Rattle.graph.specs.Analysis as Graph
@@ -108,12 +109,12 @@ front : (k : ℕ) (l m : List ℕ) → k ≤ length l → length m ≡ k → Wit
 front k l m p e =
     (length-front l m k (e ∙ sym (length-take-le k l p)), ap (λ (j : ℕ). drop j (m ++ drop k l)) (sym e) ∙ drop-append-seam m (drop k l))
 
-pub create-within : (n r : ℕ) (recs slots roots list sets : List ℕ)
-    → let o = Create.create n r recs slots roots list sets in
+pub create-within : (n r : ℕ) (t : Tuning) (recs slots roots list sets : List ℕ)
+    → let o = Create.create n r t recs slots roots list sets in
     Within n recs (o .records) × Within (slotsLen n) slots (o .slots) × Within r roots (o .roots)
     × Within sinkMax list (o .sinks) × Within n sets (o .sets)
 unfolding Create.create
-create-within n r recs slots roots list sets =
+create-within n r t recs slots roots list sets =
     all-by
     (λ (o : Create.Outcome).
     Within n recs (o .records) × Within (slotsLen n) slots (o .slots) × Within r roots (o .roots)

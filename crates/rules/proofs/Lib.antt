@@ -53,9 +53,11 @@ pub mod SinkFacts
 pub mod Unmet
 -- ---- the demands
 pub mod Calls
+pub mod OrderLaws
 pub mod Demand1
 pub mod Demand2
 pub mod Demand3
+pub mod Tuned
 pub mod Reloads
 pub mod HeldElsewhere
 -- ---- what is computed from the definitions

@@ -10,12 +10,13 @@ use native.Mathlib.Omega.{arith}
 use lib.Dec.{eqb}
 use lib.ListN.{length, getD, take, drop, replicate, length-drop}
 use borrow.Author.Tests.{lt-ltb, le-ltb, eqb-false}
-use Rattle.layout.specs.ControlRecord.{newControl, withLast}
+use Rattle.layout.specs.ControlRecord.{badTuning, newControl, withLast}
 use Rattle.layout.specs.Field.{field, flag}
 use Rattle.layout.specs.Limits.{sinkMax, slotsLen}
+use Rattle.layout.specs.declared.answers.Tuning.{Tuning}
 use Rattle.layout.specs.Refusal.{first, by, outcome}
 use Rattle.layout.specs.Word.{isNil, isImmediate}
-use Rattle.layout.proofs.ControlLaws.{new-sound, last-sound}
+use Rattle.layout.proofs.ControlLaws.{new-sound, last-sound, tuning-facts}
 use Rattle.layout.proofs.FieldLaws.{apart, field-put-flag, flag-put-same, flag-put-other}
 use Rattle.layout.proofs.RefusalLaws.{outcome-zero}
 use Rattle.records.specs.Record.{newRecord, withSink, width, cluster, isSink, isOut, isWritten, inUse, free}
@@ -27,7 +28,7 @@ use Rattle.rules.specs.View.{view}
 use Rattle.rules.specs.WellFormed.{names}
 use Rattle.rules.specs.Calls.{load, did}
 use Rattle.rules.specs.Image.{listed, savedWidth, savedSink, savedAsSink, savedWord, savedWords, savedRoot, savedLast, namesListed}
-use Rattle.rules.specs.Load.{sizes, objects, rootWords, imageN, imageR, imageTests, loadedRecord, loadedWord, loadedSinks, loadTests}
+use Rattle.rules.specs.Load.{sizes, objects, rootWords, imageN, imageR, imageTests, inputTests, loadedRecord, loadedWord, loadedSinks, loadTests}
 use Rattle.rules.specs.Load as Load
 use Rattle.rules.specs.Plain.{cellFrom, plainLoaded, answer, plainStep}
 use Rattle.rules.specs.Steps.{State, loaded, step}
@@ -115,10 +116,10 @@ module _ (s : Bool) (v : ℕ) where
 
 -- ---- the heap that an accepted load leaves
 
-module _ (b recs slots roots list sets : List ℕ) where
+module _ (t : Tuning) (b recs slots roots list sets : List ℕ) where
   abbrev pub laid : State
   laid = record {
-    control = withLast (savedLast (sizes b)) (newControl (imageN b) (imageR b));
+    control = withLast (savedLast (sizes b)) (newControl (imageN b) (imageR b) t);
     records = eachRecord (imageN b) (λ x r. loadedRecord b x) recs;
     slots = eachFrom 0 (slotsLen (imageN b)) (λ j w. loadedWord b (j / 8 + 1) (j % 8)) slots;
     roots = eachFrom 0 (imageR b) (λ j w. savedRoot (rootWords b) j) roots;
@@ -250,10 +251,10 @@ module _ (b recs slots roots list sets : List ℕ) where
         go x (inl e) = rw e (unfold flag field in (refl, refl, refl))
         go x (inr o) = rw (listed-record x (o .0) (o .1)) (made-cluster _ _, made-out _ _, made-written _ _)
 
-    pub laid-inv : Inv laid
+    pub laid-inv : badTuning t ≡ false → Inv laid
     unfolding withLast newControl view
-    laid-inv = record {
-      sound = last-sound (newControl n (imageR b)) (new-sound n (imageR b) (A .ranges)) (savedLast (sizes b)) (A .last);
+    laid-inv u = record {
+      sound = last-sound (newControl n (imageR b) t) (new-sound n (imageR b) t (A .ranges) (tuning-facts t u)) (savedLast (sizes b)) (A .last);
       recs-long = unfold eachRecord in (rw (length-each 1 n (λ x r. loadedRecord b x) recs) (L .0));
       slots-long = unfold slotsLen in (rw (length-each 0 (8 * n) (λ j w. loadedWord b (j / 8 + 1) (j % 8)) slots) (L .1));
       roots-long = rw (length-each 0 (imageR b) (λ j w. savedRoot (rootWords b) j) roots) (L .2);
@@ -300,19 +301,19 @@ module _ (b recs slots roots list sets : List ℕ) where
 
 -- ---- the call, of every input
 
-module _ (b recs slots roots list sets : List ℕ) where
+module _ (t : Tuning) (b recs slots roots list sets : List ℕ) where
   -- the refusal of this load
   abbrev refusal : ℕ
-  refusal = Load.load b recs slots roots list sets .answer .refusal
+  refusal = Load.load t b recs slots roots list sets .answer .refusal
 
-  pub load-answered : refusal ≡ first (loadTests b recs slots roots list sets)
+  pub load-answered : refusal ≡ first (loadTests t b recs slots roots list sets)
   unfolding Load.load
   load-answered = answered _ _ _ (λ (o : Load.Outcome). o .answer .refusal) refl (λ k. refl)
 
   pub load-unmet : (refusal ≢ 20) × (refusal ≢ 21) × (refusal ≢ 25)
-  load-unmet = subst Never (sym load-answered) (tests-unmet b recs slots roots list sets)
+  load-unmet = subst Never (sym load-answered) (tests-unmet t b recs slots roots list sets)
 
-  pub load-within : let o = Load.load b recs slots roots list sets in
+  pub load-within : let o = Load.load t b recs slots roots list sets in
       Within (imageN b) recs (o .records) × Within (slotsLen (imageN b)) slots (o .slots) × Within (imageR b) roots (o .roots)
       × Within sinkMax list (o .sinks) × Within (imageN b) sets (o .sets)
   unfolding Load.load eachRecord zeros
@@ -329,61 +330,62 @@ module _ (b recs slots roots list sets : List ℕ) where
 
   -- accepted: the tests pass, and the state is the one laid
   pub accepted : refusal ≡ 0
-      → (first (imageTests b) ≡ 0) × Long (imageN b) (imageR b) recs slots roots list sets × (loaded b recs slots roots list sets ≡ laid b recs slots roots list sets)
+      → (badTuning t ≡ false) × (first (imageTests b) ≡ 0) × Long (imageN b) (imageR b) recs slots roots list sets × (loaded t b recs slots roots list sets ≡ laid t b recs slots roots list sets)
   unfolding loaded Load.load
   accepted e =
       let z = sym load-answered ∙ e in
-      let t = load-passed b recs slots roots list sets z in (
-        t .0,
-        t .1,
+      let p = load-passed t b recs slots roots list sets z in (
+        p .0,
+        p .1,
+        p .2,
         ap (λ (o : Load.Outcome). record { control = o .answer .control; records = o .records; slots = o .slots; roots = o .roots; sinks = o .sinks; sets = o .sets })
-            (outcome-zero _ _ (loadTests b recs slots roots list sets) z),
+            (outcome-zero _ _ (loadTests t b recs slots roots list sets) z),
       )
 
-  pub load-fresh : let o = Load.load b recs slots roots list sets in o .answer .refusal ≡ 0 → Fresh (o .answer .control) (o .records)
-  unfolding loaded
+  pub load-fresh : let o = Load.load t b recs slots roots list sets in o .answer .refusal ≡ 0 → Fresh (o .answer .control) (o .records) × (o .answer .control .tuning ≡ t)
+  unfolding loaded withLast newControl
   load-fresh e =
       let a = accepted e in
-      subst (λ (s : State). Fresh (s .control) (s .records)) (sym (a .2)) (laid-fresh b recs slots roots list sets (holds b (a .0)) (a .1))
+      subst (λ (s : State). Fresh (s .control) (s .records) × (s .control .tuning ≡ t)) (sym (a .3)) (laid-fresh t b recs slots roots list sets (holds b (a .1)) (a .2), refl)
 
-  pub load-inv : refusal ≡ 0 → Inv (loaded b recs slots roots list sets)
-  load-inv e = let a = accepted e in subst Inv (sym (a .2)) (laid-inv b recs slots roots list sets (holds b (a .0)) (a .1))
+  pub load-inv : refusal ≡ 0 → Inv (loaded t b recs slots roots list sets)
+  load-inv e = let a = accepted e in subst Inv (sym (a .3)) (laid-inv t b recs slots roots list sets (holds b (a .1)) (a .2) (a .0))
 
-  pub load-plain : refusal ≡ 0 → plainOf (loaded b recs slots roots list sets) ≡ plainLoaded b
-  load-plain e = let a = accepted e in ap plainOf (a .2) ∙ laid-plain b recs slots roots list sets (holds b (a .0)) (a .1)
+  pub load-plain : refusal ≡ 0 → plainOf (loaded t b recs slots roots list sets) ≡ plainLoaded b
+  load-plain e = let a = accepted e in ap plainOf (a .3) ∙ laid-plain t b recs slots roots list sets (holds b (a .1)) (a .2)
 
   -- the sinks are in the first places
   pub load-sinks : refusal ≡ 0
-      → take sinkMax (loaded b recs slots roots list sets .sinks) ≡ loadedSinks b ++ replicate (sinkMax - length (loadedSinks b)) 0
+      → take sinkMax (loaded t b recs slots roots list sets .sinks) ≡ loadedSinks b ++ replicate (sinkMax - length (loadedSinks b)) 0
   load-sinks e =
       let a = accepted e in
-      ap (λ (s : State). take sinkMax (s .sinks)) (a .2) ∙ laid-sinks b recs slots roots list sets (holds b (a .0)) (a .1)
+      ap (λ (s : State). take sinkMax (s .sinks)) (a .3) ∙ laid-sinks t b recs slots roots list sets (holds b (a .1)) (a .2)
 
   -- ---- in a heap: accepted, it leaves the one laid, and refused, the one that was
 
-  pub load-step-inv : (s : State) → Inv s → Inv (step (load b recs slots roots list sets) s .after)
+  pub load-step-inv : (s : State) → Inv s → Inv (step (load t b recs slots roots list sets) s .after)
   unfolding step answer
   load-step-inv s I = go refusal refl
     where
-      go : (m : ℕ) → refusal ≡ m → Inv (by m (loaded b recs slots roots list sets) (λ k. s))
+      go : (m : ℕ) → refusal ≡ m → Inv (by m (loaded t b recs slots roots list sets) (λ k. s))
       go zero e = unfold by in (load-inv e)
       go (suc m) e = unfold by in I
 
-  pub load-same : (s : State) → (first (imageTests b) ≡ 0 → Long (imageN b) (imageR b) recs slots roots list sets) → Same (load b recs slots roots list sets) s
+  pub load-same : (s : State) → (first (inputTests t b) ≡ 0 → Long (imageN b) (imageR b) recs slots roots list sets) → Same (load t b recs slots roots list sets) s
   unfolding step answer plainStep outcome
   load-same s long = record {
-    answers = ap (λ (m : ℕ). did m ∷ []) same ∙ told (first (imageTests b));
-    after = ap (λ (m : ℕ). plainOf (by m (loaded b recs slots roots list sets) (λ k. s))) same ∙ left (first (imageTests b)) same;
+    answers = ap (λ (m : ℕ). did m ∷ []) same ∙ told (first (inputTests t b));
+    after = ap (λ (m : ℕ). plainOf (by m (loaded t b recs slots roots list sets) (λ k. s))) same ∙ left (first (inputTests t b)) same;
   }
     where
-      same : refusal ≡ first (imageTests b)
-      same = load-answered ∙ load-tests b recs slots roots list sets long
+      same : refusal ≡ first (inputTests t b)
+      same = load-answered ∙ load-tests t b recs slots roots list sets long
 
       told : (m : ℕ) → (did m ∷ []) ≡ by m (answer (did 0) (plainLoaded b)) (λ k. answer (did k) (plainOf s)) .answers
       told zero = unfold by in refl
       told (suc m) = unfold by in refl
 
       left : (m : ℕ) → refusal ≡ m
-          → plainOf (by m (loaded b recs slots roots list sets) (λ k. s)) ≡ by m (answer (did 0) (plainLoaded b)) (λ k. answer (did k) (plainOf s)) .after
+          → plainOf (by m (loaded t b recs slots roots list sets) (λ k. s)) ≡ by m (answer (did 0) (plainLoaded b)) (λ k. answer (did k) (plainOf s)) .after
       left zero e = unfold by in (load-plain e)
       left (suc m) e = unfold by in refl

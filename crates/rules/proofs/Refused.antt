@@ -11,6 +11,7 @@ use lib.Dec.{eqb}
 use borrow.Author.Tests.{eq-eqb}
 use Rattle.layout.specs.Refusal.{Test, first, by, outcome}
 use Rattle.layout.specs.declared.answers.Control.{Control}
+use Rattle.layout.specs.declared.answers.Tuning.{Tuning}
 use Rattle.layout.proofs.RefusalLaws.{by-number}
 use Rattle.layout.proofs.BoolLaws.{or-split}
 use Rattle.rules.specs.Create as Create
@@ -74,9 +75,9 @@ module _ {A : Type 0} (T : List Test) (a : A) (r : ℕ → A) (refusal : A → �
 
 -- ---- the tests of each call are in order
 
-pub create-ordered : (n r : ℕ) (recs slots roots list sets : List ℕ) → inOrder order (Create.createTests n r recs slots roots list sets) ≡ true
+pub create-ordered : (n r : ℕ) (t : Tuning) (recs slots roots list sets : List ℕ) → inOrder order (Create.createTests n r t recs slots roots list sets) ≡ true
 unfolding inOrder Create.createTests
-create-ordered n r recs slots roots list sets = refl
+create-ordered n r t recs slots roots list sets = refl
 
 pub allocate-ordered : (c : Control) (width : ℕ) (recs slots : List ℕ) → inOrder order (Allocate.allocateTests c width recs slots) ≡ true
 unfolding inOrder Allocate.allocateTests

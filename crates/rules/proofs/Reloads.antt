@@ -8,14 +8,17 @@ use lib.ListN.{length, take, replicate}
 use lib.Seq.{length-take-le}
 use Rattle.layout.specs.Limits.{sinkMax}
 use Rattle.layout.specs.Refusal.{first}
+use Rattle.layout.specs.ControlRecord.{badTuning}
+use Rattle.layout.specs.declared.answers.Tuning.{Tuning}
+use Rattle.layout.proofs.RefusalLaws.{first-fails}
 use Rattle.graph.specs.Numbers.{has}
-use Rattle.rules.specs.Load.{imageTests, imageN, imageR, loadedSinks}
+use Rattle.rules.specs.Load.{imageTests, inputTests, imageN, imageR, loadedSinks}
 use Rattle.rules.specs.Load as Load
 use Rattle.rules.specs.Calls.{Call}
 use Rattle.rules.specs.Plain.{Plain, plainSize, plainSink, plainChunks, plainLoaded}
 use Rattle.rules.specs.Steps.{State, loaded, step, answersOf}
 use Rattle.rules.specs.PlainOf.{plainOf}
-use Rattle.rules.specs.Demands.{EachLent, Long, savedBy, imageBy, listedIn, Behind, Reloads}
+use Rattle.rules.specs.Demands.{EachLent, Reload, savedBy, imageBy, listedIn, Behind, Reloads}
 use Rattle.rules.proofs.ListLaws.{length-numbers}
 use Rattle.rules.proofs.ListedLaws.{Lists, pointers-nonzero}
 use Rattle.rules.proofs.Invariant.{Inv}
@@ -41,8 +44,10 @@ module _ (s : State) (I : Inv s) where
   nonzero : has 0 (listedIn s) ≡ false
   nonzero = pointers-nonzero (take sinkMax (s .sinks))
 
-  module _ (out recs slots roots list sets : List ℕ) (e : savedBy s out .answer .refusal ≡ 0)
-      (l : Long (s .control .n) (s .control .r) recs slots roots list sets) where
+  module _ (t : Tuning) (out recs slots roots list sets : List ℕ) (R : Reload s t out recs slots roots list sets) where
+    e : savedBy s out .answer .refusal ≡ 0
+    e = R .0
+
     abbrev b : List ℕ
     b = imageBy s out
 
@@ -61,21 +66,21 @@ module _ (s : State) (I : Inv s) where
     unfolding plainLoaded
     same-r = sym (length-numbers _ 0 (imageR b)) ∙ ap (λ (P : Plain). length (P .roots)) again ∙ length-take-le (s .control .r) (s .roots) (I .roots-long)
 
-    accepted : Load.load b recs slots roots list sets .answer .refusal ≡ 0
-    unfolding Load.load
+    accepted : Load.load t b recs slots roots list sets .answer .refusal ≡ 0
+    unfolding Load.load inputTests
     accepted =
         answered _ _ _ (λ (o : Load.Outcome). o .answer .refusal) refl (λ k. refl)
-        ∙ load-tests b recs slots roots list sets (λ z. rw (same-n, same-r) l) ∙ passes
+        ∙ load-tests t b recs slots roots list sets (λ z. rw (same-n, same-r) (R .2)) ∙ first-fails 30 _ (badTuning t) (R .1) ∙ passes
 
-    answers : (calls : List Call) → EachLent calls (plainOf s) → answersOf step calls (loaded b recs slots roots list sets) ≡ answersOf step calls s
+    answers : (calls : List Call) → EachLent calls (plainOf s) → answersOf step calls (loaded t b recs slots roots list sets) ≡ answersOf step calls s
     answers calls h =
-        same-answers calls s (loaded b recs slots roots list sets) I (load-inv b recs slots roots list sets accepted)
-        (load-plain b recs slots roots list sets accepted ∙ again) h
+        same-answers calls s (loaded t b recs slots roots list sets) I (load-inv t b recs slots roots list sets accepted)
+        (load-plain t b recs slots roots list sets accepted ∙ again) h
 
     -- the sinks are listed in the same order
-    ordered : take sinkMax (loaded b recs slots roots list sets .sinks) ≡ listedIn s ++ replicate (sinkMax - length (listedIn s)) 0
+    ordered : take sinkMax (loaded t b recs slots roots list sets .sinks) ≡ listedIn s ++ replicate (sinkMax - length (listedIn s)) 0
     ordered =
-        load-sinks b recs slots roots list sets accepted
+        load-sinks t b recs slots roots list sets accepted
         ∙ ap (λ (l : List ℕ). l ++ replicate (sinkMax - length l) 0)
         (ap loadedSinks (save-image s I out e) ∙ image-passes (plainOf s) (writable s I) (listedIn s) listed nonzero .1)
 
@@ -91,9 +96,9 @@ pub reloads : Reloads
 reloads = record {
   saves = λ s m out h. let I = made-inv m in let e = save-accepted s I out h in (e, save-image s I out e);
   room = λ s m. rw (← heap-image s (made-inv m)) (longest (s .control) (s .records) (s .slots) (s .roots) (s .sinks) (s .sets) []);
-  loads = λ s m out recs slots roots list sets e l. accepted s (made-inv m) out recs slots roots list sets e l;
-  same = λ s m out recs slots roots list sets e l calls h. answers s (made-inv m) out recs slots roots list sets e l calls h;
-  sinks = λ s m out recs slots roots list sets e l. ordered s (made-inv m) out recs slots roots list sets e l;
+  loads = λ s m t out recs slots roots list sets R. accepted s (made-inv m) t out recs slots roots list sets R;
+  same = λ s m t out recs slots roots list sets R calls h. answers s (made-inv m) t out recs slots roots list sets R calls h;
+  sinks = λ s m t out recs slots roots list sets R. ordered s (made-inv m) t out recs slots roots list sets R;
   passes = λ s m l z B. behind s (made-inv m) l z B;
   exact = accepted-behind;
   holds = load-plain;

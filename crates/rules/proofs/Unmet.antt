@@ -93,4 +93,4 @@ module _ (s : State) (I : Inv s) where
       unrefused _ _ (answered _ _ _ (λ (o : Collect.Outcome). o .answer .refusal) refl (λ k. refl)) (collect-unmet work map)
   unmet (analyse work) = unrefused _ _ (answered _ _ _ (λ (o : Analyse.Outcome). o .answer .refusal) refl (λ k. refl)) (analyse-unmet work)
   unmet (save out) = unrefused _ _ (answered _ _ _ (λ (o : Save.Outcome). o .answer .refusal) refl (λ k. refl)) (save-unmet out)
-  unmet (load image recs slots roots list sets) = load-unmet image recs slots roots list sets
+  unmet (load t image recs slots roots list sets) = load-unmet t image recs slots roots list sets

@@ -4,8 +4,9 @@ use mathlib.Core.Bool.{not, _||_, cond}
 use mathlib.Core.List.{List, [], _∷_}
 use lib.Dec.{eqb, ltb}
 use Rattle.layout.specs.declared.answers.Control.{Control}
+use Rattle.layout.specs.declared.answers.Tuning.{Tuning}
 use Rattle.layout.specs.declared.answers.Analysed.{Analysed}
-use Rattle.layout.specs.Limits.{limitMin, limitMax, workLen}
+use Rattle.layout.specs.Limits.{limitMax, workLen}
 use Rattle.records.specs.Record.{inUse}
 use Rattle.layout.specs.ControlRecord.{badControl, withAnalysis}
 use Rattle.layout.specs.Refusal.{Test, outcome}
@@ -16,17 +17,9 @@ use Rattle.rules.specs.Buffers.{short, shortHeap, recOf, zeros}
 use Rattle.rules.specs.View.{heapIn, startsIn, exactSets, encoded}
 use Rattle.rules.specs.WellFormed.{wellFormed}
 
--- a new cluster with fewer members is deleted
-abbrev pub least : ℕ
-least = 4
-
--- and one with more out pointers than this for ten members
-abbrev pub outPerTen : ℕ
-outPerTen = 25
-
--- both bounds together ("Analysis")
-abbrev pub rule : Rule
-rule = record { outPerTen = outPerTen; least = least }
+-- the bounds that a new cluster is judged by ("Analysis")
+abbrev pub ruleOf : Tuning → Rule
+ruleOf t = record { outPerTen = t .«outs_per_ten»; least = t .«least_members» }
 
 -- a sixteenth of x, rounded down
 unfoldable pub sixteenth : ℕ → ℕ
@@ -36,14 +29,15 @@ sixteenth x = x / 16
 unfoldable pub half : ℕ → ℕ
 half x = x / 2
 
--- x, clamped to the range of size limits
-unfoldable pub clamped : ℕ → ℕ
-clamped x = max limitMin (min limitMax x)
+-- x, clamped to the range of size limits, which begins at the lowest
+unfoldable pub clamped : ℕ → ℕ → ℕ
+clamped lowest x = max lowest (min limitMax x)
 
 -- the next size limit: a sixteenth of the objects in use the first time, later the last limit halved or doubled, and always clamped
 unfoldable pub nextLimit : Control → ℕ → ℕ
 nextLimit c used =
-    clamped (cond (eqb (c .limit) 0) (sixteenth used) (cond (ltb (c .«out_loss») (c .«write_loss»)) (half (c .limit)) (2 * c .limit)))
+    clamped (c .tuning .«lowest_limit»)
+    (cond (eqb (c .limit) 0) (sixteenth used) (cond (ltb (c .«out_loss») (c .«write_loss»)) (half (c .limit)) (2 * c .limit)))
 
 -- the objects in use, reachable or not ("Analysis")
 unfoldable pub usedCount : ℕ → List ℕ → ℕ
@@ -73,7 +67,7 @@ module _ (c : Control) (recs slots roots list sets work : List ℕ) where
 
   -- the heap and the counts after the analysis
   unfoldable pub analysed : Graph.Analysed
-  analysed = Graph.analyse rule (heapIn (c .n) recs slots list) (limitAfter c recs) (startsIn (c .r) roots)
+  analysed = Graph.analyse (ruleOf (c .tuning)) (heapIn (c .n) recs slots list) (limitAfter c recs) (startsIn (c .r) roots)
 
   -- the outcome ("Analysis")
   unfoldable pub analyse : Outcome

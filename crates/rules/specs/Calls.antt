@@ -1,10 +1,11 @@
 -- Calls with their arguments, and what the game sees of their answers ("The plain heap").
 use Prim.Native.Nat.{ℕ}
 use mathlib.Core.List.{List}
+use Rattle.layout.specs.declared.answers.Tuning.{Tuning}
 use Rattle.rules.specs.Collect.{Kind}
 
 -- allocate and write in either form; each collection is lent work and map of its own, each analysis work of its own, each save bytes, and each load
--- the bytes of an image and the buffers of the heap that it makes
+-- the numbers of the analysis, the bytes of an image and the buffers of the heap that it makes
 pub data Call : Type 0 where
   allocate : (width : ℕ) → Call
   allocateInPlace : (width : ℕ) → Call
@@ -17,7 +18,7 @@ pub data Call : Type 0 where
   collect : (kind : Kind) (work map : List ℕ) → Call
   analyse : (work : List ℕ) → Call
   save : (out : List ℕ) → Call
-  load : (image records slots roots sinks sets : List ℕ) → Call
+  load : (tuning : Tuning) (image records slots roots sinks sets : List ℕ) → Call
 
 -- the number of a refusal, or 0, and what the call answers; of a collection freed, kept and the words of the freed map, of a save its length
 pub data Answer : Type 0 where

@@ -2,8 +2,9 @@
 use Prim.Native.Nat.{ℕ}
 use mathlib.Core.List.{List, [], _∷_}
 use Rattle.layout.specs.declared.answers.Done.{Done}
+use Rattle.layout.specs.declared.answers.Tuning.{Tuning}
 use Rattle.layout.specs.Limits.{sinkMax, slotsLen}
-use Rattle.layout.specs.ControlRecord.{badSizes, newControl}
+use Rattle.layout.specs.ControlRecord.{badSizes, badTuning, newControl, noControl}
 use Rattle.layout.specs.Refusal.{Test, outcome}
 use Rattle.rules.specs.Buffers.{shortHeap, zeros}
 
@@ -20,15 +21,15 @@ pub record Outcome : Type 0 where
 abbrev pub gives : Done → List ℕ → List ℕ → List ℕ → List ℕ → List ℕ → Outcome
 gives a recs slots roots list sets = record { answer = a; records = recs; slots = slots; roots = roots; sinks = list; sets = sets }
 
-module _ (n r : ℕ) (recs slots roots list sets : List ℕ) where
+module _ (n r : ℕ) (t : Tuning) (recs slots roots list sets : List ℕ) where
   -- its tests in their order ("From the input")
   unfoldable pub createTests : List Test
-  createTests = (1, badSizes n r) ∷ (2, shortHeap n r recs slots roots list sets) ∷ []
+  createTests = (1, badSizes n r) ∷ (30, badTuning t) ∷ (2, shortHeap n r recs slots roots list sets) ∷ []
 
   -- refused, it gives a control record of zeros
   unfoldable pub create : Outcome
   create =
       outcome createTests
-      (gives (record { refusal = 0; control = newControl n r }) (zeros n recs) (zeros (slotsLen n) slots) (zeros r roots)
+      (gives (record { refusal = 0; control = newControl n r t }) (zeros n recs) (zeros (slotsLen n) slots) (zeros r roots)
       (zeros sinkMax list) (zeros n sets))
-      (λ k. gives (record { refusal = k; control = newControl 0 0 }) recs slots roots list sets)
+      (λ k. gives (record { refusal = k; control = noControl }) recs slots roots list sets)

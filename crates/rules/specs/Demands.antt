@@ -10,9 +10,10 @@ use Rattle.layout.specs.Limits.{sinkMax, slotsLen, workLen, mapLen}
 use Rattle.layout.specs.Field.{flag}
 use Rattle.records.specs.Record.{inUse, isWritten, isSink, isOut, width, cluster, loose}
 use Rattle.bitmap.specs.Bits.{holds, numbersIn}
-use Rattle.layout.specs.ControlRecord.{newControl, withLast, withWriteLoss}
+use Rattle.layout.specs.ControlRecord.{badTuning, badControl, newControl, noControl, withLast, withWriteLoss}
 use Rattle.layout.specs.Refusal.{Test, first}
 use Rattle.layout.specs.declared.answers.Control.{Control}
+use Rattle.layout.specs.declared.answers.Tuning.{Tuning}
 use Rattle.layout.specs.declared.answers.WordRead.{WordRead}
 use Rattle.layout.specs.declared.answers.Collected.{Collected}
 use Rattle.graph.specs.Numbers.{Obj, has, count, sum, gather}
@@ -33,14 +34,14 @@ use Rattle.rules.specs.Show as Show
 use Rattle.rules.specs.Write as Write
 use Rattle.rules.specs.SetRoot as SetRoot
 use Rattle.rules.specs.DeclareSink as DeclareSink
-use Rattle.rules.specs.Analyse.{rule}
+use Rattle.rules.specs.Analyse.{ruleOf}
 use Rattle.rules.specs.Analyse as Analyse
 use Rattle.rules.specs.Collect.{Kind, plainly, byClusters}
 use Rattle.rules.specs.Collect as Collect
 use Rattle.endian.specs.Bytes.{Octets, bytesOf}
 use Rattle.rules.specs.Image.{sinksKind, chunk}
 use Rattle.rules.specs.Save as Save
-use Rattle.rules.specs.Load.{imageN, imageR, imageTests, loadedSinks}
+use Rattle.rules.specs.Load.{imageN, imageR, imageTests, inputTests, loadedSinks}
 use Rattle.rules.specs.Load as Load
 use Rattle.rules.specs.Calls.{Call, allocate, allocateInPlace, read, show, write, writeInPlace, setRoot, declareSink, collect, analyse, save, load}
 use Rattle.rules.specs.Plain.{Plain, plainSize, plainWords, plainSink, keptNumbers, plainCreated, plainStep, plainSlots, plainChunks, plainImage, plainLoaded}
@@ -51,16 +52,20 @@ use Rattle.rules.specs.PlainOf.{plainOf}
 
 -- the order of the refusals, whatever the call but a save or a load
 abbrev pub order : List ℕ
-order = 1 ∷ 20 ∷ 2 ∷ 3 ∷ 4 ∷ 7 ∷ 21 ∷ 22 ∷ 29 ∷ 5 ∷ 6 ∷ 23 ∷ 25 ∷ 24 ∷ []
+order = 1 ∷ 30 ∷ 20 ∷ 2 ∷ 3 ∷ 4 ∷ 7 ∷ 21 ∷ 22 ∷ 29 ∷ 5 ∷ 6 ∷ 23 ∷ 25 ∷ 24 ∷ []
 
 -- that of a save: the second 2 is for too little space
 abbrev pub saveOrder : List ℕ
 saveOrder = 20 ∷ 2 ∷ 21 ∷ 2 ∷ []
 
--- that of a load of f chunks at most: at each in number order, then 2
-unfoldable pub loadOrder : ℕ → List ℕ
-loadOrder zero = 2 ∷ []
-loadOrder (suc f) = 26 ∷ 27 ∷ 28 ∷ loadOrder f
+-- that of f chunks at most: at each in number order, then 2
+unfoldable pub chunkOrder : ℕ → List ℕ
+chunkOrder zero = 2 ∷ []
+chunkOrder (suc f) = 26 ∷ 27 ∷ 28 ∷ chunkOrder f
+
+-- that of a load of f chunks at most
+abbrev pub loadOrder : ℕ → List ℕ
+loadOrder f = 30 ∷ chunkOrder f
 
 -- the numbers of the tests are some of the list's, in its order
 unfoldable pub inOrder : List ℕ → List Test → Bool
@@ -122,16 +127,34 @@ pub record Fresh (c : Control) (recs : List ℕ) : Type 0 where
   pub losses : (c .«write_loss» ≡ 0) × (c .«out_loss» ≡ 0)
   pub plain : (x : ℕ) → let r = recOf (c .n) recs x in (cluster r ≡ 0) × (isOut r ≡ false) × (isWritten r ≡ false)
 
+-- the three numbers of an analysis are each in range
+pub record Ranges (t : Tuning) : Type 0 where
+  pub least : (1 ≤ t .«least_members») × (t .«least_members» ≤ 4095)
+  pub outs : t .«outs_per_ten» ≤ 80
+  pub lowest : (1 ≤ t .«lowest_limit») × (t .«lowest_limit» ≤ 4095)
+
+-- all nine numbers of a control record are in order; the limit is 0, or not below the lowest
+pub record InOrder (c : Control) : Type 0 where
+  pub objects : (1 ≤ c .n) × (c .n ≤ 4095)
+  pub roots : (1 ≤ c .r) × (c .r ≤ 64)
+  pub last : c .last ≤ c .n
+  pub limit : (c .limit ≡ 0) ⊎ ((c .tuning .«lowest_limit» ≤ c .limit) × (c .limit ≤ 4095))
+  pub losses : (c .«write_loss» ≤ c .n) × (c .«out_loss» ≤ c .n)
+  pub tuning : Ranges (c .tuning)
+
 -- call by call, for all inputs: what a refused call gives, what an accepted one answers and stores, and which words never change
 pub record Demand1 : Type 0 where
-  pub created : (n r : ℕ) (recs slots roots list sets : List ℕ)
-      → let o = Create.create n r recs slots roots list sets in
-      Decided order (Create.createTests n r recs slots roots list sets) o (λ o. o .answer .refusal)
-      (λ k. Create.gives (record { refusal = k; control = newControl 0 0 }) recs slots roots list sets)
+  -- the conditions of 30 and of 20: some number is out of range, or out of order
+  pub tunings : (t : Tuning) → (badTuning t ≡ false) ↔ Ranges t
+  pub controls : (c : Control) → (badControl c ≡ false) ↔ InOrder c
+  pub created : (n r : ℕ) (t : Tuning) (recs slots roots list sets : List ℕ)
+      → let o = Create.create n r t recs slots roots list sets in
+      Decided order (Create.createTests n r t recs slots roots list sets) o (λ o. o .answer .refusal)
+      (λ k. Create.gives (record { refusal = k; control = noControl }) recs slots roots list sets)
       × Within n recs (o .records) × Within (slotsLen n) slots (o .slots) × Within r roots (o .roots)
       × Within sinkMax list (o .sinks) × Within n sets (o .sets)
       × (o .answer .refusal ≡ 0
-      → (o .answer .control ≡ newControl n r) × Cleared n (o .records) × Cleared (slotsLen n) (o .slots) × Cleared r (o .roots)
+      → (o .answer .control ≡ newControl n r t) × Cleared n (o .records) × Cleared (slotsLen n) (o .slots) × Cleared r (o .roots)
       × Cleared sinkMax (o .sinks) × Cleared n (o .sets))
   pub allocated : (c : Control) (width : ℕ) (recs slots : List ℕ)
       → let o = Allocate.allocate c width recs slots in
@@ -190,13 +213,13 @@ pub record Demand1 : Type 0 where
       (λ k. Save.gives (record { refusal = k; length = 0; control = c }) out)
       × Within (o .answer .length) out (o .image) × (o .answer .control ≡ c)
       × (o .answer .refusal ≡ 0 → (o .answer .length ≤ length out) × (o .answer .length ≤ 160 + 36 * c .n + 4 * c .r))
-  pub loaded : (image recs slots roots list sets : List ℕ)
-      → let o = Load.load image recs slots roots list sets in
-      Decided (loadOrder (suc (length image))) (Load.loadTests image recs slots roots list sets) o (λ o. o .answer .refusal)
-      (λ k. Load.gives (record { refusal = k; control = newControl 0 0 }) recs slots roots list sets)
+  pub loaded : (t : Tuning) (image recs slots roots list sets : List ℕ)
+      → let o = Load.load t image recs slots roots list sets in
+      Decided (loadOrder (suc (length image))) (Load.loadTests t image recs slots roots list sets) o (λ o. o .answer .refusal)
+      (λ k. Load.gives (record { refusal = k; control = noControl }) recs slots roots list sets)
       × Within (imageN image) recs (o .records) × Within (slotsLen (imageN image)) slots (o .slots) × Within (imageR image) roots (o .roots)
       × Within sinkMax list (o .sinks) × Within (imageN image) sets (o .sets)
-      × (o .answer .refusal ≡ 0 → Fresh (o .answer .control) (o .records))
+      × (o .answer .refusal ≡ 0 → Fresh (o .answer .control) (o .records) × (o .answer .control .tuning ≡ t))
   -- in every well-formed heap the walks of both collections and of the analysis, which make a number of steps, are then at their end
   pub ends : (c : Control) (recs slots roots list sets : List ℕ) → wellFormed c recs slots roots list sets ≡ true
       → let H = heapIn (c .n) recs slots list in
@@ -207,10 +230,10 @@ pub record Demand1 : Type 0 where
 
 -- a state that an accepted create or load made, the latter of any image, and calls led to, accepted or refused, with any arguments and any buffers
 pub data Made : State → Type 0 where
-  new : {s : State} (n r : ℕ) (recs slots roots list sets : List ℕ) → Create.create n r recs slots roots list sets .answer .refusal ≡ 0
-      → s ≡ created n r recs slots roots list sets → Made s
-  took : {s : State} (image recs slots roots list sets : List ℕ) → Load.load image recs slots roots list sets .answer .refusal ≡ 0
-      → s ≡ loaded image recs slots roots list sets → Made s
+  new : {s : State} (n r : ℕ) (t : Tuning) (recs slots roots list sets : List ℕ) → Create.create n r t recs slots roots list sets .answer .refusal ≡ 0
+      → s ≡ created n r t recs slots roots list sets → Made s
+  took : {s : State} (t : Tuning) (image recs slots roots list sets : List ℕ) → Load.load t image recs slots roots list sets .answer .refusal ≡ 0
+      → s ≡ loaded t image recs slots roots list sets → Made s
   called : {s t : State} (call : Call) → Made s → t ≡ step call s .after → Made t
 
 -- the record of object x
@@ -302,7 +325,7 @@ limitIn s work = analysed s work .answer .control .limit
 pub record Ruled (s : State) : Type 0 where
   pub analysed : (work : List ℕ) → analysed s work .answer .refusal ≡ 0
       → heapOf (step (analyse work) s .after)
-      ≡ Graph.analyse rule (heapOf s) (limitIn s work) (rootsOf s) .heap
+      ≡ Graph.analyse (ruleOf (s .control .tuning)) (heapOf s) (limitIn s work) (rootsOf s) .heap
   pub written : (i k w : ℕ) → Write.write (s .control) i k w (s .records) (s .slots) (s .sinks) (s .sets) .answer .refusal ≡ 0
       → heapOf (step (write i k w) s .after) ≡ store (heapOf s) i k (target (s .control .n) w)
   pub declared : (i : ℕ) → DeclareSink.declareSink (s .control) i (s .records) (s .slots) (s .roots) (s .sinks) (s .sets) .answer .refusal ≡ 0
@@ -320,6 +343,10 @@ membersIn s work c = size (s .control .n) (walkedIn s work) c
 abbrev pub outsIn : State → List ℕ → ℕ → ℕ
 outsIn s work c = outsOf (s .control .n) (heapOf s .kids) (heapOf s .sink) (walkedIn s work) c
 
+-- they are too many: ten times them is more than the control record's number for ten members, times the members
+abbrev pub tooManyOuts : State → List ℕ → ℕ → Bool
+tooManyOuts s work c = ltb (s .control .tuning .«outs_per_ten» * membersIn s work c) (10 * outsIn s work c)
+
 -- what an accepted analysis does to the clusters
 pub record Analyses (s : State) (work : List ℕ) : Type 0 where
   -- its walk is the recursive one, depth first and in slot order, which no other clusters come from
@@ -329,11 +356,13 @@ pub record Analyses (s : State) (work : List ℕ) : Type 0 where
   pub formed : (x : ℕ) → Reachable s x → cluster (recordIn s x) ≡ 0 → isWritten (recordIn s x) ≡ false → isSink (recordIn s x) ≡ false
       → (walkedIn s work x ≢ 0) × (cluster (recordIn s (walkedIn s work x)) ≡ 0)
   pub sizes : (c : ℕ) → c ≢ 0 → cluster (recordIn s c) ≡ 0 → membersIn s work c ≤ limitIn s work
-  -- a new cluster is deleted exactly where it has too many out pointers (2p > 5s) or too few members (s < 4)
+  -- a new cluster is deleted exactly where it has too many out pointers or too few members
   pub deleted : (x : ℕ) → walkedIn s work x ≢ 0 → cluster (recordIn s (walkedIn s work x)) ≡ 0
       → let c = walkedIn s work x in
       cluster (recordAfter (analyse work) s x)
-      ≡ cond (ltb (5 * membersIn s work c) (2 * outsIn s work c) || ltb (membersIn s work c) 4) 0 c
+      ≡ cond (tooManyOuts s work c || ltb (membersIn s work c) (s .control .tuning .«least_members»)) 0 c
+  -- so nothing new is left where the limit is below the least members
+  pub none : limitIn s work < s .control .tuning .«least_members» → (x : ℕ) → cluster (recordIn s x) ≡ 0 → cluster (recordAfter (analyse work) s x) ≡ 0
   pub unwritten : (x : ℕ) → isWritten (recordAfter (analyse work) s x) ≡ false
   -- an older cluster keeps its members and their out bits, and gets no other member
   pub older : (x : ℕ) → cluster (recordIn s x) ≢ 0
@@ -348,15 +377,19 @@ pub record Analyses (s : State) (work : List ℕ) : Type 0 where
 
 -- the control record that an accepted analysis of any buffers answers
 pub record Adjusts (s : State) (work : List ℕ) : Type 0 where
-  pub same : let c = analysed s work .answer .control in (c .n ≡ s .control .n) × (c .r ≡ s .control .r) × (c .last ≡ s .control .last)
-  -- the limit is first a sixteenth of the objects in use, later half or twice what it was, and always at least 8 and at most 4,095
-  pub first : s .control .limit ≡ 0 → limitIn s work ≡ max 8 (min 4095 (count (s .control .n) (λ x. inUse (recordIn s x)) / 16))
-  pub halved : s .control .limit ≢ 0 → s .control .«out_loss» < s .control .«write_loss» → limitIn s work ≡ max 8 (min 4095 (s .control .limit / 2))
-  pub doubled : s .control .limit ≢ 0 → s .control .«write_loss» ≤ s .control .«out_loss» → limitIn s work ≡ max 8 (min 4095 (2 * s .control .limit))
+  pub same : let c = analysed s work .answer .control in
+      (c .n ≡ s .control .n) × (c .r ≡ s .control .r) × (c .last ≡ s .control .last) × (c .tuning ≡ s .control .tuning)
+  -- the limit is first a sixteenth of the objects in use, later half or twice what it was, and always at least the lowest and at most 4,095
+  pub first : s .control .limit ≡ 0
+      → limitIn s work ≡ max (s .control .tuning .«lowest_limit») (min 4095 (count (s .control .n) (λ x. inUse (recordIn s x)) / 16))
+  pub halved : s .control .limit ≢ 0 → s .control .«out_loss» < s .control .«write_loss»
+      → limitIn s work ≡ max (s .control .tuning .«lowest_limit») (min 4095 (s .control .limit / 2))
+  pub doubled : s .control .limit ≢ 0 → s .control .«write_loss» ≤ s .control .«out_loss»
+      → limitIn s work ≡ max (s .control .tuning .«lowest_limit») (min 4095 (2 * s .control .limit))
   pub writeLoss : analysed s work .answer .control .«write_loss» ≡ 0
-  -- the members of the new clusters with 2p > 5s
+  -- the members of the new clusters with too many out pointers
   pub outLoss : analysed s work .answer .control .«out_loss»
-      ≡ sum (s .control .n) (λ h. cond (eqb (cluster (recordIn s h)) 0 && eqb (walkedIn s work h) h && ltb (5 * membersIn s work h) (2 * outsIn s work h)) (membersIn s work h) 0)
+      ≡ sum (s .control .n) (λ h. cond (eqb (cluster (recordIn s h)) 0 && eqb (walkedIn s work h) h && tooManyOuts s work h) (membersIn s work h) 0)
 
 -- ---- the sets
 
@@ -430,7 +463,7 @@ refusalOf (declareSink i) s = DeclareSink.declareSink (s .control) i (s .records
 refusalOf (collect kind work map) s = collected s kind work map .answer .refusal
 refusalOf (analyse work) s = analysed s work .answer .refusal
 refusalOf (save out) s = Save.save (s .control) (s .records) (s .slots) (s .roots) (s .sinks) (s .sets) out .answer .refusal
-refusalOf (load image recs slots roots list sets) s = Load.load image recs slots roots list sets .answer .refusal
+refusalOf (load t image recs slots roots list sets) s = Load.load t image recs slots roots list sets .answer .refusal
 
 -- five buffers are long enough for n objects and r roots
 abbrev pub Long : ℕ → ℕ → List ℕ → List ℕ → List ℕ → List ℕ → List ℕ → Type 0
@@ -477,10 +510,10 @@ pub record Demand2 : Type 0 where
 abbrev pub LentCollection : ℕ → Call → Type 0
 LentCollection n call = (kind : Kind) (work map : List ℕ) → call ≡ collect kind work map → (workLen n ≤ length work) × (mapLen n ≤ length map)
 
--- what a load is lent: buffers for the heap of its image, unless the image is refused
+-- what a load is lent: buffers for the heap of its image, unless what it is given is refused
 abbrev pub LentLoad : Call → Type 0
 LentLoad call =
-    (image recs slots roots list sets : List ℕ) → call ≡ load image recs slots roots list sets → first (imageTests image) ≡ 0
+    (t : Tuning) (image recs slots roots list sets : List ℕ) → call ≡ load t image recs slots roots list sets → first (inputTests t image) ≡ 0
     → Long (imageN image) (imageR image) recs slots roots list sets
 
 -- each call of a list, made from this plain heap on, is lent enough; an analysis and a save may be lent anything
@@ -509,8 +542,8 @@ pub record Alike (calls : List Call) (s : State) (P : Plain) : Type 0 where
 -- all of demand 3
 abbrev pub Demand3 : Type 0
 Demand3 =
-    (n r : ℕ) (recs slots roots list sets : List ℕ) → Create.create n r recs slots roots list sets .answer .refusal ≡ 0
-    → (calls : List Call) → EachLent calls (plainCreated n r) → Alike calls (created n r recs slots roots list sets) (plainCreated n r)
+    (n r : ℕ) (t : Tuning) (recs slots roots list sets : List ℕ) → Create.create n r t recs slots roots list sets .answer .refusal ≡ 0
+    → (calls : List Call) → EachLent calls (plainCreated n r) → Alike calls (created n r t recs slots roots list sets) (plainCreated n r)
 
 -- and what the plain heap keeps in a collection is what pointers reach from its roots
 abbrev pub PlainKeeps : Type 0
@@ -542,6 +575,11 @@ pub data Behind (n : ℕ) (sink : ℕ → Bool) : List ℕ → List ℕ → Type
   listed : {a z : List ℕ} (l : List ℕ) → Passed a → 1 ≤ length l → has 0 l ≡ false → lists n sink l ≡ true → Passed z
       → Behind n sink l (a ++ (chunk sinksKind (bytesOf 2 l) ++ z))
 
+-- what a load after a save is given: the image of an accepted save, a legal tuning, and buffers that are long enough
+abbrev pub Reload : State → Tuning → List ℕ → List ℕ → List ℕ → List ℕ → List ℕ → List ℕ → Type 0
+Reload s t out recs slots roots list sets =
+    (savedBy s out .answer .refusal ≡ 0) × (badTuning t ≡ false) × Long (s .control .n) (s .control .r) recs slots roots list sets
+
 -- a save of a heap that the calls made, and a load of its image
 pub record Reloads : Type 0 where
   -- the save is accepted where there is room, and its image is that of the plain heap, with the sinks in the order of the list
@@ -549,18 +587,16 @@ pub record Reloads : Type 0 where
       → (savedBy s out .answer .refusal ≡ 0) × (imageBy s out ≡ plainImage (plainOf s) (listedIn s))
   -- there is room wherever there is room for n objects of eight words, r roots and 64 sinks
   pub room : (s : State) → Made s → length (plainImage (plainOf s) (listedIn s)) ≤ 160 + 36 * s .control .n + 4 * s .control .r
-  -- the image is loaded into any buffers that are long enough
-  pub loads : (s : State) → Made s → (out recs slots roots list sets : List ℕ) → savedBy s out .answer .refusal ≡ 0
-      → Long (s .control .n) (s .control .r) recs slots roots list sets
-      → Load.load (imageBy s out) recs slots roots list sets .answer .refusal ≡ 0
+  -- the image is loaded into any buffers that are long enough, with any legal tuning
+  pub loads : (s : State) → Made s → (t : Tuning) (out recs slots roots list sets : List ℕ) → Reload s t out recs slots roots list sets
+      → Load.load t (imageBy s out) recs slots roots list sets .answer .refusal ≡ 0
   -- and every list of later calls gets the answers that it would have had; of a later save that is its length: its bytes may have the sinks in another order
-  pub same : (s : State) → Made s → (out recs slots roots list sets : List ℕ) → savedBy s out .answer .refusal ≡ 0
-      → Long (s .control .n) (s .control .r) recs slots roots list sets → (calls : List Call) → EachLent calls (plainOf s)
-      → answersOf step calls (loaded (imageBy s out) recs slots roots list sets) ≡ answersOf step calls s
+  pub same : (s : State) → Made s → (t : Tuning) (out recs slots roots list sets : List ℕ) → Reload s t out recs slots roots list sets
+      → (calls : List Call) → EachLent calls (plainOf s)
+      → answersOf step calls (loaded t (imageBy s out) recs slots roots list sets) ≡ answersOf step calls s
   -- the loaded heap has the sinks in the same order, from the first place on
-  pub sinks : (s : State) → Made s → (out recs slots roots list sets : List ℕ) → savedBy s out .answer .refusal ≡ 0
-      → Long (s .control .n) (s .control .r) recs slots roots list sets
-      → take sinkMax (loaded (imageBy s out) recs slots roots list sets .sinks)
+  pub sinks : (s : State) → Made s → (t : Tuning) (out recs slots roots list sets : List ℕ) → Reload s t out recs slots roots list sets
+      → take sinkMax (loaded t (imageBy s out) recs slots roots list sets .sinks)
       ≡ listedIn s ++ replicate (sinkMax - length (listedIn s)) 0
   -- other chunks behind the three of the heap, and one of sinks among them or none, are accepted too, and the sinks are taken in the order that this gives
   pub passes : (s : State) → Made s → (l z : List ℕ) → Behind (plainSize (plainOf s)) (plainSink (plainOf s)) l z
@@ -569,11 +605,42 @@ pub record Reloads : Type 0 where
   pub exact : (image : List ℕ) → Octets image → first (imageTests image) ≡ 0
       → let P = plainLoaded image in (z : List ℕ) × Behind (plainSize P) (plainSink P) (loadedSinks image) z × (image ≡ plainChunks P ++ z)
   -- the heap that any accepted image makes is the plain heap that the image holds
-  pub holds : (image recs slots roots list sets : List ℕ) → Load.load image recs slots roots list sets .answer .refusal ≡ 0
-      → plainOf (loaded image recs slots roots list sets) ≡ plainLoaded image
+  pub holds : (t : Tuning) (image recs slots roots list sets : List ℕ) → Load.load t image recs slots roots list sets .answer .refusal ≡ 0
+      → plainOf (loaded t image recs slots roots list sets) ≡ plainLoaded image
   -- with its sinks in the first places, in the order that the image gives
-  pub places : (image recs slots roots list sets : List ℕ) → Load.load image recs slots roots list sets .answer .refusal ≡ 0
-      → take sinkMax (loaded image recs slots roots list sets .sinks) ≡ loadedSinks image ++ replicate (sinkMax - length (loadedSinks image)) 0
+  pub places : (t : Tuning) (image recs slots roots list sets : List ℕ) → Load.load t image recs slots roots list sets .answer .refusal ≡ 0
+      → take sinkMax (loaded t image recs slots roots list sets .sinks) ≡ loadedSinks image ++ replicate (sinkMax - length (loadedSinks image)) 0
+
+-- ==== tuning
+
+-- two games make this call: the same one, or a load of the same image with another tuning, legal in both games or in neither
+pub data Retuned : Call → Call → Type 0 where
+  same : (call : Call) → Retuned call call
+  loads : (t u : Tuning) (image recs slots roots list sets : List ℕ) → badTuning t ≡ badTuning u
+      → Retuned (load t image recs slots roots list sets) (load u image recs slots roots list sets)
+
+-- call by call, to the end of both lists
+abbrev pub EachRetuned : List Call → List Call → Type 0
+EachRetuned [] [] = Unit {0}
+EachRetuned [] (d ∷ m) = ⊥
+EachRetuned (c ∷ l) [] = ⊥
+EachRetuned (c ∷ l) (d ∷ m) = Retuned c d × EachRetuned l m
+
+-- two games end with the same answers behind them, and with the same slots and roots
+pub record SameGame (calls : List Call) (s : State) (calls′ : List Call) (s′ : State) : Type 0 where
+  pub answers : answersOf step calls s ≡ answersOf step calls′ s′
+  pub slots : let e = afterAll step calls s in let e′ = afterAll step calls′ s′ in
+      take (slotsLen (e .control .n)) (e .slots) ≡ take (slotsLen (e′ .control .n)) (e′ .slots)
+  pub roots : let e = afterAll step calls s in let e′ = afterAll step calls′ s′ in
+      take (e .control .r) (e .roots) ≡ take (e′ .control .r) (e′ .roots)
+
+-- any two legal tunings, each in buffers of its own: a game gets the same answers under both, and leaves the same slots and roots
+abbrev pub SameUnderTuning : Type 0
+SameUnderTuning =
+    (n r : ℕ) (t u : Tuning) (recs slots roots list sets recs′ slots′ roots′ list′ sets′ : List ℕ)
+    → Create.create n r t recs slots roots list sets .answer .refusal ≡ 0 → Create.create n r u recs′ slots′ roots′ list′ sets′ .answer .refusal ≡ 0
+    → (calls calls′ : List Call) → EachRetuned calls calls′ → EachLent calls (plainCreated n r) → EachLent calls′ (plainCreated n r)
+    → SameGame calls (created n r t recs slots roots list sets) calls′ (created n r u recs′ slots′ roots′ list′ sets′)
 
 -- ==== the same pointer held elsewhere
 

@@ -6,7 +6,7 @@ use lib.Dec.{eqb, leb, ltb}
 use lib.ListN.{length}
 use Rattle.layout.specs.declared.answers.Done.{Done}
 use Rattle.layout.specs.Limits.{within}
-use Rattle.layout.specs.ControlRecord.{newControl, withLast}
+use Rattle.layout.specs.ControlRecord.{tuningOf, newControl, noControl, withLast}
 use Rattle.layout.specs.Refusal.{Test, outcome}
 use Rattle.records.specs.Record.{newRecord, withSink}
 use Rattle.endian.specs.Bytes.{numberAt}
@@ -99,8 +99,8 @@ module _ (image : List ℕ) where
     unfoldable pub load : Outcome
     load =
         outcome loadTests
-        (gives (record { refusal = 0; control = withLast (savedLast sizes) (newControl imageN imageR) })
+        (gives (record { refusal = 0; control = withLast (savedLast sizes) (newControl imageN imageR (tuningOf 0 0 0)) })
         (eachRecord imageN (λ x r. loadedRecord x) recs)
         (eachFrom 0 (8 * imageN) (λ j w. loadedWord (j / 8 + 1) (j % 8)) slots)
         (eachFrom 0 imageR (λ j w. savedRoot rootWords j) roots))
-        (λ k. gives (record { refusal = k; control = newControl 0 0 }) recs slots roots)
+        (λ k. gives (record { refusal = k; control = noControl }) recs slots roots)

@@ -5,8 +5,9 @@ use mathlib.Core.List.{List, [], _∷_, _++_}
 use lib.Dec.{eqb, leb, ltb}
 use lib.ListN.{length, getD}
 use Rattle.layout.specs.declared.answers.Done.{Done}
+use Rattle.layout.specs.declared.answers.Tuning.{Tuning}
 use Rattle.layout.specs.Limits.{widthMax, sinkMax, slotsLen, within}
-use Rattle.layout.specs.ControlRecord.{newControl, withLast}
+use Rattle.layout.specs.ControlRecord.{badTuning, newControl, noControl, withLast}
 use Rattle.layout.specs.Refusal.{Test, outcome}
 use Rattle.records.specs.Record.{newRecord, withSink}
 use Rattle.graph.specs.Numbers.{count, gather}
@@ -103,19 +104,29 @@ module _ (image : List ℕ) where
       let b = sinksBefore (suc (length image)) in
       cond (eqb (length b) 0) (gather imageN (savedAsSink objects) (λ x. x ∷ [])) (savedList b)
 
-  module _ (recs slots roots list sets : List ℕ) where
-    -- its tests in their order: slices that are too short come last
-    unfoldable pub loadTests : List Test
-    loadTests = imageTests ++ ((2, shortHeap imageN imageR recs slots roots list sets) ∷ [])
+-- the tests of what it is given: the numbers of the analysis come first
+unfoldable pub inputTests : Tuning → List ℕ → List Test
+inputTests t image = (30, badTuning t) ∷ imageTests image
 
-    -- limit and losses are 0; refused, it gives a control record of zeros
-    unfoldable pub load : Outcome
-    load =
-        outcome loadTests
-        (gives (record { refusal = 0; control = withLast (savedLast sizes) (newControl imageN imageR) })
-        (eachRecord imageN (λ x r. loadedRecord x) recs)
-        (eachFrom 0 (slotsLen imageN) (λ j w. loadedWord (j / widthMax + 1) (j % widthMax)) slots)
-        (eachFrom 0 imageR (λ j w. savedRoot rootWords j) roots)
-        (eachFrom 0 sinkMax (λ k y. getD loadedSinks k 0) list)
-        (zeros imageN sets))
-        (λ k. gives (record { refusal = k; control = newControl 0 0 }) recs slots roots list sets)
+module _ (t : Tuning) (image recs slots roots list sets : List ℕ) where
+  abbrev n : ℕ
+  n = imageN image
+
+  abbrev r : ℕ
+  r = imageR image
+
+  -- its tests in their order: slices that are too short come last
+  unfoldable pub loadTests : List Test
+  loadTests = inputTests t image ++ ((2, shortHeap n r recs slots roots list sets) ∷ [])
+
+  -- limit and losses are 0; refused, it gives a control record of zeros
+  unfoldable pub load : Outcome
+  load =
+      outcome loadTests
+      (gives (record { refusal = 0; control = withLast (savedLast (sizes image)) (newControl n r t) })
+      (eachRecord n (λ x w. loadedRecord image x) recs)
+      (eachFrom 0 (slotsLen n) (λ j w. loadedWord image (j / widthMax + 1) (j % widthMax)) slots)
+      (eachFrom 0 r (λ j w. savedRoot (rootWords image) j) roots)
+      (eachFrom 0 sinkMax (λ k y. getD (loadedSinks image) k 0) list)
+      (zeros n sets))
+      (λ k. gives (record { refusal = k; control = noControl }) recs slots roots list sets)

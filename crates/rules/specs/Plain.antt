@@ -13,7 +13,7 @@ use Rattle.graph.specs.Rounds.{rounds}
 use Rattle.rules.specs.Buffers.{eachFrom, numbers}
 use Rattle.rules.specs.Calls.{Call, allocate, allocateInPlace, read, show, write, writeInPlace, setRoot, declareSink, collect, analyse, save, load, Answer, gave, gotWord, gotWords, did, swept, savedAs}
 use Rattle.rules.specs.Image.{image, sinksChunk, listed, savedSink, savedWords, savedRoot, savedLast}
-use Rattle.rules.specs.Load.{imageTests, sizes, objects, rootWords, imageN, imageR}
+use Rattle.rules.specs.Load.{inputTests, sizes, objects, rootWords, imageN, imageR}
 
 -- free, or an object: its words, as many as its width, and whether it is a sink
 pub data Cell : Type 0 where
@@ -179,7 +179,7 @@ plainStep (analyse work) P = record { answers = []; after = P }
 plainStep (save out) P =
     let b = plainImage P (plainSinks P) in
     outcome ((2, ltb (length out) (length b)) ∷ []) (answer (savedAs 0 (length b)) P) (λ m. answer (savedAs m 0) P)
-plainStep (load b recs slots roots list sets) P = outcome (imageTests b) (answer (did 0) (plainLoaded b)) (λ m. answer (did m) P)
+plainStep (load t b recs slots roots list sets) P = outcome (inputTests t b) (answer (did 0) (plainLoaded b)) (λ m. answer (did m) P)
 
 -- the eight slots of a cell: its words, filled up with 0
 unfoldable pub eightOf : Cell → List ℕ

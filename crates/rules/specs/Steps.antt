@@ -3,6 +3,7 @@ use Prim.Native.Nat.{ℕ}
 use mathlib.Core.List.{List, [], _∷_, _++_}
 use lib.ListN.{take}
 use Rattle.layout.specs.declared.answers.Control.{Control}
+use Rattle.layout.specs.declared.answers.Tuning.{Tuning}
 use Rattle.layout.specs.Limits.{mapLen}
 use Rattle.layout.specs.Refusal.{by}
 use Rattle.rules.specs.Calls.{Call, allocate, allocateInPlace, read, show, write, writeInPlace, setRoot, declareSink, collect, analyse, save, load, Answer, gave, gotWord, gotWords, did, swept, savedAs}
@@ -29,15 +30,15 @@ pub record State : Type 0 where
   pub sets : List ℕ
 
 -- the state that create leaves
-unfoldable pub created : ℕ → ℕ → List ℕ → List ℕ → List ℕ → List ℕ → List ℕ → State
-created n r recs slots roots list sets =
-    let o = Create.create n r recs slots roots list sets in
+unfoldable pub created : ℕ → ℕ → Tuning → List ℕ → List ℕ → List ℕ → List ℕ → List ℕ → State
+created n r t recs slots roots list sets =
+    let o = Create.create n r t recs slots roots list sets in
     record { control = o .answer .control; records = o .records; slots = o .slots; roots = o .roots; sinks = o .sinks; sets = o .sets }
 
 -- the state that load leaves
-unfoldable pub loaded : List ℕ → List ℕ → List ℕ → List ℕ → List ℕ → List ℕ → State
-loaded image recs slots roots list sets =
-    let o = Load.load image recs slots roots list sets in
+unfoldable pub loaded : Tuning → List ℕ → List ℕ → List ℕ → List ℕ → List ℕ → List ℕ → State
+loaded t image recs slots roots list sets =
+    let o = Load.load t image recs slots roots list sets in
     record { control = o .answer .control; records = o .records; slots = o .slots; roots = o .roots; sinks = o .sinks; sets = o .sets }
 
 -- a call in a state: what the game sees of its answer, and the state after it, with the control record that the call answers or leaves in place
@@ -83,9 +84,9 @@ step (save out) s =
     let o = Save.save (s .control) (s .records) (s .slots) (s .roots) (s .sinks) (s .sets) out in
     answer (savedAs (o .answer .refusal) (o .answer .length)) (record { control = o .answer .control; records = s .records; slots = s .slots; roots = s .roots; sinks = s .sinks; sets = s .sets })
 -- where a load is refused the game goes on with the heap that it has
-step (load image recs slots roots list sets) s =
-    let m = Load.load image recs slots roots list sets .answer .refusal in
-    answer (did m) (by m (loaded image recs slots roots list sets) (λ k. s))
+step (load t image recs slots roots list sets) s =
+    let m = Load.load t image recs slots roots list sets .answer .refusal in
+    answer (did m) (by m (loaded t image recs slots roots list sets) (λ k. s))
 
 -- ---- lists of calls, of either heap
 

@@ -3,7 +3,8 @@ use Prim.Native.Nat.{ℕ, zero, suc, _+_, _*_}
 use mathlib.Core.List.{List, [], _∷_, _++_, map}
 use lib.ListN.{getD, take, replicate}
 use Rattle.layout.specs.Limits.{sinkMax}
-use Rattle.layout.specs.ControlRecord.{newControl, controlWith}
+use Rattle.layout.specs.ControlRecord.{tuningOf, usualTuning, newControl, controlWith}
+use Rattle.layout.specs.declared.answers.Tuning.{Tuning}
 use Rattle.records.specs.Record.{isSink, cluster}
 use Rattle.graph.specs.Numbers.{gather}
 use Rattle.rules.specs.Buffers.{recOf, numbers}
@@ -53,8 +54,8 @@ answered (analyse work) s =
 answered (save out) s =
     let o = Save.save (s .control) (s .records) (s .slots) (s .roots) (s .sinks) (s .sets) out in
     o .answer .refusal ∷ o .answer .length ∷ o .image
-answered (load image recs slots roots list sets) s =
-    let o = Load.load image recs slots roots list sets in
+answered (load t image recs slots roots list sets) s =
+    let o = Load.load t image recs slots roots list sets in
     (o .answer .refusal ∷ o .answer .control .n ∷ o .answer .control .r ∷ o .answer .control .last ∷ [])
     ++ o .records ++ o .slots ++ o .roots ++ o .sinks ++ o .sets
 
@@ -82,9 +83,13 @@ expected t = t .answers ∷ t .stands ∷ []
 
 -- ---- heaps
 
--- a heap just created in buffers one word longer than asked for, and full of ones
+-- a heap just created with this tuning, in buffers one word longer than asked for, and full of ones
+unfoldable pub tuned : Tuning → ℕ → ℕ → State
+tuned t n r = created n r t (replicate (n + 1) 1) (replicate (8 * n + 1) 1) (replicate (r + 1) 1) (replicate (sinkMax + 1) 1) (replicate (n + 1) 1)
+
+-- with the usual one
 unfoldable pub new : ℕ → ℕ → State
-new n r = created n r (replicate (n + 1) 1) (replicate (8 * n + 1) 1) (replicate (r + 1) 1) (replicate (sinkMax + 1) 1) (replicate (n + 1) 1)
+new n r = tuned usualTuning n r
 
 -- an analysis with just enough work
 unfoldable pub analysis : ℕ → Call
@@ -179,7 +184,7 @@ marked h =
 unfoldable pub stateOf : ℕ → ℕ → ℕ → List ℕ → List ℕ → ℕ → List ℕ → List ℕ → State
 stateOf n limit loss recs slots root list sets =
     record {
-      control = controlWith n limit loss 0 (newControl n 1);
+      control = controlWith n limit loss 0 (newControl n 1 usualTuning);
       records = recs;
       slots = slots;
       roots = root ∷ [];
@@ -420,7 +425,7 @@ pairImage = pairChunks ++ listChunk 3
 
 -- a load into buffers one word longer than its heap, full of nines
 unfoldable pub loading : List ℕ → Call
-loading image = load image (replicate 4 9) (replicate 25 9) (replicate 2 9) (replicate 65 9) (replicate 4 9)
+loading image = load usualTuning image (replicate 4 9) (replicate 25 9) (replicate 2 9) (replicate 65 9) (replicate 4 9)
 
 -- a load that is refused, with a control record of zeros and the buffers as they were
 unfoldable pub unloaded : ℕ → List ℕ → Trial
@@ -429,7 +434,7 @@ unloaded k image = fresh pair (loading image) ((k ∷ 0 ∷ 0 ∷ 0 ∷ []) ++ r
 -- a load of its image into buffers of these lengths, one of which is too short
 unfoldable pub shortLoad : ℕ → ℕ → ℕ → ℕ → ℕ → Trial
 shortLoad a b c d e =
-    fresh pair (load pairImage (replicate a 9) (replicate b 9) (replicate c 9) (replicate d 9) (replicate e 9))
+    fresh pair (load usualTuning pairImage (replicate a 9) (replicate b 9) (replicate c 9) (replicate d 9) (replicate e 9))
     ((2 ∷ 0 ∷ 0 ∷ 0 ∷ []) ++ replicate (a + b + c + d + e) 9) (standing pair)
 
 -- a load of an image of that heap
@@ -484,7 +489,7 @@ imageRows h =
     ∷ unloaded 27 (pairImage ++ rootsChunk 1 ++ emptyChunk 0 4)
     ∷ unloaded 28 (pairImage ++ emptyChunk 0 4 ++ rootsChunk 1)
     -- 28 and 2, and 2 alone
-    ∷ fresh pair (load (pairImage ++ emptyChunk 0 4) [] [] [] [] []) (28 ∷ 0 ∷ 0 ∷ 0 ∷ []) (standing pair)
+    ∷ fresh pair (load usualTuning (pairImage ++ emptyChunk 0 4) [] [] [] [] []) (28 ∷ 0 ∷ 0 ∷ 0 ∷ []) (standing pair)
     ∷ shortLoad 2 24 1 64 3 ∷ shortLoad 3 23 1 64 3 ∷ shortLoad 3 24 0 64 3 ∷ shortLoad 3 24 1 63 3 ∷ shortLoad 3 24 1 64 2
     ∷ []
 
@@ -559,9 +564,79 @@ refusals =
     ∷ refused (small 257 0) (setRoot 1 2) (7 ∷ [])
     ∷ []
 
+-- ---- tuning
+
+-- a state with other numbers for the analysis
+unfoldable pub retuned : ℕ → ℕ → ℕ → State → State
+retuned least outs lowest s =
+    let c = s .control in
+    record {
+      control = controlWith (c .last) (c .limit) (c .«write_loss») (c .«out_loss») (newControl (c .n) (c .r) (tuningOf least outs lowest));
+      records = s .records;
+      slots = s .slots;
+      roots = s .roots;
+      sinks = s .sinks;
+      sets = s .sets;
+    }
+
+-- 1 leads to 2, and 2 to 3, with this limit and this write loss
+unfoldable pub chain : ℕ → ℕ → State
+chain limit loss = stateWith 3 limit loss (replicate 3 (recordWith 1 0 0)) (one 2 ++ one 3 ++ one 0) 1
+
+-- a chain of three that leads to a fourth, which was written
+unfoldable pub led : State
+led = stateWith 4 8 0 (replicate 3 (recordWith 1 0 0) ++ (recordWith 0 2 0 ∷ [])) (one 2 ++ one 3 ++ one 4 ++ one 0) 1
+
+-- one object, each of whose eight slots leads to another, which was written
+unfoldable pub eightOut : State
+eightOut = stateWith 2 8 0 (recordWith 8 0 0 ∷ recordWith 0 2 0 ∷ []) (replicate 8 2 ++ one 0) 1
+
+-- a load of the small image with these numbers
+unfoldable pub loadingWith : ℕ → ℕ → ℕ → List ℕ → Call
+loadingWith least outs lowest image = load (tuningOf least outs lowest) image (replicate 3 9) (replicate 24 9) (replicate 1 9) (replicate 64 9) (replicate 3 9)
+
+-- the rows; h is heap H
+unfoldable pub tuningRows : State → List Trial
+tuningRows h =
+    -- three members where three are enough, from create on
+    record {
+      from = tuned (tuningOf 3 25 8) 24 2;
+      before = wide 2 ++ (write 1 0 2 ∷ write 2 0 3 ∷ setRoot 0 1 ∷ analysis 24 ∷ []);
+      call = analysis 24;
+      answers = 0 ∷ 1 ∷ 3 ∷ 16 ∷ 0 ∷ [];
+      stands = 0 ∷ 1 ∷ 1 ∷ 1 ∷ [];
+    }
+    -- no out pointer allowed: three members without one, and with one; four for ten allow one for three, and three do not
+    ∷ fresh (retuned 1 0 8 (chain 8 0)) (analysis 3) (0 ∷ 1 ∷ 3 ∷ 16 ∷ 0 ∷ []) (0 ∷ 1 ∷ 1 ∷ 1 ∷ [])
+    ∷ fresh (retuned 1 0 8 led) (analysis 4) (0 ∷ 0 ∷ 0 ∷ 16 ∷ 3 ∷ []) (0 ∷ 0 ∷ 0 ∷ 0 ∷ 0 ∷ [])
+    ∷ fresh (retuned 1 4 8 led) (analysis 4) (0 ∷ 1 ∷ 3 ∷ 16 ∷ 0 ∷ []) (0 ∷ 1 ∷ 1 ∷ 1 ∷ 0 ∷ [])
+    ∷ fresh (retuned 1 3 8 led) (analysis 4) (0 ∷ 0 ∷ 0 ∷ 16 ∷ 3 ∷ []) (0 ∷ 0 ∷ 0 ∷ 0 ∷ 0 ∷ [])
+    -- eighty for ten allow all eight of one member, and one fewer do not
+    ∷ fresh (retuned 1 80 8 eightOut) (analysis 2) (0 ∷ 1 ∷ 1 ∷ 16 ∷ 0 ∷ []) (0 ∷ 1 ∷ 0 ∷ [])
+    ∷ fresh (retuned 1 79 8 eightOut) (analysis 2) (0 ∷ 0 ∷ 0 ∷ 16 ∷ 1 ∷ []) (0 ∷ 0 ∷ 0 ∷ [])
+    -- a limit of 1 halved is raised to the lowest, 1: each object heads a cluster of its own
+    ∷ fresh (retuned 1 80 1 (chain 1 1)) (analysis 3) (0 ∷ 3 ∷ 3 ∷ 1 ∷ 0 ∷ []) (0 ∷ 1 ∷ 2 ∷ 3 ∷ [])
+    -- fewer than the least where no cluster can have as many: nothing is left, and nothing is lost to out pointers
+    ∷ fresh (retuned 3 80 2 (chain 4 1)) (analysis 3) (0 ∷ 0 ∷ 0 ∷ 2 ∷ 0 ∷ []) (0 ∷ 0 ∷ 0 ∷ 0 ∷ [])
+    -- the highest of all three
+    ∷ fresh (retuned 4095 80 4095 (chain 4095 0)) (analysis 3) (0 ∷ 0 ∷ 0 ∷ 4095 ∷ 0 ∷ []) (0 ∷ 0 ∷ 0 ∷ 0 ∷ [])
+    -- a limit below the lowest, and at it; numbers past their ranges
+    ∷ refused (retuned 4 25 10 (chain 8 0)) (read 1 0) (20 ∷ 0 ∷ [])
+    ∷ fresh (retuned 4 25 10 (chain 10 0)) (read 1 0) (0 ∷ 2 ∷ []) (0 ∷ 0 ∷ 0 ∷ 0 ∷ [])
+    ∷ refused (retuned 0 25 8 (chain 8 0)) (read 1 0) (20 ∷ 0 ∷ [])
+    ∷ refused (retuned 4096 25 8 (chain 8 0)) (read 1 0) (20 ∷ 0 ∷ [])
+    ∷ refused (retuned 4 81 8 (chain 8 0)) (read 1 0) (20 ∷ 0 ∷ [])
+    ∷ refused (retuned 4 25 0 (chain 8 0)) (read 1 0) (20 ∷ 0 ∷ [])
+    ∷ refused (retuned 4 25 4096 (chain 0 0)) (read 1 0) (20 ∷ 0 ∷ [])
+    -- a load goes by its own numbers, and they are tested before its image
+    ∷ on h (loadingWith 1 80 5 pairImage ∷ []) (analysis 3) (0 ∷ 1 ∷ 1 ∷ 5 ∷ 0 ∷ []) (0 ∷ 1 ∷ 0 ∷ 0 ∷ [])
+    ∷ fresh pair (loadingWith 0 25 8 []) ((30 ∷ 0 ∷ 0 ∷ 0 ∷ []) ++ replicate 95 9) (standing pair)
+    ∷ fresh pair (loadingWith 4 81 8 pairImage) ((30 ∷ 0 ∷ 0 ∷ 0 ∷ []) ++ replicate 95 9) (standing pair)
+    ∷ []
+
 -- all rows; h is heap H
 unfoldable pub rows : State → List Trial
-rows h = marked h ++ ownRows h ++ imageRows h ++ refusals
+rows h = marked h ++ ownRows h ++ imageRows h ++ refusals ++ tuningRows h
 
 -- the whole table
 unfoldable pub table : List Trial
@@ -571,6 +646,12 @@ table = rows heapH
 unfoldable pub listings : List Listing
 listings = listingRows world
 
--- create: 1 and 2 both hold, and 2 alone
+-- create into buffers of no length
+unfoldable pub refusedWith : ℕ → ℕ → ℕ → ℕ → ℕ
+refusedWith n least outs lowest = Create.create n 1 (tuningOf least outs lowest) [] [] [] [] [] .answer .refusal
+
+-- 1, 30 and 2 all hold; 30 and 2, for each number past each end of its range; and 2 alone, for the ends
 unfoldable pub createRefusals : List ℕ
-createRefusals = Create.create 0 1 [] [] [] [] [] .answer .refusal ∷ Create.create 1 1 [] [] [] [] [] .answer .refusal ∷ []
+createRefusals =
+    refusedWith 0 0 81 0 ∷ refusedWith 1 0 25 8 ∷ refusedWith 1 4096 25 8 ∷ refusedWith 1 4 81 8 ∷ refusedWith 1 4 25 0 ∷ refusedWith 1 4 25 4096
+    ∷ refusedWith 1 1 0 1 ∷ refusedWith 1 4095 80 4095 ∷ []

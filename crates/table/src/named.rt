@@ -1,9 +1,9 @@
 // The tests that every call on a named object begins with.
 ghost use mathlib.Core.Path.{_≡_};
 ghost use Rattle.layout.specs.Refusal.{first};
-ghost use Rattle.rules.specs.Show.{showTests};
 ghost use lib.ListN.{length};
-ghost use Rattle.table.specs.Room.{roomOf};
+ghost use Rattle.table.specs.Named.{namedTests};
+ghost use Rattle.table.specs.Room.{least as smaller, roomOf};
 use layout::answers::Control;
 use layout::limits::WIDTH_MAX;
 use layout::limits::within;
@@ -15,22 +15,32 @@ use layout::refusals::TOO_SHORT;
 use layout::refusals::bad_control;
 use records::legal;
 
-// How many objects both slices have room for. A test of it is one branch (docs/BENCHMARK.md, "Read").
-fn room(records: &[u32], slots: &[u32]) -> usize
-    ensures { λ k. ⌜ k ≡ roomOf (length (now (records .entry))) (length (now (slots .entry))) ⌝ }
+// The smaller of two numbers.
+fn least(a: usize, b: usize) -> usize
+    ensures { λ k. ⌜ k ≡ smaller a b ⌝ }
 {
-    let k = slots.len() / WIDTH_MAX as usize;
-    if records.len() < k { records.len() } else { k }
+    if a < b { a } else { b }
 }
 
-// The number of the first of those tests that holds, 0 where none does.
-pub fn object_refusal(c: Control, object: u32, records: &[u32], slots: &[u32]) -> u32
-    ensures { λ k. ⌜ k ≡ first (showTests c object (now (records .entry)) (now (slots .entry))) ⌝ }
+// How many objects all slices have room for. A test of it is one branch (docs/BENCHMARK.md, "Read").
+fn room(records: &[u32], slots: &[u32], others: usize) -> usize
+    ensures { λ k. ⌜ k ≡ roomOf (length (now (records .entry))) (length (now (slots .entry))) others ⌝ }
+{
+    least(
+        least(records.len(), slots.len() / WIDTH_MAX as usize),
+        others,
+    )
+}
+
+// The number of the first of those tests that holds, 0 where none does. The slices that only the caller knows have room for
+// `others` objects.
+pub fn object_refusal(c: Control, object: u32, records: &[u32], slots: &[u32], others: usize) -> u32
+    ensures { λ k. ⌜ k ≡ first (namedTests c object (now (records .entry)) (now (slots .entry)) others) ⌝ }
 {
     if bad_control(c) {
         return BAD_CONTROL;
     }
-    if room(records, slots) < c.n as usize {
+    if room(records, slots, others) < c.n as usize {
         return TOO_SHORT;
     }
     if !within(1, c.n, object) {

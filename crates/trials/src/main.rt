@@ -5,6 +5,7 @@ use heap::allocate::allocate;
 use heap::create::create;
 use layout::answers::Control;
 use layout::control::new_control;
+use layout::control::usual_tuning;
 use layout::control::with_analysis;
 use layout::control::with_write_loss;
 use libc::STDOUT_FILENO;
@@ -46,6 +47,7 @@ fn creating(n: u32) -> u32 {
     create(
         n,
         1,
+        usual_tuning(),
         &mut records,
         &mut slots,
         &mut roots,
@@ -64,6 +66,7 @@ fn analysing(work: &mut [u32]) -> u32 {
     let c = create(
         1,
         1,
+        usual_tuning(),
         &mut records,
         &mut slots,
         &mut roots,
@@ -84,6 +87,7 @@ fn collecting(by_clusters: bool, work: &mut [u32]) -> u32 {
     let c = create(
         1,
         1,
+        usual_tuning(),
         &mut records,
         &mut slots,
         &mut roots,
@@ -113,6 +117,7 @@ fn allocating(width: u32) -> u32 {
     let c = create(
         1,
         1,
+        usual_tuning(),
         &mut records,
         &mut slots,
         &mut roots,
@@ -132,6 +137,7 @@ fn writing(word: u32) -> u32 {
     let c = create(
         1,
         1,
+        usual_tuning(),
         &mut records,
         &mut slots,
         &mut roots,
@@ -159,7 +165,10 @@ fn halved(limit: u32) -> u32 {
     let sinks = [0u32; 64];
     let mut sets = [0u64; 1];
     let mut work = [0u32; 74];
-    let c = with_write_loss(with_analysis(new_control(1, 1), limit, 0), 1);
+    let c = with_write_loss(
+        with_analysis(new_control(1, 1, usual_tuning()), limit, 0),
+        1,
+    );
     analyse(
             c,
             &mut records,
@@ -195,6 +204,7 @@ fn first_limit(used: u32) -> u32 {
     let c = create(
         144,
         1,
+        usual_tuning(),
         &mut records,
         &mut slots,
         &mut roots,

@@ -453,6 +453,7 @@ module _ (c : Control) (recs slots roots list sets : List ℕ) (rest : Bool) whe
       let s = or-split _ _ (q .0) in
       let l = heap-long (c .n) (c .r) recs slots roots list sets (s .0) in (
         record {
+          control = p .0;
           room = record { most = control-facts c (p .0) .sizes .most; recs-long = l .recs-long; slots-long = l .slots-long };
           roots-long = l .roots-long;
           sinks-long = l .sinks-long;
@@ -483,6 +484,7 @@ module _ (c : Control) (recs slots roots list sets work : List ℕ) (a : Accepte
   unfolding workLen
   accepted-part k e =
       record {
+        control = a .control;
         room = a .room;
         roots-long = a .roots-long;
         sinks-long = a .sinks-long;

@@ -1,7 +1,7 @@
 -- What write answers and leaves at each of its ends. Assumes nothing.
 use Prim.Native.Nat.{ℕ, _+_, _-_, _*_, _^_, _≤_, _<_}
 use mathlib.Core.Path.{_≡_, refl, sym, ap, ap₂, _∙_, subst}
-use mathlib.Core.Bool.{Bool, true, false, not, cond, _||_, true≢false}
+use mathlib.Core.Bool.{Bool, true, false, not, cond, _||_, or-assoc, true≢false}
 use mathlib.Core.List.{List, [], _∷_, _++_}
 use mathlib.Core.Logic.{_≢_}
 use native.Mathlib.Decide.{ℕ-discrete}
@@ -9,35 +9,36 @@ use native.Mathlib.Omega.{arith}
 use lib.Dec.{leb, ltb, eqb, lit<}
 use lib.ListN.{length, getD, set, length-set}
 use lib.Seq.{set-set, getD-set-same, getD-set-other}
-use borrow.Author.Tests.{le-leb, lt-leb, leb-false, lt-ltb, le-ltb, eqb-true, eq-eqb, ne-eqb, not-true, not-false}
+use borrow.Author.Tests.{le-leb, lt-leb, leb-false, lt-ltb, le-ltb, eqb-true, eqb-false, eq-eqb, ne-eqb, not-true, not-false}
 use Rattle.layout.specs.declared.answers.Control.{Control}
 use Rattle.layout.specs.declared.words.Word.{Word}
 use Rattle.layout.specs.declared.words.Word.the-variants.{Nil, Object, Immediate, Illegal}
 use Rattle.layout.specs.Limits.{objectMax, widthMax, sinkMax, slotsLen}
-use Rattle.records.specs.Record.{width, cluster, free, legal, damaged, withOut, withWritten, loose}
+use Rattle.records.specs.Record.{width, cluster, free, legal, damaged, isOut, withOut, withWritten, loose}
 use Rattle.layout.specs.Word.{isNil, isPointer, legalWord, sortOf}
 use Rattle.layout.specs.ControlRecord.{badControl, withWriteLoss}
 use Rattle.layout.specs.Refusal.{Test, first}
-use Rattle.layout.proofs.LimitLaws.{below-within, above-within}
-use Rattle.layout.proofs.ControlLaws.{writes-sound, facts-control}
+use Rattle.layout.proofs.LimitLaws.{within-true, below-within, above-within}
+use Rattle.layout.proofs.ControlLaws.{control-facts, writes-sound, facts-control}
 use Rattle.layout.proofs.WordLaws.{Says, sort-says, pointer-legal, immediate-bounds}
 use Rattle.layout.proofs.RefusalLaws.{Numbered, nil, cons, first-passed, first-front, first-skip, first-zero, first-holds, first-fails, outcome-zero, outcome-number}
 use Rattle.graph.specs.Numbers.{has}
 use Rattle.graph.specs.Heap.{Heap}
 use Rattle.graph.specs.Writes.{dissolves, stored, storeBy, store, lossBy, lossOf}
 use Rattle.graph.specs.Clusters.{size, outBit}
+use Rattle.layout.proofs.FieldLaws.{flag-put-other, flag-stays}
+use Rattle.graph.proofs.OutLaws.{outBit-none}
 use Rattle.graph.proofs.NumberLaws.{count-le, has-at, has-none}
 use Rattle.rules.specs.Buffers.{short, recOf, usedWords, eachRecord}
 use Rattle.rules.specs.View.{target, view, heapIn, setWord, exactOut, encoded}
-use Rattle.rules.specs.Show.{showTests}
 use Rattle.rules.specs.Write as Write
 use Rattle.rules.proofs.BufferLaws.{recOf-get, used-get, used-long}
 use Rattle.rules.proofs.StoreLaws.{recOf-set-same, recOf-set-alike, store-staying, store-dissolving, exact-stored, dissolved-empty, stored-set, dissolves-words}
-use Rattle.rules.proofs.BoolLaws.{or-split}
-use Rattle.records.proofs.RecordLaws.{width-put-flag, cluster-put-flag}
+use Rattle.records.proofs.RecordLaws.{Legal, width-put-flag, cluster-put-flag}
+use Rattle.table.specs.Named.{namedTests}
 use Rattle.table.specs.Clusters.{clusterOf, membersOf, dissolvedRecord, dissolved}
-use Rattle.writes.specs.Writes.{wordTests, frontTests, Slot, withSet, setsBy, Attempted, refuses, keeps, overflows, asks, breaks}
-use Rattle.table.proofs.NamedLaws.{named, named-rest}
+use Rattle.writes.specs.Writes.{wordTests, othersOf, frontTests, Slot, withSet, setsBy, Attempted, refuses, keeps, overflows, asks, breaks}
+use Rattle.table.proofs.NamedLaws.{Named, named, named-rest}
 
 -- ---- the tests of the word
 
@@ -65,106 +66,114 @@ module _ (n w : ℕ) (recs : List ℕ) (h : n ≤ objectMax) where
   unfolding wordTests first Says
   word-illegal e = rw (says Illegal e) refl
 
-  module _ (x : ℕ) (e : Object x ≡ sortOf n w) (r : ℕ) (f : r ≡ recOf n recs x) (b : Bool) (g : b ≡ legal n r) where
-    at : b ≡ legal n (recOf n recs w)
-    unfolding Says
-    at = g ∙ ap (legal n) (f ∙ ap (recOf n recs) (says (Object x) e .0))
+  module _ (x : ℕ) (e : Object x ≡ sortOf n w) where
+    bounds : (1 ≤ x) × (x ≤ n)
+    unfolding Says isPointer
+    bounds =
+        let p = says (Object x) e in
+        let q = within-true 1 n w (p .1) in
+        (omega (arith, p .0, q .0), omega (arith, p .0, q .1))
 
-    pub word-object : b ≡ true → 0 ≡ first (wordTests n w recs)
-    unfolding wordTests first Says
-    word-object t = let p = says (Object x) e .1 in rw (pointer-legal n w h p, p, ← at, t) refl
+    pub object-low : 1 ≤ x
+    object-low = bounds .0
 
-    pub word-none : b ≡ false → 23 ≡ first (wordTests n w recs)
-    unfolding wordTests first Says
-    word-none t = let p = says (Object x) e .1 in rw (pointer-legal n w h p, p, ← at, t) refl
+    pub object-there : n ≤ length recs → x - 1 < length recs
+    object-there l = omega (arith, bounds, l)
+
+    module _ (b : Bool) (g : b ≡ legal n (getD recs (x - 1) 0)) where
+      at : b ≡ legal n (recOf n recs w)
+      unfolding Says
+      at = g ∙ ap (legal n) (sym (recOf-get n recs x (bounds .0) (bounds .1)) ∙ ap (recOf n recs) (says (Object x) e .0))
+
+      pub word-object : b ≡ true → 0 ≡ first (wordTests n w recs)
+      unfolding wordTests first Says
+      word-object t = let p = says (Object x) e .1 in rw (pointer-legal n w h p, p, ← at, t) refl
+
+      pub word-none : b ≡ false → 23 ≡ first (wordTests n w recs)
+      unfolding wordTests first Says
+      word-none t = let p = says (Object x) e .1 in rw (pointer-legal n w h p, p, ← at, t) refl
 
 -- ---- all tests but the last
 
--- n is in its range once the object's tests are passed
-pub named-most : (c : Control) (i : ℕ) (recs slots : List ℕ) (m : ℕ) → m ≡ first (showTests c i recs slots) → m ≡ 0 → c .n ≤ objectMax
-named-most c i recs slots m e z = named c i recs slots (sym e ∙ z) .sound .sizes .most
-
--- the slices that only a write is lent, beside the others
-lent-any : (x a b : Bool) → (a || b) ≡ true → (x || a || b) ≡ true
-lent-any true a b e = refl
-lent-any false a b e = e
-
-lent-rest : (x a b : Bool) → (x || a || b) ≡ false → (a || b) ≡ false
-lent-rest true a b e = absurd (true≢false e)
-lent-rest false a b e = e
-
-lent-none : (x a b : Bool) → a ≡ false → b ≡ false → (x || a || b) ≡ x
-lent-none true a b e f = refl
-lent-none false a b e f = rw (e, f) refl
+-- where there is an object, no room for any other than n is too little room in one of the two slices
+others-short : (n : ℕ) (list sets : List ℕ) → 1 ≤ n → ltb (othersOf list sets) n ≡ short sinkMax list || short n sets
+unfolding othersOf short
+others-short n list sets h = go (ltb (length list) sinkMax)
+  where
+    go : (b : Bool) → ltb (cond b 0 (length sets)) n ≡ b || ltb (length sets) n
+    go true = lt-ltb 0 n h
+    go false = refl
 
 module _ (c : Control) (i k w : ℕ) (recs slots list sets : List ℕ) where
   abbrev rest : List Test
   rest = (5, leb (width (recOf (c .n) recs i)) k) ∷ wordTests (c .n) w recs
 
-  pub front-bad : badControl c ≡ true → 20 ≡ first (frontTests c i k w recs slots list sets)
-  unfolding frontTests
-  front-bad b = sym (first-holds 20 _ _ b)
+  -- the object's tests come first, with the two slices that only a write is lent
+  module _ (o : ℕ) (g : o ≡ othersOf list sets) where
+    front-named : first (frontTests c i k w recs slots list sets) ≡ first (namedTests c i recs slots o ++ rest)
+    unfolding frontTests namedTests
+    front-named = go (badControl c) refl
+      where
+        x : Bool
+        x = short (c .n) recs || short (slotsLen (c .n)) slots
 
-  pub front-short : badControl c ≡ false → (short sinkMax list || short (c .n) sets) ≡ true → 2 ≡ first (frontTests c i k w recs slots list sets)
-  unfolding frontTests
-  front-short b l = sym (first-fails 20 _ _ b ∙ first-holds 2 _ _ (lent-any (short (c .n) recs || short (slotsLen (c .n)) slots) (short sinkMax list) (short (c .n) sets) l))
+        go : (b : Bool) → badControl c ≡ b → first (frontTests c i k w recs slots list sets) ≡ first (namedTests c i recs slots o ++ rest)
+        go true e = first-holds 20 _ _ e ∙ sym (first-holds 20 _ _ e)
+        go false e =
+            ap (λ (b : Bool). first ((20, badControl c) ∷ (2, b) ∷ (4, not (isPointer (c .n) i)) ∷ (21, damaged (c .n) (recOf (c .n) recs i)) ∷ (22, free (recOf (c .n) recs i)) ∷ rest))
+            (or-assoc x (short sinkMax list) (short (c .n) sets)
+            ∙ ap (λ (b : Bool). x || b) (sym (ap (λ (y : ℕ). ltb y (c .n)) g ∙ others-short (c .n) list sets (control-facts c e .sizes .some))))
 
-  -- with those slices long enough the object's tests come first
-  module _ (l : (short sinkMax list || short (c .n) sets) ≡ false) where
-    lent-long : first (frontTests c i k w recs slots list sets) ≡ first (showTests c i recs slots ++ rest)
-    unfolding frontTests showTests
-    lent-long =
-        let s = or-split (short sinkMax list) (short (c .n) sets) l in
-        ap (λ (b : Bool). first ((20, badControl c) ∷ (2, b) ∷ (4, not (isPointer (c .n) i)) ∷ (21, damaged (c .n) (recOf (c .n) recs i)) ∷ (22, free (recOf (c .n) recs i)) ∷ rest))
-        (lent-none (short (c .n) recs || short (slotsLen (c .n)) slots) (short sinkMax list) (short (c .n) sets) (s .0) (s .1))
+    pub front-object : (m : ℕ) → m ≡ first (namedTests c i recs slots o) → m ≢ 0 → m ≡ first (frontTests c i k w recs slots list sets)
+    front-object m e d = e ∙ sym (front-named ∙ first-front (namedTests c i recs slots o) rest (λ z. d (e ∙ z)))
 
-    pub front-object : (m : ℕ) → m ≡ first (showTests c i recs slots) → m ≢ 0 → m ≡ first (frontTests c i k w recs slots list sets)
-    front-object m e d = e ∙ sym (lent-long ∙ first-front (showTests c i recs slots) rest (λ z. d (e ∙ z)))
+    module _ (m : ℕ) (e : m ≡ first (namedTests c i recs slots o)) (z : m ≡ 0) where
+      pub object-named : Named c i recs slots
+      object-named = named c i recs slots o (sym e ∙ z)
 
-    module _ (m : ℕ) (e : m ≡ first (showTests c i recs slots)) (z : m ≡ 0) (r : ℕ) (f : r ≡ recOf (c .n) recs i) (u : ℕ) (g : u ≡ width r) where
-      follows : first (frontTests c i k w recs slots list sets) ≡ first rest
-      follows = lent-long ∙ named-rest c i recs slots rest (sym e ∙ z)
+      module _ (u : ℕ) (f : u ≡ width (getD recs (i - 1) 0)) where
+        follows : first (frontTests c i k w recs slots list sets) ≡ first rest
+        follows = front-named ∙ named-rest c i recs slots o rest (sym e ∙ z)
 
-      width-is : width (recOf (c .n) recs i) ≡ u
-      width-is = sym (g ∙ ap width f)
+        width-is : width (recOf (c .n) recs i) ≡ u
+        width-is = ap width (object-named .rec-at) ∙ sym f
 
-      pub front-slot : u ≤ k → 5 ≡ first (frontTests c i k w recs slots list sets)
-      front-slot l = sym (follows ∙ first-holds 5 (wordTests (c .n) w recs) _ (rw width-is (le-leb u k l)))
+        pub front-slot : u ≤ k → 5 ≡ first (frontTests c i k w recs slots list sets)
+        front-slot l = sym (follows ∙ first-holds 5 (wordTests (c .n) w recs) _ (rw width-is (le-leb u k l)))
 
-      pub front-word : k < u → (v : ℕ) → v ≡ first (wordTests (c .n) w recs) → v ≡ first (frontTests c i k w recs slots list sets)
-      front-word l v q = q ∙ sym (follows ∙ first-fails 5 (wordTests (c .n) w recs) _ (rw width-is (lt-leb u k l)))
+        pub front-word : k < u → (v : ℕ) → v ≡ first (wordTests (c .n) w recs) → v ≡ first (frontTests c i k w recs slots list sets)
+        front-word l v q = q ∙ sym (follows ∙ first-fails 5 (wordTests (c .n) w recs) _ (rw width-is (lt-leb u k l)))
 
   module _ (m : ℕ) (e : m ≡ first (frontTests c i k w recs slots list sets)) (z : m ≡ 0) where
-    lent-passed : (short sinkMax list || short (c .n) sets) ≡ false
-    unfolding frontTests
-    lent-passed =
-        let t = first-passed 19 _ _ (sym e ∙ z) in
-        let u = first-passed 1 _ _ (t .1) in
-        lent-rest (short (c .n) recs || short (slotsLen (c .n)) slots) (short sinkMax list) (short (c .n) sets) (u .0)
+    abbrev front : List Test
+    front = namedTests c i recs slots (othersOf list sets)
 
-    object-passed : first (showTests c i recs slots ++ rest) ≡ 0
-    object-passed = sym (lent-long lent-passed) ∙ sym e ∙ z
+    object-passed : first (front ++ rest) ≡ 0
+    object-passed = sym (front-named (othersOf list sets) refl) ∙ sym e ∙ z
 
-    shown : first (showTests c i recs slots) ≡ 0
-    shown = go (ℕ-discrete (first (showTests c i recs slots)) 0)
+    shown : first front ≡ 0
+    shown = go (ℕ-discrete (first front) 0)
       where
-        go : Dec (first (showTests c i recs slots) ≡ 0) → first (showTests c i recs slots) ≡ 0
+        go : Dec (first front ≡ 0) → first front ≡ 0
         go (yes e) = e
-        go (no d) = absurd (d (sym (first-front (showTests c i recs slots) rest d) ∙ object-passed))
+        go (no d) = absurd (d (sym (first-front front rest d) ∙ object-passed))
+
+    passed-named : Named c i recs slots
+    passed-named = named c i recs slots (othersOf list sets) shown
 
     pub slot-there : Slot (c .n) i k recs slots
     slot-there =
-        let N = named c i recs slots shown in
+        let N = passed-named in
         record {
           room = record { most = N .sound .sizes .most; recs-long = N .recs-long; slots-long = N .slots-long };
           low = N .low;
           high = N .high;
-          used = leb-false _ _ (first-passed 4 _ _ (sym (named-rest c i recs slots rest shown) ∙ object-passed) .0);
+          used = leb-false _ _ (first-passed 4 _ _ (sym (named-rest c i recs slots (othersOf list sets) rest shown) ∙ object-passed) .0);
           narrow = N .legal .narrow;
         }
 
     pub losses : (c .n ≤ objectMax) × (c .«write_loss» ≤ c .n)
-    losses = let N = named c i recs slots shown in (N .sound .sizes .most, N .sound .writes)
+    losses = let N = passed-named in (N .sound .sizes .most, N .sound .writes)
 
 -- the loss fits a word
 pub loss-low : (n m : ℕ) (recs : List ℕ) (d l : ℕ) → n ≤ objectMax → l ≤ n → m ≡ membersOf n recs d → l + m < 2 ^ 32
@@ -297,6 +306,20 @@ module _ (n i k w : ℕ) (recs slots : List ℕ) (s : Slot n i k recs slots) whe
       ap₂ (λ (l : List ℕ) (x : ℕ). set l (i - 1) x) a (f ∙ ap₂ withOut y g)
       ∙ set-set recs (i - 1) _ _
       ∙ sym (store-staying n recs slots i k (target n w) (s .low) (s .high) (s .room .recs-long))
+
+  -- a legal record in no cluster: its out bit is clear already, and the store alone is all
+  pub stays-loose : Legal n (recOf n recs i) → cluster (recOf n recs i) ≡ 0 → new ≡ encoded (storeBy false (view n recs slots) i k (target n w)) recs
+  unfolding view
+  stays-loose L z =
+      let r = recOf n recs i in
+      let a : isOut (withWritten true r) ≡ false = flag-put-other 1 true r 3 (eqb-false 1 3 refl) ∙ clear (isOut r) refl in
+      sym (store-staying n recs slots i k (target n w) (s .low) (s .high) (s .room .recs-long)
+      ∙ ap (λ (o : Bool). set recs (i - 1) (withOut o (withWritten true r))) (outBit-none _ _ _ i z)
+      ∙ ap (set recs (i - 1)) (flag-stays 3 false (withWritten true r) a))
+    where
+      clear : (b : Bool) → isOut (recOf n recs i) ≡ b → isOut (recOf n recs i) ≡ false
+      clear true e = absurd (L .outless e z)
+      clear false e = e
 
   -- the members made loose after the store
   pub gone : (r d : ℕ) → r ≡ recOf n recs i → d ≡ cluster r → (rs ts : List ℕ) → rs ≡ new → ts ≡ dissolved n d rs
@@ -458,6 +481,19 @@ module _ (c : Control) (i k w : ℕ) (recs slots list sets : List ℕ) where
 
 -- ---- the attempts
 
+-- an object in no cluster: the word is stored, and all else stays
+pub ends-loose : (c : Control) (i k w : ℕ) (recs slots list sets : List ℕ) (m : ℕ) → m ≡ first (frontTests c i k w recs slots list sets) → m ≡ 0 → (may : Bool) (d : ℕ)
+    → d ≡ cluster (getD recs (i - 1) 0) → d ≡ 0 → (rs ss : List ℕ) → rs ≡ set recs (i - 1) (withWritten true (recOf (c .n) recs i))
+    → ss ≡ set slots (8 * (i - 1) + k) w → Attempted c i k w recs slots list sets may 0 rs ss sets
+unfolding setsBy
+ends-loose c i k w recs slots list sets m e z may d f q rs ss p y =
+    let s = slot-there c i k w recs slots list sets m e z in
+    let N = passed-named c i k w recs slots list sets m e z in
+    let r = sym (N .rec-at) in
+    keeps (sym z ∙ e) (dissolves-none (c .n) i k recs slots s w _ d r f q) refl
+    (p ∙ stays-loose (c .n) i k w recs slots s (N .legal) (ap cluster (sym r) ∙ sym f ∙ q)) y
+    (set-none (c .n) i recs (storeBy false (heapIn (c .n) recs slots list) i k (target (c .n) w)) sets _ d r f q)
+
 -- the ends of an attempt whose tests passed
 module _ (c : Control) (i k w : ℕ) (recs slots list sets : List ℕ) (m : ℕ) (e : m ≡ first (frontTests c i k w recs slots list sets)) (z : m ≡ 0)
     (b : Bool) (f : b ≡ dissolves (view (c .n) recs slots) i k (target (c .n) w)) (may : Bool) where
@@ -509,7 +545,7 @@ module _ (c : Control) (i k w : ℕ) (recs slots list sets : List ℕ) where
   with-loss : (l : ℕ) → 0 ≡ first (frontTests c i k w recs slots list sets) → l ≤ c .n → first (frontTests (withWriteLoss l c) i k w recs slots list sets) ≡ 0
   unfolding frontTests withWriteLoss
   with-loss l e h =
-      let s = named c i recs slots (shown c i k w recs slots list sets 0 e refl) .sound in
+      let s = passed-named c i k w recs slots list sets 0 e refl .sound in
       first-fails 20 _ _ (facts-control _ (writes-sound c s l h)) ∙ first-passed 19 _ _ (sym e) .1
 
   -- the second attempt, after one that asked

@@ -5,7 +5,7 @@ use mathlib.Core.Logic.{_≢_}
 use mathlib.Core.Bool.{Bool, true, false, not, cond, _&&_, _||_}
 use mathlib.Core.List.{List, [], _∷_}
 use lib.Dec.{eqb, leb}
-use lib.ListN.{set}
+use lib.ListN.{length, set}
 use Rattle.layout.specs.declared.answers.Control.{Control}
 use Rattle.layout.specs.Limits.{widthMax, sinkMax, slotsLen}
 use Rattle.records.specs.Record.{width, free, legal, damaged}
@@ -22,6 +22,10 @@ use Rattle.table.specs.Clusters.{clusterOf, membersOf}
 -- the tests of the word that is to be stored
 unfoldable pub wordTests : ℕ → ℕ → List ℕ → List Test
 wordTests n w recs = (6, not (legalWord n w)) ∷ (23, isPointer n w && not (legal n (recOf n recs w))) ∷ []
+
+-- how many objects the sets have room for, none where the list of sinks is too short
+unfoldable pub othersOf : List ℕ → List ℕ → ℕ
+othersOf list sets = cond (short sinkMax list) 0 (length sets)
 
 -- the tests of a write but the last: the slices', the object's, the slot's, the word's
 unfoldable pub frontTests : Control → ℕ → ℕ → ℕ → List ℕ → List ℕ → List ℕ → List ℕ → List Test

@@ -13,18 +13,15 @@ ghost use Rattle.rules.specs.Buffers.{recOf, usedWords};
 ghost use Rattle.rules.specs.View.{target, view, heapIn, encoded};
 ghost use Rattle.rules.specs.Write as Write;
 ghost use Rattle.table.specs.Clusters.{clusterOf, membersOf};
-ghost use Rattle.writes.specs.Writes.{wordTests, frontTests, Slot, withSet, setsBy, Attempted};
+ghost use Rattle.writes.specs.Writes.{wordTests, othersOf, frontTests, Slot, withSet, setsBy, Attempted};
 use layout::answers::Control;
 use layout::answers::Done;
 use layout::limits::SINK_MAX;
 use layout::limits::slots_len;
-use layout::refusals::BAD_CONTROL;
 use layout::refusals::BAD_WORD;
 use layout::refusals::LOSS_FULL;
 use layout::refusals::NAMES_NONE;
 use layout::refusals::NO_SLOT;
-use layout::refusals::TOO_SHORT;
-use layout::refusals::bad_control;
 use layout::words::Word;
 use layout::words::sort_word;
 use places::cluster_set;
@@ -43,13 +40,13 @@ use table::named::object_refusal;
 
 // The first of the word's tests that holds, 0 where none does.
 fn word_refusal(n: u32, word: u32, records: &[u32]) -> u32
-    requires { ⌜ n ≤ objectMax ⌝ }
+    requires { ⌜ (n ≤ objectMax) × (n ≤ length (now records)) ⌝ }
     ensures { λ k. ⌜ k ≡ first (wordTests n word (now (records .entry))) ⌝ }
 {
     match sort_word(n, word) {
         Word::Nil => 0,
         Word::Object(x) => {
-            if legal(n, record_of(n, x, records)) {
+            if legal(n, records[(x - 1) as usize]) {
                 0
             } else {
                 NAMES_NONE
@@ -58,6 +55,16 @@ fn word_refusal(n: u32, word: u32, records: &[u32]) -> u32
         Word::Immediate => 0,
         Word::Illegal => BAD_WORD,
     }
+}
+
+// How many objects the sets have room for, or 0 where the list of sinks is too short. There is always an object, so 0 is too few.
+fn others(sinks: &[u32], sets: &[u64]) -> usize
+    ensures { λ k. ⌜ k ≡ othersOf (now (sinks .entry)) (now (sets .entry)) ⌝ }
+{
+    if sinks.len() < SINK_MAX as usize {
+        return 0;
+    }
+    sets.len()
 }
 
 // The first test of a write that holds, but for the last test; 0 where none does.
@@ -73,18 +80,11 @@ fn write_refusal(
 ) -> u32
     ensures { λ k. ⌜ k ≡ first (frontTests c object slot word (now (records .entry)) (now (slots .entry)) (now (sinks .entry)) (now (sets .entry))) ⌝ }
 {
-    // One branch for both slices; only where it is taken does it matter that 20 comes first.
-    if (sinks.len() < SINK_MAX as usize) | (sets.len() < c.n as usize) {
-        if bad_control(c) {
-            return BAD_CONTROL;
-        }
-        return TOO_SHORT;
-    }
-    let k = object_refusal(c, object, records, slots);
+    let k = object_refusal(c, object, records, slots, others(sinks, sets));
     if k != 0 {
         return k;
     }
-    if width_of(record_of(c.n, object, records)) <= slot {
+    if width_of(records[(object - 1) as usize]) <= slot {
         return NO_SLOT;
     }
     word_refusal(c.n, word, records)
@@ -256,16 +256,21 @@ fn attempt(
     ensures { λ a. ⌜ Attempted c object slot word (now (records .entry)) (now (slots .entry)) (now (sinks .entry)) (now (sets .entry)) may a
         (now (records .exit)) (now (slots .exit)) (now (sets .exit)) ⌝ }
 {
-    let refusal = write_refusal(c, object, slot, word, records, slots, sinks, sets);
+    let refusal = write_refusal(c, object, slot, word, records, slots, &sinks[..], sets);
     if refusal != 0 {
         return refusal;
     }
+    // An object in no cluster has no out bit, and there is no set to make.
+    if cluster_of(records[(object - 1) as usize]) == 0 {
+        store_word(c.n, object, slot, word, records, slots);
+        return 0;
+    }
     if !does_dissolve(c.n, object, slot, word, records, slots) {
-        store_staying(c.n, object, slot, word, records, slots, sinks, sets);
+        store_staying(c.n, object, slot, word, records, slots, &sinks[..], sets);
         return 0;
     }
     if may {
-        store_dissolving(c.n, object, slot, word, records, slots, sinks, sets);
+        store_dissolving(c.n, object, slot, word, records, slots, &sinks[..], sets);
         return 0;
     }
     let loss = loss_after(c, object, records);
@@ -290,11 +295,12 @@ pub fn write(
     ensures { λ a. ⌜ Write.gives a (now (records .exit)) (now (slots .exit)) (now (sets .exit))
         ≡ Write.write c object slot word (now (records .entry)) (now (slots .entry)) (now (sinks .entry)) (now (sets .entry)) ⌝ }
 {
+    let list = &sinks[..];
     let mut d = c;
-    let mut k = attempt(d, object, slot, word, records, slots, sinks, sets, false);
+    let mut k = attempt(d, object, slot, word, records, slots, list, sets, false);
     if LOSS <= k {
         d.write_loss = k - LOSS;
-        k = attempt(d, object, slot, word, records, slots, sinks, sets, true);
+        k = attempt(d, object, slot, word, records, slots, list, sets, true);
     }
     Done {
         refusal: k,

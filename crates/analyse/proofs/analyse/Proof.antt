@@ -63,7 +63,7 @@ same-length-5 c = search needs
 returns-2 : tie.Need-returns-2
 returns-2 c =
     let f = c .before .before .before .before .before .before .before .before .before .before .before .before .before .before .form-and-judge in
-    outcome _ _ _ _ _ _ (c .before .before .before .before .before .before .before .before .before .before .before .before .before .before .before .before .before .before .before .before .before .before .before .before .before .before .before .before .before .before .before .before .args .work .now) _ (c .before .before .before .before .before .before .before .before .before .before .before .before .before .before .before .before .before .before .before .before .before .before .before .before .before .work-len .ensures) _ (c .before .before .before .before .before .before .before .before .before .before .before .before .before .before .before .before .before .before .before .before .before .before .heap-refusal .ensures) (c .before .before .before .before .before .before .before .before .before .before .before .before .before .before .before .before .before .before .before .before .before .if1 .left) _ (c .before .before .before .before .before .before .before .before .before .before .before .before .before .before .before .before .before .before .next-limit .ensures ∙ ap (nextLimit (c .before .before .before .before .before .before .before .before .before .before .before .before .before .before .before .before .before .before .before .before .before .before .before .before .before .before .before .before .before .before .before .before .args .c)) (c .before .before .before .before .before .before .before .before .before .before .before .before .before .before .before .before .before .before .before .used-count .ensures)) _ _ (f .last .1 .1 .1 .1 .1 .1 .1 .1 .0) _ _ _ _ (f .ensures) (c .before .before .before .before .before .before .before .fill-sets .ensures) (f .kept .1 .1 .1 .1 .1 .1 .1 .1 .0) (c .before .before .before .zero .ensures) _ (c .with-analysis .ensures)
+    outcome _ _ _ _ _ _ (c .before .before .before .before .before .before .before .before .before .before .before .before .before .before .before .before .before .before .before .before .before .before .before .before .before .before .before .before .before .before .before .before .args .work .now) _ (c .before .before .before .before .before .before .before .before .before .before .before .before .before .before .before .before .before .before .before .before .before .before .before .before .before .work-len .ensures) _ (c .before .before .before .before .before .before .before .before .before .before .before .before .before .before .before .before .before .before .before .before .before .before .heap-refusal .ensures) (c .before .before .before .before .before .before .before .before .before .before .before .before .before .before .before .before .before .before .before .before .before .if1 .left) _ (c .before .before .before .before .before .before .before .before .before .before .before .before .before .before .before .before .before .before .next-limit .ensures ∙ ap (nextLimit (c .before .before .before .before .before .before .before .before .before .before .before .before .before .before .before .before .before .before .before .before .before .before .before .before .before .before .before .before .before .before .before .before .args .c)) (c .before .before .before .before .before .before .before .before .before .before .before .before .before .before .before .before .before .before .before .used-count .ensures)) _ _ (f .last .1 .1 .1 .1 .1 .1 .1 .1 .1 .0) _ _ _ _ (f .ensures) (c .before .before .before .before .before .before .before .fill-sets .ensures) (f .kept .1 .1 .1 .1 .1 .1 .1 .1 .1 .0) (c .before .before .before .zero .ensures) _ (c .with-analysis .ensures)
 
 pub analyse-spec : {M : Type 1} → statement M
 analyse-spec =

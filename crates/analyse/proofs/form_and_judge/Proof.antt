@@ -15,7 +15,7 @@ decide-requires : tie.Need-decide-requires
 decide-requires c κs = decide-may _ _ _ _ (judgeable _ _ _ _ _ _ _ _ (c .before .before .before .before .before .before .before .before .before .form .ensures)) _ (c .before .before .before .before .tally .ensures)
 
 settle-requires : tie.Need-settle-requires
-settle-requires c κs = settle-may _ _ _ _ (judgeable _ _ _ _ _ _ _ _ (c .before .before .before .before .before .before .before .before .before .before .before .before .before .before .form .ensures)) _ (c .before .before .before .before .before .before .before .before .before .tally .ensures) _ (c .before .before .before .before .decide .ensures)
+settle-requires c κs = settle-may _ _ _ _ (judgeable _ _ _ _ _ _ _ _ (c .before .before .before .before .before .before .before .before .before .before .before .before .before .before .form .ensures)) _ (c .before .before .before .before .before .before .before .before .before .tally .ensures) _ _ (c .before .before .before .before .decide .ensures)
 
 same-length : tie.Need-same-length
 same-length c = search needs
@@ -26,7 +26,7 @@ same-length-2 c = search needs
 returns : tie.Need-returns
 returns c =
     let f = c .before .before .before .before .before .before .before .before .before .before .before .before .before .before .before .before .before .form .ensures in
-    judged-walk _ _ _ _ _ _ _ _ f _ _ _ _ (judged _ _ _ _ (judgeable _ _ _ _ _ _ _ _ f) _ (c .before .before .before .before .before .before .before .before .before .before .before .before .tally .ensures) _ (c .before .before .before .before .before .before .before .decide .ensures) _ _ _ _ (c .before .before .settle .ensures))
+    judged-walk _ _ _ _ _ _ _ _ f _ _ _ _ _ (judged _ _ _ _ (judgeable _ _ _ _ _ _ _ _ f) _ (c .before .before .before .before .before .before .before .before .before .before .before .before .tally .ensures) _ _ (c .before .before .before .before .before .before .before .decide .ensures) _ _ _ _ (c .before .before .settle .ensures))
 
 pub form-and-judge-spec : {M : Type 1} → statement M
 form-and-judge-spec =

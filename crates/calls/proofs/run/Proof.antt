@@ -23,6 +23,9 @@ array-read-create c = search needs
 array-read-create-2 : tie.Need-array-read-create-2
 array-read-create-2 c = search needs
 
+tuning-in-requires : tie.Need-tuning-in-requires
+tuning-in-requires c κs = search needs
+
 create-requires : tie.Need-create-requires
 create-requires c κs = search needs
 
@@ -142,7 +145,9 @@ same-length-5 c = search needs
 
 returns : tie.Need-returns
 unfolding Run.run Run.create
-returns c = rw (c .of-done .ensures, c .before .before .before .before .before .before .before .before .before .before .before .before .before .before .before .before .before .match .keys1, ← c .before .before .before .before .before .before .before .before .before .before .before .create .ensures) refl
+returns c =
+    let t = c .before .before .before .before .before .before .before .before .before .before .before .before .before .before .before .before .before in
+    rw (c .of-done .ensures, ← t .tuning-in .ensures, t .before .match .keys1, ← c .before .before .before .before .before .before .before .before .before .before .before .create .ensures) refl
 
 same-length-6 : tie.Need-same-length-6
 same-length-6 c = search needs
@@ -347,6 +352,7 @@ run-spec =
     (tie.spec
     array-read-create
     array-read-create-2
+    tuning-in-requires
     create-requires
     of-done-requires
     array-read-allocate

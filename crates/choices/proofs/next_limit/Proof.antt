@@ -14,7 +14,7 @@ clamp-requires : tie.Need-clamp-requires
 clamp-requires c κs = search needs
 
 returns : tie.Need-returns
-returns c = limit-first _ _ _ (c .before .before .if1 .taken) (c .clamp .ensures ∙ ap clamped (c .before .sixteenth .ensures))
+returns c = limit-first _ _ _ (c .before .before .if1 .taken) (c .clamp .ensures ∙ ap (clamped _) (c .before .sixteenth .ensures))
 
 half-requires : tie.Need-half-requires
 half-requires c κs = search needs
@@ -23,21 +23,24 @@ clamp-requires-2 : tie.Need-clamp-requires-2
 clamp-requires-2 c κs = search needs
 
 returns-2 : tie.Need-returns-2
-returns-2 c = limit-halved _ _ _ (c .before .before .before .before .if1 .left) (c .before .before .if2 .taken) (c .clamp2 .ensures ∙ ap clamped (c .before .half .ensures))
-
-returns-3 : tie.Need-returns-3
-returns-3 c = limit-doubled _ _ _ (c .before .before .before .before .if1 .left) (c .before .before .if2 .left) (clamp-most _ (c .if3 .taken))
-
-mul-clamp : tie.Need-mul-clamp
-mul-clamp c = record { fits = omega (arith, c .before .if3 .left) }
+returns-2 c = limit-halved _ _ _ (c .before .before .before .before .if1 .left) (c .before .before .if2 .taken) (c .clamp2 .ensures ∙ ap (clamped _) (c .before .half .ensures))
 
 clamp-requires-3 : tie.Need-clamp-requires-3
 clamp-requires-3 c κs = search needs
 
+returns-3 : tie.Need-returns-3
+returns-3 c = limit-doubled _ _ _ (c .before .before .before .before .before .if1 .left) (c .before .before .before .if2 .left) (c .clamp3 .ensures ∙ clamp-most _ _ (c .before .if3 .taken))
+
+mul-clamp : tie.Need-mul-clamp
+mul-clamp c = record { fits = omega (arith, c .before .if3 .left) }
+
+clamp-requires-4 : tie.Need-clamp-requires-4
+clamp-requires-4 c κs = search needs
+
 returns-4 : tie.Need-returns-4
-returns-4 c = limit-doubled _ _ _ (c .before .before .before .before .before .before .if1 .left) (c .before .before .before .before .if2 .left) (c .clamp3 .ensures)
+returns-4 c = limit-doubled _ _ _ (c .before .before .before .before .before .before .if1 .left) (c .before .before .before .before .if2 .left) (c .clamp4 .ensures)
 
 pub next-limit-spec : {M : Type 1} → statement M
 next-limit-spec =
     tie.close
-    (tie.spec sixteenth-requires clamp-requires returns half-requires clamp-requires-2 returns-2 returns-3 mul-clamp clamp-requires-3 returns-4)
+    (tie.spec sixteenth-requires clamp-requires returns half-requires clamp-requires-2 returns-2 clamp-requires-3 returns-3 mul-clamp clamp-requires-4 returns-4)

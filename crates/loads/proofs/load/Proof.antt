@@ -5,14 +5,14 @@ use borrow.Author.Needs.{needs}
 use Rattle.loads.proofs.load.Statement.{statement}
 use Rattle.loads.proofs.load.Tie as tie
 
-image-refusal-requires : tie.Need-image-refusal-requires
-image-refusal-requires c κs = search needs
+input-refusal-requires : tie.Need-input-refusal-requires
+input-refusal-requires c κs = search needs
 
-new-control-requires : tie.Need-new-control-requires
-new-control-requires c κs = search needs
+no-control-requires : tie.Need-no-control-requires
+no-control-requires c κs = search needs
 
 returns : tie.Need-returns
-returns c = image-refused _ _ _ _ _ _ _ (c .before .before .image-refusal .ensures) (c .before .if1 .taken) _ (c .new-control .ensures)
+returns c = image-refused _ _ _ _ _ _ _ _ (c .before .before .input-refusal .ensures) (c .before .if1 .taken) _ (c .no-control .ensures)
 
 get2-requires : tie.Need-get2-requires
 get2-requires c κs = search needs
@@ -23,8 +23,8 @@ get2-requires-2 c κs = search needs
 short-heap-requires : tie.Need-short-heap-requires
 short-heap-requires c κs = search needs
 
-new-control-requires-2 : tie.Need-new-control-requires-2
-new-control-requires-2 c κs = search needs
+no-control-requires-2 : tie.Need-no-control-requires-2
+no-control-requires-2 c κs = search needs
 
 same-length : tie.Need-same-length
 same-length c = search needs
@@ -42,13 +42,13 @@ same-length-5 : tie.Need-same-length-5
 same-length-5 c = search needs
 
 returns-2 : tie.Need-returns-2
-returns-2 c = too-short _ _ _ _ _ _ (sym (c .before .before .before .before .before .before .before .before .before .before .before .image-refusal .ensures) ∙ c .before .before .before .before .before .before .before .before .before .before .if1 .left) _ _ (c .before .before .before .before .before .before .before .before .before .get2 .ensures) (c .before .before .before .before .before .before .before .before .get22 .ensures) (sym (c .before .before .short-heap .ensures) ∙ c .before .if2 .taken) _ (c .new-control2 .ensures)
+returns-2 c = too-short _ _ _ _ _ _ _ (sym (c .before .before .before .before .before .before .before .before .before .before .before .input-refusal .ensures) ∙ c .before .before .before .before .before .before .before .before .before .before .if1 .left) _ _ (c .before .before .before .before .before .before .before .before .before .get2 .ensures) (c .before .before .before .before .before .before .before .before .get22 .ensures) (sym (c .before .before .short-heap .ensures) ∙ c .before .if2 .taken) _ (c .no-control2 .ensures)
 
 lay-requires : tie.Need-lay-requires
-lay-requires c κs = accepted _ _ _ _ _ _ (sym (c .before .before .before .before .before .before .before .before .before .before .before .before .before .before .before .image-refusal .ensures) ∙ c .before .before .before .before .before .before .before .before .before .before .before .before .before .before .if1 .left) _ _ (c .before .before .before .before .before .before .before .before .before .before .before .before .before .get2 .ensures) (c .before .before .before .before .before .before .before .before .before .before .before .before .get22 .ensures) (sym (c .before .before .before .before .before .before .short-heap .ensures) ∙ c .before .before .before .before .before .if2 .left)
+lay-requires c κs = accepted _ _ _ _ _ _ _ (sym (c .before .before .before .before .before .before .before .before .before .before .before .before .before .before .before .input-refusal .ensures) ∙ c .before .before .before .before .before .before .before .before .before .before .before .before .before .before .if1 .left) _ _ (c .before .before .before .before .before .before .before .before .before .before .before .before .before .get2 .ensures) (c .before .before .before .before .before .before .before .before .before .before .before .before .get22 .ensures) (sym (c .before .before .before .before .before .before .short-heap .ensures) ∙ c .before .before .before .before .before .if2 .left)
 
-new-control-requires-3 : tie.Need-new-control-requires-3
-new-control-requires-3 c κs = search needs
+new-control-requires : tie.Need-new-control-requires
+new-control-requires c κs = search needs
 
 get2-requires-3 : tie.Need-get2-requires-3
 get2-requires-3 c κs = search needs
@@ -74,20 +74,20 @@ same-length-10 c = search needs
 returns-3 : tie.Need-returns-3
 returns-3 c =
     let l = c .before .before .before .before .before .before .before .before .before .before .before .before .before .lay .ensures in
-    loaded _ _ _ _ _ _ (sym (c .before .before .before .before .before .before .before .before .before .before .before .before .before .before .before .before .before .before .before .before .before .before .before .before .before .before .before .before .before .image-refusal .ensures) ∙ c .before .before .before .before .before .before .before .before .before .before .before .before .before .before .before .before .before .before .before .before .before .before .before .before .before .before .before .before .if1 .left) _ _ (c .before .before .before .before .before .before .before .before .before .before .before .before .before .before .before .before .before .before .before .before .before .before .before .before .before .before .before .get2 .ensures) (c .before .before .before .before .before .before .before .before .before .before .before .before .before .before .before .before .before .before .before .before .before .before .before .before .before .before .get22 .ensures) (sym (c .before .before .before .before .before .before .before .before .before .before .before .before .before .before .before .before .before .before .before .before .short-heap .ensures) ∙ c .before .before .before .before .before .before .before .before .before .before .before .before .before .before .before .before .before .before .before .if2 .left) _ _ _ _ _ _ _ _
-    (c .before .before .new-control3 .ensures) (c .before .get23 .ensures) (c .with-last .ensures) (l .0) (l .1 .0) (l .1 .1 .0) (l .1 .1 .1 .0) (l .1 .1 .1 .1)
+    loaded _ _ _ _ _ _ _ (sym (c .before .before .before .before .before .before .before .before .before .before .before .before .before .before .before .before .before .before .before .before .before .before .before .before .before .before .before .before .before .input-refusal .ensures) ∙ c .before .before .before .before .before .before .before .before .before .before .before .before .before .before .before .before .before .before .before .before .before .before .before .before .before .before .before .before .if1 .left) _ _ (c .before .before .before .before .before .before .before .before .before .before .before .before .before .before .before .before .before .before .before .before .before .before .before .before .before .before .before .get2 .ensures) (c .before .before .before .before .before .before .before .before .before .before .before .before .before .before .before .before .before .before .before .before .before .before .before .before .before .before .get22 .ensures) (sym (c .before .before .before .before .before .before .before .before .before .before .before .before .before .before .before .before .before .before .before .before .short-heap .ensures) ∙ c .before .before .before .before .before .before .before .before .before .before .before .before .before .before .before .before .before .before .before .if2 .left) _ _ _ _ _ _ _ _
+    (c .before .before .new-control .ensures) (c .before .get23 .ensures) (c .with-last .ensures) (l .0) (l .1 .0) (l .1 .1 .0) (l .1 .1 .1 .0) (l .1 .1 .1 .1)
 
 pub load-spec : {M : Type 1} → statement M
 load-spec =
     tie.close
     (tie.spec
-    image-refusal-requires
-    new-control-requires
+    input-refusal-requires
+    no-control-requires
     returns
     get2-requires
     get2-requires-2
     short-heap-requires
-    new-control-requires-2
+    no-control-requires-2
     same-length
     same-length-2
     same-length-3
@@ -95,7 +95,7 @@ load-spec =
     same-length-5
     returns-2
     lay-requires
-    new-control-requires-3
+    new-control-requires
     get2-requires-3
     with-last-requires
     same-length-6

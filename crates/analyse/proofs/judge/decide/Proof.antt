@@ -10,10 +10,10 @@ use Rattle.analyse.proofs.judge.decide.Statement.{statement}
 use Rattle.analyse.proofs.judge.decide.Tie as tie
 
 abbrev Inv-loop : tie.InvT-loop
-Inv-loop n records slots work₀ k₀ work k = Filling n n (leftWord n records slots work₀) work₀ work k × (k ≤ n)
+Inv-loop n t records slots work₀ k₀ work k = Filling n n (leftWord n t records slots work₀) work₀ work k × (k ≤ n)
 
 abbrev μ-loop : tie.MeasureT-loop
-μ-loop n records slots work₀ k₀ work k = n - k
+μ-loop n t records slots work₀ k₀ work k = n - k
 
 loop-holds : tie.Need-loop-holds Inv-loop μ-loop
 loop-holds c = (fill-start _ _ _ _, omega arith)
@@ -43,7 +43,7 @@ loop-again : tie.Need-loop-again Inv-loop μ-loop
 loop-again c =
     let h = c .before .before .loop-test .taken in
     let g = c .before .before .before .loop .inv .0 in
-    (fill-turn _ _ _ _ _ _ _ _ g h (omega (arith, c .before .before .before .before .before .before .before .pre .sized .work-long)) refl (c .left .ensures ∙ left-same _ _ _ _ _ _ _ g _), omega (arith, h))
+    (fill-turn _ _ _ _ _ _ _ _ g h (omega (arith, c .before .before .before .before .before .before .before .pre .sized .work-long)) refl (c .left .ensures ∙ left-same _ _ _ _ _ _ _ g _ _), omega (arith, h))
 
 same-length : tie.Need-same-length Inv-loop μ-loop
 same-length c = c .before .loop .inv .0 .long

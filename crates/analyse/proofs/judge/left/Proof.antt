@@ -17,7 +17,7 @@ word-of-requires : tie.Need-word-of-requires
 word-of-requires c κs = let s = c .before .before .before .pre in (s .1, s .2, omega (arith, s .0 .sized .work-long))
 
 returns : tie.Need-returns
-returns c = left-none _ _ _ _ _ _ _ (c .before .word-of .ensures) refl (c .if1 .taken)
+returns c = left-none _ _ _ _ _ _ _ _ (c .before .word-of .ensures) refl (c .if1 .taken)
 
 record-at-requires : tie.Need-record-at-requires
 record-at-requires c κs = let s = c .before .before .before .before .before .pre in (omega (arith, c .if1 .left), read-fits _ _ _ _ (c .before .word-of .ensures) (s .0 .fits _), s .0 .sized .room .recs-long)
@@ -38,7 +38,7 @@ stays-requires : tie.Need-stays-requires
 stays-requires c κs = search needs
 
 returns-2 : tie.Need-returns-2
-returns-2 c = left-gone _ _ _ _ _ _ _ (c .before .before .before .before .before .before .before .word-of .ensures) refl _ (stays-by _ _ _ _ _ (c .before .before .before .before .cluster-of .ensures ∙ ap cluster (c .before .before .before .before .before .record-at .ensures)) _ _ (c .before .before .before .word-of2 .ensures) (c .before .before .word-of3 .ensures) _ (c .before .stays .ensures)) (c .if2 .taken)
+returns-2 c = left-gone _ _ _ _ _ _ _ _ (c .before .before .before .before .before .before .before .word-of .ensures) refl _ (stays-by _ _ _ _ _ _ (c .before .before .before .before .cluster-of .ensures ∙ ap cluster (c .before .before .before .before .before .record-at .ensures)) _ _ (c .before .before .before .word-of2 .ensures) (c .before .before .word-of3 .ensures) _ (c .before .stays .ensures)) (c .if2 .taken)
 
 outs-requires : tie.Need-outs-requires
 outs-requires c κs = let s = c .before .before .before .before .before .before .before .before .before .before .before .pre in (s .0 .sized, s .1, s .2)
@@ -53,7 +53,7 @@ add-result : tie.Need-add-result
 add-result c = omega (arith, bit-le (not (eqb (c .outs .result) 0)))
 
 returns-3 : tie.Need-returns-3
-returns-3 c = left-kept _ _ _ _ _ _ _ (c .before .before .before .before .before .before .before .before .word-of .ensures) refl _ (stays-by _ _ _ _ _ (c .before .before .before .before .before .cluster-of .ensures ∙ ap cluster (c .before .before .before .before .before .before .record-at .ensures)) _ _ (c .before .before .before .before .word-of2 .ensures) (c .before .before .before .word-of3 .ensures) _ (c .before .before .stays .ensures)) (c .before .before .before .before .before .before .before .if1 .left) (c .before .if2 .left) _ (c .outs .ensures .0)
+returns-3 c = left-kept _ _ _ _ _ _ _ _ (c .before .before .before .before .before .before .before .before .word-of .ensures) refl _ (stays-by _ _ _ _ _ _ (c .before .before .before .before .before .cluster-of .ensures ∙ ap cluster (c .before .before .before .before .before .before .record-at .ensures)) _ _ (c .before .before .before .before .word-of2 .ensures) (c .before .before .before .word-of3 .ensures) _ (c .before .before .stays .ensures)) (c .before .before .before .before .before .before .before .if1 .left) (c .before .if2 .left) _ (c .outs .ensures .0)
 
 pub left-spec : {M : Type 1} → statement M
 left-spec =

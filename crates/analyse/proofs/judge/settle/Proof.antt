@@ -9,13 +9,13 @@ use Rattle.analyse.proofs.judge.settle.Statement.{statement}
 use Rattle.analyse.proofs.judge.settle.Tie as tie
 
 abbrev Inv-loop : tie.InvT-loop
-Inv-loop n records₀ work loss₀ clusters₀ members₀ k₀ records loss clusters members k = Settling n records₀ work records k loss clusters members
+Inv-loop n t records₀ work loss₀ clusters₀ members₀ k₀ records loss clusters members k = Settling n t records₀ work records k loss clusters members
 
 abbrev μ-loop : tie.MeasureT-loop
-μ-loop n records₀ work loss₀ clusters₀ members₀ k₀ records loss clusters members k = n - k
+μ-loop n t records₀ work loss₀ clusters₀ members₀ k₀ records loss clusters members k = n - k
 
 loop-holds : tie.Need-loop-holds Inv-loop μ-loop
-loop-holds c = settle-start _ _ _
+loop-holds c = settle-start _ _ _ _
 
 cast-r : tie.Need-cast-r Inv-loop μ-loop
 cast-r c = omega arith
@@ -39,19 +39,19 @@ loss-of-requires : tie.Need-loss-of-requires Inv-loop μ-loop
 loss-of-requires c κs = let s = c .before .before .before .before .before .before .before .pre in (s .2, s .1, omega arith, omega (arith, c .before .before .before .loop-test .taken), s .3 _)
 
 add-loss : tie.Need-add-loss Inv-loop μ-loop
-add-loss c = record { fits = settle-fits _ _ _ _ _ _ _ _ (c .before .before .before .before .before .loop .inv) (c .before .before .before .before .before .before .before .before .pre .2) _ (c .loss-of .ensures .1) }
+add-loss c = record { fits = settle-fits _ _ _ _ _ _ _ _ _ (c .before .before .before .before .before .loop .inv) (c .before .before .before .before .before .before .before .before .pre .2) _ (c .loss-of .ensures .1) }
 
 cast-clusters : tie.Need-cast-clusters Inv-loop μ-loop
 cast-clusters c = search needs
 
 add-clusters : tie.Need-add-clusters Inv-loop μ-loop
-add-clusters c = record { fits = heads-fit _ _ _ _ _ _ _ _ (c .before .before .before .before .before .loop .inv) (c .before .before .before .before .before .before .before .before .pre .2) (eqb (c .before .cluster-of .result) 0 && eqb (c .before .before .word-of .result % 4096) (c .before .before .before .before .before .loop .k + 1)) }
+add-clusters c = record { fits = heads-fit _ _ _ _ _ _ _ _ _ (c .before .before .before .before .before .loop .inv) (c .before .before .before .before .before .before .before .before .pre .2) (eqb (c .before .cluster-of .result) 0 && eqb (c .before .before .word-of .result % 4096) (c .before .before .before .before .before .loop .k + 1)) }
 
 cast-members : tie.Need-cast-members Inv-loop μ-loop
 cast-members c = search needs
 
 add-members : tie.Need-add-members Inv-loop μ-loop
-add-members c = record { fits = members-fit _ _ _ _ _ _ _ _ (c .before .before .before .before .before .loop .inv) (c .before .before .before .before .before .before .before .before .pre .2) (eqb (c .before .cluster-of .result) 0 && not (eqb (c .before .before .word-of .result % 4096) 0)) }
+add-members c = record { fits = members-fit _ _ _ _ _ _ _ _ _ (c .before .before .before .before .before .loop .inv) (c .before .before .before .before .before .before .before .before .pre .2) (eqb (c .before .cluster-of .result) 0 && not (eqb (c .before .before .word-of .result % 4096) 0)) }
 
 settled-record-requires : tie.Need-settled-record-requires Inv-loop μ-loop
 settled-record-requires c κs = search needs
@@ -72,13 +72,13 @@ loop-less : tie.Need-loop-less Inv-loop μ-loop
 loop-less c = omega arith
 
 loop-again : tie.Need-loop-again Inv-loop μ-loop
-loop-again c = settle-turn _ _ _ _ _ _ _ _ (c .before .before .before .before .before .before .loop .inv) (c .before .before .before .before .before .loop-test .taken) (c .before .before .before .before .before .before .before .before .before .pre .0) _ (c .before .before .before .word-of .ensures) _ (c .before .before .cluster-of .ensures) _ (c .before .loss-of .ensures) _ (c .settled-record .ensures)
+loop-again c = settle-turn _ _ _ _ _ _ _ _ _ (c .before .before .before .before .before .before .loop .inv) (c .before .before .before .before .before .loop-test .taken) (c .before .before .before .before .before .before .before .before .before .pre .0) _ (c .before .before .before .word-of .ensures) _ (c .before .before .cluster-of .ensures) _ (c .before .loss-of .ensures) _ (c .settled-record .ensures)
 
 same-length : tie.Need-same-length Inv-loop μ-loop
 same-length c = c .before .loop .inv .left .2
 
 returns : tie.Need-returns Inv-loop μ-loop
-returns c = settle-end _ _ _ _ _ _ _ _ (c .before .loop .inv) (c .loop-test .left)
+returns c = settle-end _ _ _ _ _ _ _ _ _ (c .before .loop .inv) (c .loop-test .left)
 
 pub settle-spec : {M : Type 1} → statement M
 settle-spec =

@@ -2,7 +2,7 @@
 use borrow.Author.Needs.{needs}
 use mathlib.Core.Path.{sym, _∙_}
 use native.Mathlib.Omega.{arith}
-use Rattle.heap.proofs.AllocateLaws.{Given, given-facts, refused, accepted}
+use Rattle.heap.proofs.AllocateLaws.{Given, given-facts, given-slots, refused, accepted}
 use Rattle.heap.proofs.allocate.allocate.Statement.{statement}
 use Rattle.heap.proofs.allocate.allocate.Tie as tie
 
@@ -39,8 +39,8 @@ sub-slots-len c = omega (arith, given-at (c .before .before .before) .low)
 slots-len-requires : tie.Need-slots-len-requires
 slots-len-requires c κs = search needs
 
-clear-eight-requires : tie.Need-clear-eight-requires
-clear-eight-requires c κs = search needs
+clear-object-requires : tie.Need-clear-object-requires
+clear-object-requires c κs = given-slots _ _ _ _ (given-at (c .before .before .before .before)) _ (c .slots-len .ensures)
 
 with-last-requires : tie.Need-with-last-requires
 with-last-requires c κs = search needs
@@ -64,7 +64,7 @@ returns-2 : tie.Need-returns-2
 returns-2 c =
     let x = c .before .before .before .before .before .before .before .before in
     accepted _ _ _ _ _ (sym (x .x .given .1) ∙ x .before .before .choose .ensures) _ _ _ _
-    (c .before .before .before .before .before .before .new-record .ensures) (c .before .before .before .before .slots-len .ensures) (c .before .before .before .clear-eight .ensures) (c .with-last .ensures)
+    (c .before .before .before .before .before .before .new-record .ensures) (c .before .before .before .before .slots-len .ensures) (c .before .before .before .clear-object .ensures) (c .with-last .ensures)
 
 pub allocate-spec : {M : Type 1} → statement M
 allocate-spec =
@@ -80,7 +80,7 @@ allocate-spec =
     slice-write-records
     sub-slots-len
     slots-len-requires
-    clear-eight-requires
+    clear-object-requires
     with-last-requires
     same-length
     same-length-2

@@ -2,7 +2,7 @@
 use mathlib.Core.Path.{_∙_}
 use native.Mathlib.Omega.{arith}
 use Rattle.lines.proofs.WordLaws.{word-inside}
-use Rattle.lines.proofs.LineLaws.{line-none, line-some, follow-none, follow-name, follow-way, follow-numbers}
+use Rattle.lines.proofs.LineLaws.{line-none, line-some, follow-none, follow-name, follow-sizes, follow-way, follow-numbers}
 use borrow.Author.Needs.{needs}
 use Rattle.lines.proofs.parse.parse.Statement.{statement}
 use Rattle.lines.proofs.parse.parse.Tie as tie
@@ -42,21 +42,29 @@ returns-3 c =
     c .named .ensures ∙ follow-name _ _ _ (c .before .before .before .if2 .left) (c .before .if3 .taken)
     ∙ line-some _ _ (c .before .before .before .before .before .before .before .before .before .next-word .ensures) (c .before .before .before .before .before .before .before .before .if1 .left) _ (c .before .before .before .before .before .row-of .ensures)
 
-way-requires : tie.Need-way-requires
-way-requires c κs = search needs
+sizes-requires : tie.Need-sizes-requires
+sizes-requires c κs = search needs
 
 returns-4 : tie.Need-returns-4
 returns-4 c =
-    c .way .ensures ∙ follow-way _ _ _ (c .before .before .before .before .before .if2 .left) (c .before .before .before .if3 .left) (c .before .if4 .taken)
+    c .sizes .ensures ∙ follow-sizes _ _ _ (c .before .if4 .taken)
     ∙ line-some _ _ (c .before .before .before .before .before .before .before .before .before .before .before .next-word .ensures) (c .before .before .before .before .before .before .before .before .before .before .if1 .left) _ (c .before .before .before .before .before .before .before .row-of .ensures)
+
+way-requires : tie.Need-way-requires
+way-requires c κs = search needs
+
+returns-5 : tie.Need-returns-5
+returns-5 c =
+    c .way .ensures ∙ follow-way _ _ _ (c .before .if5 .taken)
+    ∙ line-some _ _ (c .before .before .before .before .before .before .before .before .before .before .before .before .before .next-word .ensures) (c .before .before .before .before .before .before .before .before .before .before .before .before .if1 .left) _ (c .before .before .before .before .before .before .before .before .before .row-of .ensures)
 
 numbers-requires : tie.Need-numbers-requires
 numbers-requires c κs = search needs
 
-returns-5 : tie.Need-returns-5
-returns-5 c =
-    c .numbers .ensures ∙ follow-numbers _ _ _ (c .before .before .before .before .before .if2 .left) (c .before .before .before .if3 .left) (c .before .if4 .left)
-    ∙ line-some _ _ (c .before .before .before .before .before .before .before .before .before .before .before .next-word .ensures) (c .before .before .before .before .before .before .before .before .before .before .if1 .left) _ (c .before .before .before .before .before .before .before .row-of .ensures)
+returns-6 : tie.Need-returns-6
+returns-6 c =
+    c .numbers .ensures ∙ follow-numbers _ _ _ (c .before .before .before .before .before .before .before .if2 .left) (c .before .before .before .before .before .if3 .left) (c .before .before .before .if4 .left) (c .before .if5 .left)
+    ∙ line-some _ _ (c .before .before .before .before .before .before .before .before .before .before .before .before .before .next-word .ensures) (c .before .before .before .before .before .before .before .before .before .before .before .before .if1 .left) _ (c .before .before .before .before .before .before .before .before .before .row-of .ensures)
 
 pub parse-spec : {M : Type 1} → statement M
 parse-spec =
@@ -73,7 +81,9 @@ parse-spec =
     returns-2
     named-requires
     returns-3
-    way-requires
+    sizes-requires
     returns-4
+    way-requires
+    returns-5
     numbers-requires
-    returns-5)
+    returns-6)

@@ -2,6 +2,7 @@
 use Prim.Native.Nat.{_-_}
 use native.Mathlib.Omega.{arith}
 use borrow.Author.Needs.{needs}
+use Rattle.lines.specs.Kinds.{most}
 use Rattle.replay.proofs.wording.call_text.Statement.{statement}
 use Rattle.replay.proofs.wording.call_text.Tie as tie
 
@@ -9,7 +10,7 @@ abbrev Inv-loop : tie.InvT-loop
 Inv-loop s₀ at call numbers end₀ k₀ s end k = Unit {0}
 
 abbrev μ-loop : tie.MeasureT-loop
-μ-loop s₀ at call numbers end₀ k₀ s end k = 3 - k
+μ-loop s₀ at call numbers end₀ k₀ s end k = most - k
 
 pub call-text-spec : {M : Type 1} → statement M
 call-text-spec =

@@ -1,24 +1,26 @@
--- `table::named::room` takes the smaller of two numbers. Assumes nothing.
+-- `table::named::room` takes the least of three numbers. Assumes nothing.
+use mathlib.Core.Path.{ap, _∙_}
+use Prim.Native.Nat.{ℕ}
 use borrow.Author.Needs.{needs}
-use borrow.Author.Tests.{lt-ltb, le-ltb}
-use mathlib.Core.Path.{refl}
-use Rattle.table.specs.Room.{roomOf}
+use Rattle.table.specs.Room.{least, roomOf}
 use Rattle.table.proofs.named.room.Statement.{statement}
 use Rattle.table.proofs.named.room.Tie as tie
 
-cast-k : tie.Need-cast-k
-cast-k c = search needs
+cast-least : tie.Need-cast-least
+cast-least c = search needs
 
-div-k : tie.Need-div-k
-div-k c = search needs
+div-least : tie.Need-div-least
+div-least c = search needs
+
+least-requires : tie.Need-least-requires
+least-requires c κs = search needs
+
+least-requires-2 : tie.Need-least-requires-2
+least-requires-2 c κs = search needs
 
 returns : tie.Need-returns
 unfolding roomOf
-returns c = rw (lt-ltb _ _ (c .if1 .taken)) refl
-
-returns-2 : tie.Need-returns-2
-unfolding roomOf
-returns-2 c = rw (le-ltb _ _ (c .if1 .left)) refl
+returns c = c .least2 .ensures ∙ ap (λ (k : ℕ). least k (c .before .before .before .before .args .others)) (c .before .least .ensures)
 
 pub room-spec : {M : Type 1} → statement M
-room-spec = tie.close (tie.spec cast-k div-k returns returns-2)
+room-spec = tie.close (tie.spec cast-least div-least least-requires least-requires-2 returns)

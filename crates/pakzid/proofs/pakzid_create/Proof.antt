@@ -1,0 +1,43 @@
+-- `pakzid_create` makes a tuning of the three numbers. Assumes nothing.
+use borrow.Author.Needs.{needs}
+use Rattle.pakzid.proofs.pakzid_create.Statement.{statement}
+use Rattle.pakzid.proofs.pakzid_create.Tie as tie
+
+tuning-requires : tie.Need-tuning-requires
+tuning-requires c κs = search needs
+
+create-requires : tie.Need-create-requires
+create-requires c κs = search needs
+
+same-length : tie.Need-same-length
+same-length c = search needs
+
+same-length-2 : tie.Need-same-length-2
+same-length-2 c = search needs
+
+same-length-3 : tie.Need-same-length-3
+same-length-3 c = search needs
+
+same-length-4 : tie.Need-same-length-4
+same-length-4 c = search needs
+
+same-length-5 : tie.Need-same-length-5
+same-length-5 c = search needs
+
+returns : tie.Need-returns
+returns c =
+    let d = c .before .before .before .before .before .before .before .before .before .before in
+    rw (d .before .before .before .before .before .before .tuning .ensures) at (d .create .ensures)
+
+pub pakzid-create-spec : {M : Type 1} → statement M
+pakzid-create-spec =
+    tie.close
+    (tie.spec
+    tuning-requires
+    create-requires
+    same-length
+    same-length-2
+    same-length-3
+    same-length-4
+    same-length-5
+    returns)
