@@ -37,7 +37,7 @@ use Rattle.rules.proofs.StoreLaws.{recOf-set-same, recOf-set-alike, store-stayi
 use Rattle.records.proofs.RecordLaws.{Legal, width-put-flag, cluster-put-flag}
 use Rattle.table.specs.Named.{namedTests}
 use Rattle.table.specs.Clusters.{clusterOf, membersOf, dissolvedRecord, dissolved}
-use Rattle.writes.specs.Writes.{wordTests, othersOf, frontTests, Slot, withSet, setsBy, Attempted, refuses, keeps, overflows, asks, breaks}
+use Rattle.writes.specs.Writes.{wordTests, othersOf, frontTests, Slot, withSet, setsBy, Attempted, refuses, passes, stores, Settled, keeps, overflows, asks, breaks}
 use Rattle.table.proofs.NamedLaws.{Named, named, named-rest}
 
 -- ---- the tests of the word
@@ -95,6 +95,64 @@ module _ (n w : ℕ) (recs : List ℕ) (h : n ≤ objectMax) where
 
 -- ---- all tests but the last
 
+module _ (c : Control) (i k w : ℕ) (recs slots : List ℕ) (o : ℕ) where
+  abbrev rest : List Test
+  rest = (5, leb (width (recOf (c .n) recs i)) k) ∷ wordTests (c .n) w recs
+
+  pub front-object : (m : ℕ) → m ≡ first (namedTests c i recs slots o) → m ≢ 0 → m ≡ first (frontTests c i k w recs slots o)
+  unfolding frontTests
+  front-object m e d = e ∙ sym (first-front (namedTests c i recs slots o) rest (λ z. d (e ∙ z)))
+
+  module _ (m : ℕ) (e : m ≡ first (namedTests c i recs slots o)) (z : m ≡ 0) where
+    pub object-named : Named c i recs slots
+    object-named = named c i recs slots o (sym e ∙ z)
+
+    module _ (u : ℕ) (f : u ≡ width (getD recs (i - 1) 0)) where
+      follows : first (frontTests c i k w recs slots o) ≡ first rest
+      unfolding frontTests
+      follows = named-rest c i recs slots o rest (sym e ∙ z)
+
+      width-is : width (recOf (c .n) recs i) ≡ u
+      width-is = ap width (object-named .rec-at) ∙ sym f
+
+      pub front-slot : u ≤ k → 5 ≡ first (frontTests c i k w recs slots o)
+      front-slot l = sym (follows ∙ first-holds 5 (wordTests (c .n) w recs) _ (rw width-is (le-leb u k l)))
+
+      pub front-word : k < u → (v : ℕ) → v ≡ first (wordTests (c .n) w recs) → v ≡ first (frontTests c i k w recs slots o)
+      front-word l v q = q ∙ sym (follows ∙ first-fails 5 (wordTests (c .n) w recs) _ (rw width-is (lt-leb u k l)))
+
+  module _ (m : ℕ) (e : m ≡ first (frontTests c i k w recs slots o)) (z : m ≡ 0) where
+    abbrev front : List Test
+    front = namedTests c i recs slots o
+
+    object-passed : first (front ++ rest) ≡ 0
+    unfolding frontTests
+    object-passed = sym e ∙ z
+
+    shown : first front ≡ 0
+    shown = go (ℕ-discrete (first front) 0)
+      where
+        go : Dec (first front ≡ 0) → first front ≡ 0
+        go (yes e) = e
+        go (no d) = absurd (d (sym (first-front front rest d) ∙ object-passed))
+
+    pub passed-named : Named c i recs slots
+    passed-named = named c i recs slots o shown
+
+    pub slot-there : Slot (c .n) i k recs slots
+    slot-there =
+        let N = passed-named in
+        record {
+          room = record { most = N .sound .sizes .most; recs-long = N .recs-long; slots-long = N .slots-long };
+          low = N .low;
+          high = N .high;
+          used = leb-false _ _ (first-passed 4 _ _ (sym (named-rest c i recs slots o rest shown) ∙ object-passed) .0);
+          narrow = N .legal .narrow;
+        }
+
+    pub losses : (c .n ≤ objectMax) × (c .«write_loss» ≤ c .n)
+    losses = let N = passed-named in (N .sound .sizes .most, N .sound .writes)
+
 -- where there is an object, no room for any other than n is too little room in one of the two slices
 others-short : (n : ℕ) (list sets : List ℕ) → 1 ≤ n → ltb (othersOf list sets) n ≡ short sinkMax list || short n sets
 unfolding othersOf short
@@ -104,76 +162,29 @@ others-short n list sets h = go (ltb (length list) sinkMax)
     go true = lt-ltb 0 n h
     go false = refl
 
+-- the same tests with each slice by itself, as the rules have them
 module _ (c : Control) (i k w : ℕ) (recs slots list sets : List ℕ) where
-  abbrev rest : List Test
-  rest = (5, leb (width (recOf (c .n) recs i)) k) ∷ wordTests (c .n) w recs
+  abbrev object-tests : List Test
+  object-tests =
+      (4, not (isPointer (c .n) i)) ∷ (21, damaged (c .n) (recOf (c .n) recs i)) ∷ (22, free (recOf (c .n) recs i))
+      ∷ (5, leb (width (recOf (c .n) recs i)) k) ∷ wordTests (c .n) w recs
 
-  -- the object's tests come first, with the two slices that only a write is lent
-  module _ (o : ℕ) (g : o ≡ othersOf list sets) where
-    front-named : first (frontTests c i k w recs slots list sets) ≡ first (namedTests c i recs slots o ++ rest)
-    unfolding frontTests namedTests
-    front-named = go (badControl c) refl
-      where
-        x : Bool
-        x = short (c .n) recs || short (slotsLen (c .n)) slots
+  abbrev spelled : List Test
+  spelled = (20, badControl c) ∷ (2, short (c .n) recs || short (slotsLen (c .n)) slots || short sinkMax list || short (c .n) sets) ∷ object-tests
 
-        go : (b : Bool) → badControl c ≡ b → first (frontTests c i k w recs slots list sets) ≡ first (namedTests c i recs slots o ++ rest)
-        go true e = first-holds 20 _ _ e ∙ sym (first-holds 20 _ _ e)
-        go false e =
-            ap (λ (b : Bool). first ((20, badControl c) ∷ (2, b) ∷ (4, not (isPointer (c .n) i)) ∷ (21, damaged (c .n) (recOf (c .n) recs i)) ∷ (22, free (recOf (c .n) recs i)) ∷ rest))
-            (or-assoc x (short sinkMax list) (short (c .n) sets)
-            ∙ ap (λ (b : Bool). x || b) (sym (ap (λ (y : ℕ). ltb y (c .n)) g ∙ others-short (c .n) list sets (control-facts c e .sizes .some))))
+  front-spelled : first spelled ≡ first (frontTests c i k w recs slots (othersOf list sets))
+  unfolding frontTests namedTests
+  front-spelled = go (badControl c) refl
+    where
+      x : Bool
+      x = short (c .n) recs || short (slotsLen (c .n)) slots
 
-    pub front-object : (m : ℕ) → m ≡ first (namedTests c i recs slots o) → m ≢ 0 → m ≡ first (frontTests c i k w recs slots list sets)
-    front-object m e d = e ∙ sym (front-named ∙ first-front (namedTests c i recs slots o) rest (λ z. d (e ∙ z)))
-
-    module _ (m : ℕ) (e : m ≡ first (namedTests c i recs slots o)) (z : m ≡ 0) where
-      pub object-named : Named c i recs slots
-      object-named = named c i recs slots o (sym e ∙ z)
-
-      module _ (u : ℕ) (f : u ≡ width (getD recs (i - 1) 0)) where
-        follows : first (frontTests c i k w recs slots list sets) ≡ first rest
-        follows = front-named ∙ named-rest c i recs slots o rest (sym e ∙ z)
-
-        width-is : width (recOf (c .n) recs i) ≡ u
-        width-is = ap width (object-named .rec-at) ∙ sym f
-
-        pub front-slot : u ≤ k → 5 ≡ first (frontTests c i k w recs slots list sets)
-        front-slot l = sym (follows ∙ first-holds 5 (wordTests (c .n) w recs) _ (rw width-is (le-leb u k l)))
-
-        pub front-word : k < u → (v : ℕ) → v ≡ first (wordTests (c .n) w recs) → v ≡ first (frontTests c i k w recs slots list sets)
-        front-word l v q = q ∙ sym (follows ∙ first-fails 5 (wordTests (c .n) w recs) _ (rw width-is (lt-leb u k l)))
-
-  module _ (m : ℕ) (e : m ≡ first (frontTests c i k w recs slots list sets)) (z : m ≡ 0) where
-    abbrev front : List Test
-    front = namedTests c i recs slots (othersOf list sets)
-
-    object-passed : first (front ++ rest) ≡ 0
-    object-passed = sym (front-named (othersOf list sets) refl) ∙ sym e ∙ z
-
-    shown : first front ≡ 0
-    shown = go (ℕ-discrete (first front) 0)
-      where
-        go : Dec (first front ≡ 0) → first front ≡ 0
-        go (yes e) = e
-        go (no d) = absurd (d (sym (first-front front rest d) ∙ object-passed))
-
-    passed-named : Named c i recs slots
-    passed-named = named c i recs slots (othersOf list sets) shown
-
-    pub slot-there : Slot (c .n) i k recs slots
-    slot-there =
-        let N = passed-named in
-        record {
-          room = record { most = N .sound .sizes .most; recs-long = N .recs-long; slots-long = N .slots-long };
-          low = N .low;
-          high = N .high;
-          used = leb-false _ _ (first-passed 4 _ _ (sym (named-rest c i recs slots (othersOf list sets) rest shown) ∙ object-passed) .0);
-          narrow = N .legal .narrow;
-        }
-
-    pub losses : (c .n ≤ objectMax) × (c .«write_loss» ≤ c .n)
-    losses = let N = passed-named in (N .sound .sizes .most, N .sound .writes)
+      go : (b : Bool) → badControl c ≡ b → first spelled ≡ first (frontTests c i k w recs slots (othersOf list sets))
+      go true e = first-holds 20 _ _ e ∙ sym (first-holds 20 _ _ e)
+      go false e =
+          ap (λ (b : Bool). first ((20, badControl c) ∷ (2, b) ∷ object-tests))
+          (or-assoc x (short sinkMax list) (short (c .n) sets)
+          ∙ ap (λ (b : Bool). x || b) (sym (others-short (c .n) list sets (control-facts c e .sizes .some))))
 
 -- the loss fits a word
 pub loss-low : (n m : ℕ) (recs : List ℕ) (d l : ℕ) → n ≤ objectMax → l ≤ n → m ≡ membersOf n recs d → l + m < 2 ^ 32
@@ -397,26 +408,30 @@ module _ (c : Control) (i k w : ℕ) (recs slots list sets : List ℕ) where
   abbrev last-test : List Test
   last-test = (25, ltb (c .n) (Write.lossAfter c i k w recs slots list sets)) ∷ []
 
-  tests-parts : Write.writeTests c i k w recs slots list sets ≡ frontTests c i k w recs slots list sets ++ last-test
-  unfolding Write.writeTests frontTests wordTests
+  abbrev tests : List Test
+  tests = spelled c i k w recs slots list sets
+
+  tests-parts : Write.writeTests c i k w recs slots list sets ≡ tests ++ last-test
+  unfolding Write.writeTests wordTests
   tests-parts = refl
 
-  numbered : Numbered (frontTests c i k w recs slots list sets)
-  unfolding frontTests wordTests
+  numbered : Numbered tests
+  unfolding wordTests
   numbered = cons (lit< tt) (cons (lit< tt) (cons (lit< tt) (cons (lit< tt) (cons (lit< tt) (cons (lit< tt) (cons (lit< tt) (cons (lit< tt) nil)))))))
 
-  pub refused : (m : ℕ) → m ≡ first (frontTests c i k w recs slots list sets) → m ≢ 0
+  pub refused : (m : ℕ) → m ≡ first (frontTests c i k w recs slots (othersOf list sets)) → m ≢ 0
       → Write.gives (record { refusal = m; control = c }) recs slots sets ≡ Write.write c i k w recs slots list sets
   unfolding Write.write
   refused m e d =
+      let f : m ≡ first tests = e ∙ sym (front-spelled c i k w recs slots list sets) in
       sym (outcome-number _ _ (Write.writeTests c i k w recs slots list sets) m
-      (ap first tests-parts ∙ first-front (frontTests c i k w recs slots list sets) last-test (λ z. d (e ∙ z)) ∙ sym e) d)
+      (ap first tests-parts ∙ first-front tests last-test (λ z. d (f ∙ z)) ∙ sym f) d)
 
-  module _ (m : ℕ) (e : m ≡ first (frontTests c i k w recs slots list sets)) (z : m ≡ 0) where
+  module _ (m : ℕ) (e : m ≡ first (frontTests c i k w recs slots (othersOf list sets))) (z : m ≡ 0) where
     only-last : first (Write.writeTests c i k w recs slots list sets) ≡ first last-test
     only-last =
         ap first tests-parts
-        ∙ first-skip (frontTests c i k w recs slots list sets) last-test (first-zero (frontTests c i k w recs slots list sets) numbered (sym e ∙ z))
+        ∙ first-skip tests last-test (first-zero tests numbered (front-spelled c i k w recs slots list sets ∙ sym e ∙ z))
 
     module _ (b : Bool) (f : dissolves (view (c .n) recs slots) i k (target (c .n) w) ≡ b) where
       listed-rule : dissolves (heapIn (c .n) recs slots list) i k (target (c .n) w) ≡ b
@@ -454,7 +469,7 @@ module _ (c : Control) (i k w : ℕ) (recs slots list sets : List ℕ) where
     stayed b f t rs ss ts x y u =
         let g = sym f ∙ not-true b t in
         let l : Write.lossAfter c i k w recs slots list sets ≡ c .«write_loss» + 0 = loss-by false g in
-        let h = losses c i k w recs slots list sets m e z .1 in
+        let h = losses c i k w recs slots (othersOf list sets) m e z .1 in
         let same : c .«write_loss» ≡ Write.lossAfter c i k w recs slots list sets = omega arith in
         done false g (omega arith) c (ap (λ (q : ℕ). withWriteLoss q c) same) rs ss ts x y u
 
@@ -479,101 +494,190 @@ module _ (c : Control) (i k w : ℕ) (recs slots list sets : List ℕ) where
           → Write.gives (record { refusal = 0; control = d }) rs ss ts ≡ Write.write c i k w recs slots list sets
       dissolved-all h d q rs ss ts x y u = done true dissolving (rw grown h) d (q ∙ ap (λ (v : ℕ). withWriteLoss v c) (sym grown)) rs ss ts x y u
 
--- ---- the attempts
+-- ---- the attempt
 
--- an object in no cluster: the word is stored, and all else stays
-pub ends-loose : (c : Control) (i k w : ℕ) (recs slots list sets : List ℕ) (m : ℕ) → m ≡ first (frontTests c i k w recs slots list sets) → m ≡ 0 → (may : Bool) (d : ℕ)
-    → d ≡ cluster (getD recs (i - 1) 0) → d ≡ 0 → (rs ss : List ℕ) → rs ≡ set recs (i - 1) (withWritten true (recOf (c .n) recs i))
-    → ss ≡ set slots (8 * (i - 1) + k) w → Attempted c i k w recs slots list sets may 0 rs ss sets
-unfolding setsBy
-ends-loose c i k w recs slots list sets m e z may d f q rs ss p y =
-    let s = slot-there c i k w recs slots list sets m e z in
-    let N = passed-named c i k w recs slots list sets m e z in
-    let r = sym (N .rec-at) in
-    keeps (sym z ∙ e) (dissolves-none (c .n) i k recs slots s w _ d r f q) refl
-    (p ∙ stays-loose (c .n) i k w recs slots s (N .legal) (ap cluster (sym r) ∙ sym f ∙ q)) y
-    (set-none (c .n) i recs (storeBy false (heapIn (c .n) recs slots list) i k (target (c .n) w)) sets _ d r f q)
+-- the store to an object in the cluster that is asked for, after the tests
+pub stored-in : (c : Control) (i k w : ℕ) (recs slots : List ℕ) (x : ℕ) → 0 ≡ first (frontTests c i k w recs slots x) → (o : ℕ) → o ≡ x
+    → (r d : ℕ) → r ≡ recOf (c .n) recs i → d ≡ cluster r → (a : ℕ) (rs ss : List ℕ) → Attempted c i k w recs slots o d a rs ss
+    → (rs ≡ set recs (i - 1) (withWritten true (recOf (c .n) recs i))) × (ss ≡ set slots (8 * (i - 1) + k) w)
+stored-in c i k w recs slots x e o g r d q h a rs ss (refuses f z _ _) = absurd (z (f ∙ ap (λ (y : ℕ). first (frontTests c i k w recs slots y)) g ∙ sym e))
+stored-in c i k w recs slots x e o g r d q h a rs ss (passes _ z _ _ _) = absurd (z (sym (h ∙ ap cluster q)))
+stored-in c i k w recs slots x e o g r d q h a rs ss (stores _ _ _ y z) = (y, z)
 
--- the ends of an attempt whose tests passed
-module _ (c : Control) (i k w : ℕ) (recs slots list sets : List ℕ) (m : ℕ) (e : m ≡ first (frontTests c i k w recs slots list sets)) (z : m ≡ 0)
-    (b : Bool) (f : b ≡ dissolves (view (c .n) recs slots) i k (target (c .n) w)) (may : Bool) where
-  pub ends-kept : not b ≡ true → (rs ss ts : List ℕ) → rs ≡ encoded (storeBy false (view (c .n) recs slots) i k (target (c .n) w)) recs
-      → ss ≡ set slots (8 * (i - 1) + k) w → ts ≡ setsBy false (c .n) i k w recs slots list sets → Attempted c i k w recs slots list sets may 0 rs ss ts
-  ends-kept t rs ss ts = keeps (sym z ∙ e) (sym (not-true b t) ∙ f) refl
+-- the attempt's ends, by the cluster of the record that is read
+module _ (c : Control) (i k w : ℕ) (recs slots : List ℕ) (o m : ℕ) (e : m ≡ first (frontTests c i k w recs slots o)) (z : m ≡ 0) (h d : ℕ) (f : d ≡ cluster (getD recs (i - 1) 0)) where
+  own-cluster : clusterOf (c .n) recs i ≡ d
+  own-cluster = ap cluster (passed-named c i k w recs slots o m e z .rec-at) ∙ sym f
 
-  module _ (t : not b ≡ false) where
-    pub ends-broken : may ≡ true → (rs ss ts : List ℕ) → rs ≡ encoded (storeBy true (view (c .n) recs slots) i k (target (c .n) w)) recs
-        → ss ≡ set slots (8 * (i - 1) + k) w → ts ≡ setsBy true (c .n) i k w recs slots list sets → Attempted c i k w recs slots list sets may 0 rs ss ts
-    ends-broken o rs ss ts = breaks (sym z ∙ e) (sym (not-false b t) ∙ f) o refl
+  pub ends-elsewhere : d ≢ h → Attempted c i k w recs slots o h 63 recs slots
+  ends-elsewhere q = passes (sym z ∙ e) (λ y. q (sym own-cluster ∙ y)) refl refl refl
 
-    module _ (o : may ≡ false) (l : ℕ) (g : l ≡ c .«write_loss» + membersOf (c .n) recs (clusterOf (c .n) recs i)) where
-      pub ends-full : c .n < l → Attempted c i k w recs slots list sets may 25 recs slots sets
-      ends-full h = overflows (sym z ∙ e) (sym (not-false b t) ∙ f) o l g h refl refl refl refl
+  pub ends-stored : d ≡ h → (rs ss : List ℕ) → rs ≡ set recs (i - 1) (withWritten true (recOf (c .n) recs i)) → ss ≡ set slots (8 * (i - 1) + k) w
+      → Attempted c i k w recs slots o h 0 rs ss
+  ends-stored q rs ss = stores (sym z ∙ e) (own-cluster ∙ q) refl
 
-      pub ends-asked : l ≤ c .n → Attempted c i k w recs slots list sets may (64 + l) recs slots sets
-      ends-asked h = asks (sym z ∙ e) (sym (not-false b t) ∙ f) o l g h refl refl refl refl
-
--- a refusal is below 64
-low : (m : ℕ) (b : Bool) (l : List Test) → m < 64 → first l < 64 → first ((m, b) ∷ l) < 64
+-- a refusal is below 63
+low : (m : ℕ) (b : Bool) (l : List Test) → m < 63 → first l < 63 → first ((m, b) ∷ l) < 63
 unfolding first
 low m true l h r = h
 low m false l h r = r
 
-none-low : first [] < 64
+none-low : first [] < 63
 unfolding first
 none-low = lit< tt
 
-pub front-low : (c : Control) (i k w : ℕ) (recs slots list sets : List ℕ) → first (frontTests c i k w recs slots list sets) < 64
-unfolding frontTests wordTests
-front-low c i k w recs slots list sets =
+front-low : (c : Control) (i k w : ℕ) (recs slots : List ℕ) (o : ℕ) → first (frontTests c i k w recs slots o) < 63
+unfolding frontTests namedTests wordTests
+front-low c i k w recs slots o =
     low 20 _ _ (lit< tt) (low 2 _ _ (lit< tt) (low 4 _ _ (lit< tt) (low 21 _ _ (lit< tt) (low 22 _ _ (lit< tt) (low 5 _ _ (lit< tt) (low 6 _ _ (lit< tt) (low 23 _ [] (lit< tt) none-low)))))))
 
+-- one that stored nothing because the object is elsewhere
+pub record Left (c : Control) (i k w : ℕ) (recs slots : List ℕ) (o : ℕ) (rs ss : List ℕ) : Type 0 where
+  pub records-left : rs ≡ recs
+  pub slots-left : ss ≡ slots
+  pub passed : 0 ≡ first (frontTests c i k w recs slots o)
+
+pub left : (c : Control) (i k w : ℕ) (recs slots : List ℕ) (o h a : ℕ) (rs ss : List ℕ) → Attempted c i k w recs slots o h a rs ss → a ≡ 63 → Left c i k w recs slots o rs ss
+left c i k w recs slots o h a rs ss (refuses e _ _ _) q = let x = front-low c i k w recs slots o in absurd (omega arith)
+left c i k w recs slots o h a rs ss (passes e _ _ x y) q = record { records-left = x; slots-left = y; passed = e }
+left c i k w recs slots o h a rs ss (stores _ _ z _ _) q = absurd (omega arith)
+
+-- ---- the store to a member
+
+-- its ends
+module _ (c : Control) (i k w : ℕ) (recs slots list sets : List ℕ) (b : Bool) (f : b ≡ dissolves (view (c .n) recs slots) i k (target (c .n) w)) (may : Bool) where
+  pub ends-kept : not b ≡ true → (rs ss ts : List ℕ) → rs ≡ encoded (storeBy false (view (c .n) recs slots) i k (target (c .n) w)) recs
+      → ss ≡ set slots (8 * (i - 1) + k) w → ts ≡ setsBy false (c .n) i k w recs slots list sets → Settled c i k w recs slots list sets may 0 rs ss ts
+  ends-kept t rs ss ts = keeps (sym (not-true b t) ∙ f) refl
+
+  module _ (t : not b ≡ false) where
+    pub ends-broken : may ≡ true → (rs ss ts : List ℕ) → rs ≡ encoded (storeBy true (view (c .n) recs slots) i k (target (c .n) w)) recs
+        → ss ≡ set slots (8 * (i - 1) + k) w → ts ≡ setsBy true (c .n) i k w recs slots list sets → Settled c i k w recs slots list sets may 0 rs ss ts
+    ends-broken o rs ss ts = breaks (sym (not-false b t) ∙ f) o refl
+
+    module _ (o : may ≡ false) (l : ℕ) (g : l ≡ c .«write_loss» + membersOf (c .n) recs (clusterOf (c .n) recs i)) where
+      pub ends-full : c .n < l → Settled c i k w recs slots list sets may 25 recs slots sets
+      ends-full h = overflows (sym (not-false b t) ∙ f) o l g h refl refl refl refl
+
+      pub ends-asked : l ≤ c .n → Settled c i k w recs slots list sets may (64 + l) recs slots sets
+      ends-asked h = asks (sym (not-false b t) ∙ f) o l g h refl refl refl refl
+
+-- what is known once it asked
+record Asked (c : Control) (i k w : ℕ) (recs slots list sets : List ℕ) (a : ℕ) (rs ss ts : List ℕ) : Type 0 where
+  dissolving : true ≡ dissolves (view (c .n) recs slots) i k (target (c .n) w)
+  loss : a - 64 ≡ c .«write_loss» + membersOf (c .n) recs (clusterOf (c .n) recs i)
+  fits : a - 64 ≤ c .n
+  records-left : rs ≡ recs
+  slots-left : ss ≡ slots
+  sets-left : ts ≡ sets
+
+-- the tests pass with a loss that is not above n, too
+with-loss : (c : Control) (i k w : ℕ) (recs slots : List ℕ) (o l : ℕ) → 0 ≡ first (frontTests c i k w recs slots o) → l ≤ c .n
+    → first (frontTests (withWriteLoss l c) i k w recs slots o) ≡ 0
+unfolding frontTests namedTests withWriteLoss
+with-loss c i k w recs slots o l e h =
+    let s = passed-named c i k w recs slots o 0 e refl .sound in
+    first-fails 20 _ _ (facts-control _ (writes-sound c s l h)) ∙ first-passed 19 _ _ (sym e) .1
+
+-- ---- the answer
+
 module _ (c : Control) (i k w : ℕ) (recs slots list sets : List ℕ) where
-  -- an attempt that did not ask gave the outcome, with the control record as it was
-  pub answered : (a : ℕ) (rs ss ts : List ℕ) → Attempted c i k w recs slots list sets false a rs ss ts → a < 64
-      → Write.gives (record { refusal = a; control = c }) rs ss ts ≡ Write.write c i k w recs slots list sets
-  answered a rs ss ts (refuses e d p q r) h =
-      (λ j. Write.gives (record { refusal = a; control = c }) (p j) (q j) (r j)) ∙ refused c i k w recs slots list sets a e d
-  answered a rs ss ts (keeps e f z p q r) h =
-      ap (λ (x : ℕ). Write.gives (record { refusal = x; control = c }) rs ss ts) z ∙ stayed c i k w recs slots list sets 0 e refl false f refl rs ss ts p q r
-  answered a rs ss ts (overflows e f m l g o z p q r) h =
-      (λ j. Write.gives (record { refusal = z j; control = c }) (p j) (q j) (r j)) ∙ too-many c i k w recs slots list sets 0 e refl true f refl l g o
-  answered a rs ss ts (asks e f m l g o z p q r) h = absurd (omega arith)
-  answered a rs ss ts (breaks e f m z p q r) h = absurd (true≢false (sym m))
+  abbrev others : ℕ
+  others = othersOf list sets
 
-  -- the tests pass with a loss that is not above n, too
-  with-loss : (l : ℕ) → 0 ≡ first (frontTests c i k w recs slots list sets) → l ≤ c .n → first (frontTests (withWriteLoss l c) i k w recs slots list sets) ≡ 0
-  unfolding frontTests withWriteLoss
-  with-loss l e h =
-      let s = passed-named c i k w recs slots list sets 0 e refl .sound in
-      first-fails 20 _ _ (facts-control _ (writes-sound c s l h)) ∙ first-passed 19 _ _ (sym e) .1
+  abbrev outcome : Control → ℕ → List ℕ → List ℕ → List ℕ → Type 0
+  outcome d a rs ss ts = Write.gives (record { refusal = a; control = d }) rs ss ts ≡ Write.write c i k w recs slots list sets
 
-  -- the second attempt, after one that asked
-  granted : (l b : ℕ) (rs ss ts : List ℕ) → 0 ≡ first (frontTests c i k w recs slots list sets) → true ≡ dissolves (view (c .n) recs slots) i k (target (c .n) w)
-      → l ≡ c .«write_loss» + membersOf (c .n) recs (clusterOf (c .n) recs i) → l ≤ c .n → Attempted (withWriteLoss l c) i k w recs slots list sets true b rs ss ts
-      → Write.gives (record { refusal = b; control = withWriteLoss l c }) rs ss ts ≡ Write.write c i k w recs slots list sets
-  unfolding withWriteLoss
-  granted l b rs ss ts e f g h (refuses e′ d _ _ _) = absurd (d (e′ ∙ with-loss l e h))
-  granted l b rs ss ts e f g h (keeps e′ f′ z _ _ _) = absurd (true≢false (f ∙ sym f′))
-  granted l b rs ss ts e f g h (overflows e′ f′ m _ _ _ _ _ _ _) = absurd (true≢false m)
-  granted l b rs ss ts e f g h (asks e′ f′ m _ _ _ _ _ _ _) = absurd (true≢false m)
-  granted l b rs ss ts e f g h (breaks e′ f′ m z p q r) =
-      ap (λ (x : ℕ). Write.gives (record { refusal = x; control = withWriteLoss l c }) rs ss ts) z
-      ∙ dissolved-all c i k w recs slots list sets 0 e refl true f refl l g h (withWriteLoss l c) refl rs ss ts p q r
+  -- an object in no cluster: the word is stored, and all else stays
+  loose-stored : 0 ≡ first (frontTests c i k w recs slots others) → clusterOf (c .n) recs i ≡ 0 → (rs ss : List ℕ)
+      → rs ≡ set recs (i - 1) (withWritten true (recOf (c .n) recs i)) → ss ≡ set slots (8 * (i - 1) + k) w → outcome c 0 rs ss sets
+  unfolding setsBy
+  loose-stored e q rs ss p y =
+      let s = slot-there c i k w recs slots others 0 e refl in
+      let N = passed-named c i k w recs slots others 0 e refl in
+      stayed c i k w recs slots list sets 0 e refl false (dissolves-none (c .n) i k recs slots s w _ _ refl refl q) refl rs ss sets
+      (p ∙ stays-loose (c .n) i k w recs slots s (N .legal) q) y
+      (set-none (c .n) i recs (storeBy false (heapIn (c .n) recs slots list) i k (target (c .n) w)) sets _ _ refl refl q)
 
-  pub attempted-again : (a : ℕ) (rs₁ ss₁ ts₁ : List ℕ) → Attempted c i k w recs slots list sets false a rs₁ ss₁ ts₁ → 64 ≤ a → (d : Control) → d ≡ withWriteLoss (a - 64) c
-      → (b : ℕ) (rs ss ts : List ℕ) → Attempted d i k w rs₁ ss₁ list ts₁ true b rs ss ts
-      → Write.gives (record { refusal = b; control = d }) rs ss ts ≡ Write.write c i k w recs slots list sets
-  attempted-again a rs₁ ss₁ ts₁ (refuses e _ _ _ _) h d q b rs ss ts t = let x = front-low c i k w recs slots list sets in absurd (omega arith)
-  attempted-again a rs₁ ss₁ ts₁ (keeps _ _ z _ _ _) h d q b rs ss ts t = absurd (omega arith)
-  attempted-again a rs₁ ss₁ ts₁ (overflows _ _ _ _ _ _ z _ _ _) h d q b rs ss ts t = absurd (omega arith)
-  attempted-again a rs₁ ss₁ ts₁ (breaks _ _ _ z _ _ _) h d q b rs ss ts t = absurd (omega arith)
-  attempted-again a rs₁ ss₁ ts₁ (asks e f m l g o z x y u) h d q b rs ss ts t =
-      let v : a - 64 ≡ l = omega arith in
-      let p : d ≡ withWriteLoss l c = q ∙ ap (λ (n : ℕ). withWriteLoss n c) v in
-      let t₁ : Attempted d i k w recs ss₁ list ts₁ true b rs ss ts = subst (λ (n : List ℕ). Attempted d i k w n ss₁ list ts₁ true b rs ss ts) x t in
-      let t₂ : Attempted d i k w recs slots list ts₁ true b rs ss ts = subst (λ (n : List ℕ). Attempted d i k w recs n list ts₁ true b rs ss ts) y t₁ in
-      let t₃ : Attempted d i k w recs slots list sets true b rs ss ts = subst (λ (n : List ℕ). Attempted d i k w recs slots list n true b rs ss ts) u t₂ in
-      let t₄ : Attempted (withWriteLoss l c) i k w recs slots list sets true b rs ss ts
-      = subst (λ (n : Control). Attempted n i k w recs slots list sets true b rs ss ts) p t₃ in
-      ap (λ (n : Control). Write.gives (record { refusal = b; control = n }) rs ss ts) p ∙ granted l b rs ss ts e f g o t₄
+  module _ (o : ℕ) (g : o ≡ others) (a₁ : ℕ) (rs₁ ss₁ : List ℕ) (t : Attempted c i k w recs slots o 0 a₁ rs₁ ss₁) where
+    -- an attempt that refused or stored
+    pub answered : a₁ ≢ 63 → outcome c a₁ rs₁ ss₁ sets
+    answered d = go (subst (λ (x : ℕ). Attempted c i k w recs slots x 0 a₁ rs₁ ss₁) g t)
+      where
+        go : Attempted c i k w recs slots others 0 a₁ rs₁ ss₁ → outcome c a₁ rs₁ ss₁ sets
+        go (refuses e z p q) = (λ j. Write.gives (record { refusal = a₁; control = c }) (p j) (q j) sets) ∙ refused c i k w recs slots list sets a₁ e z
+        go (passes _ _ z _ _) = absurd (d z)
+        go (stores e q z x y) = ap (λ (n : ℕ). Write.gives (record { refusal = n; control = c }) rs₁ ss₁ sets) z ∙ loose-stored e q rs₁ ss₁ x y
+
+    -- one that left a member to its own store
+    module _ (z : a₁ ≡ 63) where
+      L : Left c i k w recs slots others rs₁ ss₁
+      L = left c i k w recs slots others 0 a₁ rs₁ ss₁ (subst (λ (x : ℕ). Attempted c i k w recs slots x 0 a₁ rs₁ ss₁) g t) z
+
+      pub passed-on : 0 ≡ first (frontTests c i k w rs₁ ss₁ others)
+      passed-on = L .passed ∙ ap₂ (λ (x y : List ℕ). first (frontTests c i k w x y others)) (sym (L .records-left)) (sym (L .slots-left))
+
+      module _ (a₂ : ℕ) (rs₂ ss₂ ts₂ : List ℕ) (u : Settled c i k w rs₁ ss₁ list sets false a₂ rs₂ ss₂ ts₂) where
+        same : Settled c i k w recs slots list sets false a₂ rs₂ ss₂ ts₂
+        same =
+            subst (λ (x : List ℕ). Settled c i k w x slots list sets false a₂ rs₂ ss₂ ts₂) (L .records-left)
+            (subst (λ (y : List ℕ). Settled c i k w rs₁ y list sets false a₂ rs₂ ss₂ ts₂) (L .slots-left) u)
+
+        -- it did not ask
+        pub settled : a₂ < 64 → outcome c a₂ rs₂ ss₂ ts₂
+        settled h = go same
+          where
+            go : Settled c i k w recs slots list sets false a₂ rs₂ ss₂ ts₂ → outcome c a₂ rs₂ ss₂ ts₂
+            go (keeps f z p q r) =
+                ap (λ (n : ℕ). Write.gives (record { refusal = n; control = c }) rs₂ ss₂ ts₂) z ∙ stayed c i k w recs slots list sets 0 (L .passed) refl false f refl rs₂ ss₂ ts₂ p q r
+            go (overflows f m l v o z p q r) =
+                (λ j. Write.gives (record { refusal = z j; control = c }) (p j) (q j) (r j)) ∙ too-many c i k w recs slots list sets 0 (L .passed) refl true f refl l v o
+            go (asks f m l v o z p q r) = absurd (omega arith)
+            go (breaks f m z p q r) = absurd (true≢false (sym m))
+
+        -- it asked: nothing was stored, and the tests pass with the loss too
+        module _ (h : 64 ≤ a₂) (d : Control) (y : d ≡ withWriteLoss (a₂ - 64) c) where
+          asked : Asked c i k w recs slots list sets a₂ rs₂ ss₂ ts₂
+          asked = go same
+            where
+              go : Settled c i k w recs slots list sets false a₂ rs₂ ss₂ ts₂ → Asked c i k w recs slots list sets a₂ rs₂ ss₂ ts₂
+              go (keeps _ z _ _ _) = absurd (omega arith)
+              go (overflows _ _ _ _ _ z _ _ _) = absurd (omega arith)
+              go (breaks _ _ z _ _ _) = absurd (omega arith)
+              go (asks f m l v o z p q r) = record {
+                dissolving = f;
+                loss = omega arith ∙ v;
+                fits = omega arith;
+                records-left = p;
+                slots-left = q;
+                sets-left = r;
+              }
+
+          pub passed-again : 0 ≡ first (frontTests d i k w rs₂ ss₂ (othersOf list ts₂))
+          passed-again =
+              let A = asked in
+              sym (ap (λ (x : Control). first (frontTests x i k w rs₂ ss₂ (othersOf list ts₂))) y
+              ∙ (λ j. first (frontTests (withWriteLoss (a₂ - 64) c) i k w (A .records-left j) (A .slots-left j) (othersOf list (A .sets-left j))))
+              ∙ with-loss c i k w recs slots others (a₂ - 64) (L .passed) (A .fits))
+
+          -- the second time
+          pub settled-again : (b : ℕ) (rs ss ts : List ℕ) → Settled d i k w rs₂ ss₂ list ts₂ true b rs ss ts → outcome d b rs ss ts
+          unfolding withWriteLoss
+          settled-again b rs ss ts v = go (subst (λ (x : Control). Settled x i k w recs slots list sets true b rs ss ts) y back)
+            where
+              A : Asked c i k w recs slots list sets a₂ rs₂ ss₂ ts₂
+              A = asked
+
+              back : Settled d i k w recs slots list sets true b rs ss ts
+              back =
+                  subst (λ (x : List ℕ). Settled d i k w x slots list sets true b rs ss ts) (A .records-left)
+                  (subst (λ (x : List ℕ). Settled d i k w rs₂ x list sets true b rs ss ts) (A .slots-left)
+                  (subst (λ (x : List ℕ). Settled d i k w rs₂ ss₂ list x true b rs ss ts) (A .sets-left) v))
+
+              go : Settled (withWriteLoss (a₂ - 64) c) i k w recs slots list sets true b rs ss ts → outcome d b rs ss ts
+              go (keeps f _ _ _ _) = absurd (true≢false (A .dissolving ∙ sym f))
+              go (overflows _ m _ _ _ _ _ _ _) = absurd (true≢false m)
+              go (asks _ m _ _ _ _ _ _ _) = absurd (true≢false m)
+              go (breaks f m z p q r) =
+                  ap (λ (x : ℕ). Write.gives (record { refusal = x; control = d }) rs ss ts) z
+                  ∙ dissolved-all c i k w recs slots list sets 0 (L .passed) refl true (A .dissolving) refl (a₂ - 64) (A .loss) (A .fits) d y rs ss ts p q r

@@ -13,7 +13,7 @@ ghost use Rattle.rules.specs.Buffers.{recOf, usedWords};
 ghost use Rattle.rules.specs.View.{target, view, heapIn, encoded};
 ghost use Rattle.rules.specs.Write as Write;
 ghost use Rattle.table.specs.Clusters.{clusterOf, membersOf};
-ghost use Rattle.writes.specs.Writes.{wordTests, othersOf, frontTests, Slot, withSet, setsBy, Attempted};
+ghost use Rattle.writes.specs.Writes.{wordTests, othersOf, frontTests, Slot, withSet, setsBy, Attempted, Settled};
 use layout::answers::Control;
 use layout::answers::Done;
 use layout::limits::SINK_MAX;
@@ -67,7 +67,8 @@ fn others(sinks: &[u32], sets: &[u64]) -> usize
     sets.len()
 }
 
-// The first test of a write that holds, but for the last test; 0 where none does.
+// The first test of a write that holds, but for the last test; 0 where none does. The slices that only the caller knows have room for
+// `others` objects.
 fn write_refusal(
     c: Control,
     object: u32,
@@ -75,12 +76,11 @@ fn write_refusal(
     word: u32,
     records: &[u32],
     slots: &[u32],
-    sinks: &[u32],
-    sets: &[u64],
+    others: usize,
 ) -> u32
-    ensures { λ k. ⌜ k ≡ first (frontTests c object slot word (now (records .entry)) (now (slots .entry)) (now (sinks .entry)) (now (sets .entry))) ⌝ }
+    ensures { λ k. ⌜ k ≡ first (frontTests c object slot word (now (records .entry)) (now (slots .entry)) others) ⌝ }
 {
-    let k = object_refusal(c, object, records, slots, others(sinks, sets));
+    let k = object_refusal(c, object, records, slots, others);
     if k != 0 {
         return k;
     }
@@ -212,9 +212,43 @@ fn store_staying(
     make_set(n, object, records, slots, sinks, sets);
 }
 
-// A store that dissolves the object's cluster: every member becomes loose, and the set is empty.
+// ---- the call
+
+// Above all refusals: what `attempt` answers for an object in another cluster.
+const ELSEWHERE: u32 = 63;
+
+// And what `store_member` answers from here on is a write loss.
+const LOSS: u32 = 64;
+
+// The tests, and then the store, where the object is in this cluster: 0 is for none. An object in no cluster has no out bit, and there
+// is no set to make.
+fn attempt(
+    c: Control,
+    object: u32,
+    slot: u32,
+    word: u32,
+    records: &mut [u32],
+    slots: &mut [u32],
+    others: usize,
+    cluster: u32,
+) -> u32
+    ensures { λ a. ⌜ Attempted c object slot word (now (records .entry)) (now (slots .entry)) others cluster a (now (records .exit)) (now (slots .exit)) ⌝ }
+{
+    let refusal = write_refusal(c, object, slot, word, records, slots, others);
+    if refusal != 0 {
+        return refusal;
+    }
+    if cluster_of(records[(object - 1) as usize]) != cluster {
+        return ELSEWHERE;
+    }
+    store_word(c.n, object, slot, word, records, slots);
+    0
+}
+
+// A store that dissolves the object's cluster: every member becomes loose, and the set is empty. The word is stored by `attempt`,
+// which stays a function because it is called here too (docs/BENCHMARK.md, "Write").
 fn store_dissolving(
-    n: u32,
+    c: Control,
     object: u32,
     slot: u32,
     word: u32,
@@ -223,26 +257,22 @@ fn store_dissolving(
     sinks: &[u32],
     sets: &mut [u64],
 )
-    requires { ⌜ Slot n object slot (now records) (now slots) ⌝ }
+    requires { ⌜ 0 ≡ first (frontTests c object slot word (now records) (now slots) (othersOf (now sinks) (now sets))) ⌝ }
     ensures { λ _. ⌜ (now (records .exit)
-        ≡ encoded (storeBy true (view n (now (records .entry)) (now (slots .entry))) object slot (target n word)) (now (records .entry)))
+        ≡ encoded (storeBy true (view (c .n) (now (records .entry)) (now (slots .entry))) object slot (target (c .n) word)) (now (records .entry)))
         × (now (slots .exit) ≡ set (now (slots .entry)) (widthMax * (object - 1) + slot) word)
-        × (now (sets .exit) ≡ setsBy true n object slot word (now (records .entry)) (now (slots .entry)) (now (sinks .entry)) (now (sets .entry))) ⌝ }
+        × (now (sets .exit) ≡ setsBy true (c .n) object slot word (now (records .entry)) (now (slots .entry)) (now (sinks .entry)) (now (sets .entry))) ⌝ }
 {
-    let c = cluster_of(record_of(n, object, records));
-    store_word(n, object, slot, word, records, slots);
-    dissolve(n, c, records);
-    put_set(c, 0, sets);
+    let h = cluster_of(record_of(c.n, object, records));
+    let room = others(sinks, sets);
+    attempt(c, object, slot, word, records, slots, room, h);
+    dissolve(c.n, h, records);
+    put_set(h, 0, sets);
 }
 
-// ---- the call
-
-// Above all refusals: what `attempt` answers from here on is a write loss.
-const LOSS: u32 = 64;
-
-// The call but for the control record. A store that dissolves a cluster is made only where it `may`. Where it may not,
+// The store to a member of a cluster, after the tests. One that dissolves the cluster is made only where it `may`. Where it may not,
 // nothing is stored, and the write loss after it is answered, with LOSS added.
-fn attempt(
+fn store_member(
     c: Control,
     object: u32,
     slot: u32,
@@ -253,24 +283,16 @@ fn attempt(
     sets: &mut [u64],
     may: bool,
 ) -> u32
-    ensures { λ a. ⌜ Attempted c object slot word (now (records .entry)) (now (slots .entry)) (now (sinks .entry)) (now (sets .entry)) may a
+    requires { ⌜ 0 ≡ first (frontTests c object slot word (now records) (now slots) (othersOf (now sinks) (now sets))) ⌝ }
+    ensures { λ a. ⌜ Settled c object slot word (now (records .entry)) (now (slots .entry)) (now (sinks .entry)) (now (sets .entry)) may a
         (now (records .exit)) (now (slots .exit)) (now (sets .exit)) ⌝ }
 {
-    let refusal = write_refusal(c, object, slot, word, records, slots, &sinks[..], sets);
-    if refusal != 0 {
-        return refusal;
-    }
-    // An object in no cluster has no out bit, and there is no set to make.
-    if cluster_of(records[(object - 1) as usize]) == 0 {
-        store_word(c.n, object, slot, word, records, slots);
-        return 0;
-    }
     if !does_dissolve(c.n, object, slot, word, records, slots) {
         store_staying(c.n, object, slot, word, records, slots, &sinks[..], sets);
         return 0;
     }
     if may {
-        store_dissolving(c.n, object, slot, word, records, slots, &sinks[..], sets);
+        store_dissolving(c, object, slot, word, records, slots, &sinks[..], sets);
         return 0;
     }
     let loss = loss_after(c, object, records);
@@ -280,8 +302,9 @@ fn attempt(
     LOSS + loss
 }
 
-// A write that dissolves is attempted a second time, with its loss in the control record, set in place. With two calls of `attempt`
-// the compiler leaves it a function, puts this one into both exports, and copies a record that stays whole (docs/BENCHMARK.md).
+// Most writes are to objects in no cluster, and `attempt` makes them. A store that dissolves a cluster is tried a second time, with its
+// loss in the control record, set in place. What is called in two places the compiler leaves a function; so it puts this one into both
+// exports, and copies a record that stays whole (docs/BENCHMARK.md, "Write").
 pub fn write(
     c: Control,
     object: u32,
@@ -297,10 +320,14 @@ pub fn write(
 {
     let list = &sinks[..];
     let mut d = c;
-    let mut k = attempt(d, object, slot, word, records, slots, list, sets, false);
-    if LOSS <= k {
-        d.write_loss = k - LOSS;
-        k = attempt(d, object, slot, word, records, slots, list, sets, true);
+    let room = others(list, sets);
+    let mut k = attempt(d, object, slot, word, records, slots, room, 0);
+    if k == ELSEWHERE {
+        k = store_member(d, object, slot, word, records, slots, list, sets, false);
+        if LOSS <= k {
+            d.write_loss = k - LOSS;
+            k = store_member(d, object, slot, word, records, slots, list, sets, true);
+        }
     }
     Done {
         refusal: k,

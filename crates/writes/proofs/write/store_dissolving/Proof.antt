@@ -1,6 +1,7 @@
 -- `writes::write::store_dissolving` meets its contract. Assumes nothing.
-use Rattle.writes.proofs.WriteLaws.{gone, set-gone}
+use mathlib.Core.Path.{refl}
 use borrow.Author.Needs.{needs}
+use Rattle.writes.proofs.WriteLaws.{slot-there, stored-in, gone, set-gone}
 use Rattle.writes.proofs.write.store_dissolving.Statement.{statement}
 use Rattle.writes.proofs.write.store_dissolving.Tie as tie
 
@@ -10,8 +11,11 @@ record-of-requires c κs = search needs
 cluster-of-requires : tie.Need-cluster-of-requires
 cluster-of-requires c κs = search needs
 
-store-word-requires : tie.Need-store-word-requires
-store-word-requires c κs = search needs
+others-requires : tie.Need-others-requires
+others-requires c κs = search needs
+
+attempt-requires : tie.Need-attempt-requires
+attempt-requires c κs = search needs
 
 dissolve-requires : tie.Need-dissolve-requires
 dissolve-requires c κs = search needs
@@ -33,12 +37,15 @@ returns c =
     let p = c .before .before in
     let d = p .before .before .before .before in
     let t = d .before .before .before .before .before .before in
-    let k = t .before .before .before in
-    let e = t .store-word .ensures in
-    let s = k .before .before .before .before .before .before .before .pre in (
-      gone _ _ _ _ _ _ s _ _ (k .before .record-of .ensures) (k .cluster-of .ensures) _ _ (e .0) (d .dissolve .ensures),
+    let o = t .before .before .before in
+    let k = o .before .before in
+    let a = k .before .before .before .before .before .before .before .pre in
+    let r = k .before .record-of .ensures in
+    let e = stored-in _ _ _ _ _ _ _ a _ (o .others .ensures) _ _ r (k .cluster-of .ensures) _ _ _ (t .attempt .ensures) in
+    let s = slot-there _ _ _ _ _ _ _ _ a refl in (
+      gone _ _ _ _ _ _ s _ _ r (k .cluster-of .ensures) _ _ (e .0) (d .dissolve .ensures),
       e .1,
-      set-gone _ _ _ _ _ _ s _ _ (k .before .record-of .ensures) (k .cluster-of .ensures) _ _ _ (p .put-set .ensures),
+      set-gone _ _ _ _ _ _ s _ _ r (k .cluster-of .ensures) _ _ _ (p .put-set .ensures),
     )
 
 pub store-dissolving-spec : {M : Type 1} → statement M
@@ -47,7 +54,8 @@ store-dissolving-spec =
     (tie.spec
     record-of-requires
     cluster-of-requires
-    store-word-requires
+    others-requires
+    attempt-requires
     dissolve-requires
     put-set-requires
     same-length

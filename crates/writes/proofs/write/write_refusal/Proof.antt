@@ -7,14 +7,11 @@ use Rattle.writes.proofs.write.write_refusal.Statement.{statement}
 use Rattle.writes.proofs.write.write_refusal.Tie as tie
 
 -- the object's tests are passed
-named-at : (c : tie.Else1) → let a = c .before .before .before .before .before .before .before .args in Named (a .c) (a .object) (a .records .now) (a .slots .now)
+named-at : (c : tie.Else1) → let a = c .before .before .before .before .args in Named (a .c) (a .object) (a .records .now) (a .slots .now)
 named-at c =
     let k = c .before in
-    let a = k .before .before .before .before .before .before .args in
-    object-named (a .c) (a .object) (a .slot) (a .word) (a .records .now) (a .slots .now) (a .sinks .now) (a .sets .now) _ (k .before .others .ensures) _ (k .object-refusal .ensures) (c .if1 .left)
-
-others-requires : tie.Need-others-requires
-others-requires c κs = search needs
+    let a = k .before .before .before .args in
+    object-named (a .c) (a .object) (a .slot) (a .word) (a .records .now) (a .slots .now) (a .others) _ (k .object-refusal .ensures) (c .if1 .left)
 
 object-refusal-requires : tie.Need-object-refusal-requires
 object-refusal-requires c κs = search needs
@@ -22,7 +19,7 @@ object-refusal-requires c κs = search needs
 returns : tie.Need-returns
 returns c =
     let k = c .before in
-    front-object _ _ _ _ _ _ _ _ _ (k .before .others .ensures) _ (k .object-refusal .ensures) (c .if1 .taken)
+    front-object _ _ _ _ _ _ _ _ (k .object-refusal .ensures) (c .if1 .taken)
 
 sub-width-of : tie.Need-sub-width-of
 sub-width-of c = named-at c .low
@@ -44,7 +41,7 @@ returns-2 c =
     let w = c .before in
     let o = w .before .before in
     let k = o .before in
-    front-slot _ _ _ _ _ _ _ _ _ (k .before .others .ensures) _ (k .object-refusal .ensures) (o .if1 .left) _ (w .width-of .ensures) (c .if2 .taken)
+    front-slot _ _ _ _ _ _ _ _ (k .object-refusal .ensures) (o .if1 .left) _ (w .width-of .ensures) (c .if2 .taken)
 
 word-refusal-requires : tie.Need-word-refusal-requires
 word-refusal-requires c κs = let N = named-at (c .before .before .before) in (N .sound .sizes .most, N .recs-long)
@@ -54,13 +51,12 @@ returns-3 c =
     let w = c .before .before in
     let o = w .before .before in
     let k = o .before in
-    front-word _ _ _ _ _ _ _ _ _ (k .before .others .ensures) _ (k .object-refusal .ensures) (o .if1 .left) _ (w .width-of .ensures) (c .before .if2 .left) _ (c .word-refusal .ensures)
+    front-word _ _ _ _ _ _ _ _ (k .object-refusal .ensures) (o .if1 .left) _ (w .width-of .ensures) (c .before .if2 .left) _ (c .word-refusal .ensures)
 
 pub write-refusal-spec : {M : Type 1} → statement M
 write-refusal-spec =
     tie.close
     (tie.spec
-    others-requires
     object-refusal-requires
     returns
     sub-width-of
