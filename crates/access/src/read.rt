@@ -10,7 +10,7 @@ use records::width_of;
 use table::named::object_refusal;
 
 // What a read answers besides the control record.
-#[derive(Drop)]
+#[derive(Clone, Copy)]
 pub(crate) struct Found {
     pub(crate) refusal: u32,
     pub(crate) word: u32,

@@ -18,7 +18,7 @@ use records::{cluster_of, is_sink, width_of};
 use table::buffers::zero;
 
 // The out loss, and the clusters formed and left, with their members.
-#[derive(Drop)]
+#[derive(Clone, Copy)]
 pub(crate) struct Found {
     pub(crate) loss: u32,
     pub(crate) clusters: u32,

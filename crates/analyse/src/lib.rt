@@ -1,4 +1,6 @@
 // The analysis ("Analysis"): the walk that forms clusters, then the deletion of those that are too small or too much pointed out of.
+#![tactic(auto)]
+
 mod form;
 mod judge;
 mod limit;

@@ -1,4 +1,6 @@
 // A set of numbers as bits of words of 64 bits: word 0 has the numbers 0 to 63, the lowest in its lowest bit, and so on.
+#![tactic(auto)]
+
 ghost use Rattle.std.specs.Prelude.{◌≡◌, ◌-◌, length, take};
 ghost use Rattle.std.specs.Int.Bits.{bit_and};
 ghost use Rattle.std.specs.Int.Count.{count_trailing_zeros};

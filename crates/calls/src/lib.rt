@@ -1,4 +1,6 @@
 // A call of a list run on the buffers of a heap.
+#![tactic(auto)]
+
 ghost use Rattle.std.specs.Prelude.{◌≡◌, take};
 ghost use Rattle.rules.specs.Load as Load;
 ghost use Rattle.calls.specs.Compare.{plain_call, as_run};
@@ -22,7 +24,7 @@ use writes::write::write;
 // What a line answers: `refusal` is 0 for an accepted call. a, b, c: the object of allocate; the word of read; start and length of what show names;
 // clusters and members of an analysis; freed, kept and scanned of a collection; the length of what save wrote; n and r of what load made. The
 // others are 0. Control record and length of the last image are those that the next call is handed.
-#[derive(Drop)]
+#[derive(Clone, Copy)]
 pub struct Ran {
     pub refusal: u32,
     pub a: u32,

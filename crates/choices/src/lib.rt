@@ -1,5 +1,7 @@
 // The choices of an analysis ("Analysis"), each from a record or a few numbers: the next size limit, the cluster that an object gets, whether a
 // new cluster stays, and the record that is left. Small total functions.
+#![tactic(auto)]
+
 ghost use Rattle.std.specs.Prelude.{◌≡◌, max};
 ghost use Rattle.rules.specs.Analyse.{sixteenth, half, clamped, next_limit};
 ghost use Rattle.choices.specs.Choices.{goes_by, over_by, lasts, loss_by, settled};

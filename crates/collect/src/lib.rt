@@ -1,4 +1,6 @@
 // Collections: a walk over the heap, plainly or by clusters, then the sweep. `by` tells whether clusters are walked.
+#![tactic(auto)]
+
 ghost use Rattle.std.specs.Prelude.{◌≡◌, cond};
 ghost use Rattle.rules.specs.Collect as Collect;
 ghost use Rattle.sweep.specs.Sweep.{marked_count, members_marked};

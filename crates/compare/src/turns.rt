@@ -15,7 +15,7 @@ pub const AT_ANALYSIS: u32 = 2;
 pub const DONE: u32 = 3;
 
 // What comes next: which columns are at it, and whether it is a difference.
-#[derive(Drop)]
+#[derive(Clone, Copy)]
 pub struct Turn {
     pub has_left: bool,
     pub has_right: bool,
@@ -23,7 +23,7 @@ pub struct Turn {
 }
 
 // The lines of the first difference; 0 for a list that has no call there, and for both while the columns agree.
-#[derive(Drop)]
+#[derive(Clone, Copy)]
 pub struct Verdict {
     pub left: u64,
     pub right: u64,

@@ -1,4 +1,6 @@
 // Numbers as bytes, the lowest first. Past the end a byte reads as 0, and a store does nothing.
+#![tactic(auto)]
+
 ghost use Rattle.std.specs.Prelude.{◌≡◌, ◌+◌, ◌%◌, ◌≤◌, [], ◌∷◌, leb, length, get_or, drop};
 ghost use Rattle.std.proofs.lemmas.List.Edits.{sets};
 ghost use Rattle.endian.specs.Bytes.{bytes, number, number_at};

@@ -1,5 +1,7 @@
 // A call list that is read line by line. No contract can say what a file holds: a function that reads says what holds whatever was read, and
 // the others are given exactly.
+#![tactic(auto)]
+
 ghost use Rattle.std.specs.Prelude.{◌≡◌, ◌-◌, ◌≤◌, length, drop};
 ghost use Rattle.std.proofs.Math.Seq.{paste};
 ghost use Rattle.files.specs.Reading.{room, new_source, held, line_state, taken, looked, Found, Searched, call_at, end_problem};
@@ -34,7 +36,7 @@ pub const TOO_LONG: u32 = 10;
 pub const UNREADABLE: u32 = 11;
 
 // A list. Of its input the bytes from `from` to `end` are still to be used; the line found has those from `start` to `stop`.
-#[derive(Drop)]
+#[derive(Clone, Copy)]
 pub struct Source {
     pub fd: i32,
     pub from: usize,

@@ -42,7 +42,7 @@ pub(crate) fn next_free(c: Control, records: &[u32]) -> u32
 }
 
 // The object to give, or the refusal of the call.
-#[derive(Drop)]
+#[derive(Clone, Copy)]
 pub(crate) enum Choice {
     Object(u32),
     Refusal(u32),

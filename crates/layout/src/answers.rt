@@ -4,7 +4,7 @@
 // What an analysis goes by: a new cluster with fewer members than the least is deleted, and so is one with more out pointers than
 // so many for ten members; no size limit is below the lowest.
 #[repr(C)]
-#[derive(Drop)]
+#[derive(Clone, Copy)]
 pub struct Tuning {
     pub least_members: u32,
     pub outs_per_ten: u32,
@@ -14,7 +14,7 @@ pub struct Tuning {
 // n objects, r roots, the number given last, the size limit (0 until there was an analysis), the two losses, and the tuning: nine
 // numbers, one after the other.
 #[repr(C)]
-#[derive(Drop)]
+#[derive(Clone, Copy)]
 pub struct Control {
     pub n: u32,
     pub r: u32,
@@ -27,14 +27,14 @@ pub struct Control {
 
 // What create, write, set root, declare sink and load answer.
 #[repr(C)]
-#[derive(Drop)]
+#[derive(Clone, Copy)]
 pub struct Done {
     pub refusal: u32,
     pub control: Control,
 }
 
 #[repr(C)]
-#[derive(Drop)]
+#[derive(Clone, Copy)]
 pub struct Allocated {
     pub refusal: u32,
     pub object: u32,
@@ -43,14 +43,14 @@ pub struct Allocated {
 
 // What allocate answers where the control record is lent and changed.
 #[repr(C)]
-#[derive(Drop)]
+#[derive(Clone, Copy)]
 pub struct AllocatedInPlace {
     pub refusal: u32,
     pub object: u32,
 }
 
 #[repr(C)]
-#[derive(Drop)]
+#[derive(Clone, Copy)]
 pub struct WordRead {
     pub refusal: u32,
     pub word: u32,
@@ -59,7 +59,7 @@ pub struct WordRead {
 
 // What show answers over C: the part of the lent slots from `start`, `length` words long.
 #[repr(C)]
-#[derive(Drop)]
+#[derive(Clone, Copy)]
 pub struct Part {
     pub refusal: u32,
     pub start: u32,
@@ -69,7 +69,7 @@ pub struct Part {
 
 // How many new clusters an analysis leaves, and how many objects are in them.
 #[repr(C)]
-#[derive(Drop)]
+#[derive(Clone, Copy)]
 pub struct Analysed {
     pub refusal: u32,
     pub clusters: u32,
@@ -78,7 +78,7 @@ pub struct Analysed {
 }
 
 #[repr(C)]
-#[derive(Drop)]
+#[derive(Clone, Copy)]
 pub struct Collected {
     pub refusal: u32,
     pub freed: u32,
@@ -89,7 +89,7 @@ pub struct Collected {
 
 // What save answers: how long the image is, in bytes.
 #[repr(C)]
-#[derive(Drop)]
+#[derive(Clone, Copy)]
 pub struct Saved {
     pub refusal: u32,
     pub length: u32,

@@ -4,7 +4,7 @@ ghost use Rattle.layout.specs.Word.{sort_of};
 
 use crate::limits::OBJECT_MAX;
 
-#[derive(Drop)]
+#[derive(Clone, Copy)]
 pub enum Word {
     Nil,
     Object(u32),

@@ -8,7 +8,7 @@ pub const MOST: usize = 5;
 // A line's kind is its place in the table, from 1 on. Of its numbers only the first `count` are used, and the others are 0. `collect` has one: 0 for
 // `plain`, 1 for `clusters`. `create` has its two sizes, or TUNED numbers. A line that makes no call has the kind 0, and its first number says what was
 // expected, 0 for nothing.
-#[derive(Drop)]
+#[derive(Clone, Copy)]
 pub struct Call {
     pub kind: usize,
     pub count: u32,

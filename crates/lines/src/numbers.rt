@@ -4,7 +4,7 @@ ghost use Rattle.lines.specs.Numeral.{between, digit_of, numeral_of, is_hex, val
 
 use crate::words::same;
 
-#[derive(Drop)]
+#[derive(Clone, Copy)]
 pub enum Number {
     NotNumber,
     TooLarge,

@@ -7,7 +7,7 @@ use crate::numbers::{Number, value};
 use crate::words::{next_word, same};
 
 // A number with the place after it, or what was expected.
-#[derive(Drop)]
+#[derive(Clone, Copy)]
 pub enum Next {
     Bad(u32),
     Value(u32, usize),

@@ -1,4 +1,6 @@
 // The members of each cluster, or its out members alone, linked from the highest down: the walks go through a cluster by them.
+#![tactic(auto)]
+
 ghost use Rattle.std.specs.Prelude.{◌≡◌, cond, ◌-◌, ◌/◌, ◌%◌, ◌≤◌, length, drop};
 ghost use Rattle.links.specs.Links.{linked_in, linked_at, linkable, links};
 ghost use Rattle.links.specs.Linking.{Linking};

@@ -1,4 +1,6 @@
 // Load: the heap of an image.
+#![tactic(auto)]
+
 ghost use Rattle.std.specs.Prelude.{◌≡◌};
 ghost use Rattle.layout.specs.Refusal.{first};
 ghost use Rattle.rules.specs.Load as Load;

@@ -1,4 +1,6 @@
 // The calls as C sees them: numbers and structs by value, a slice as a pointer and a length. Only exports are here.
+#![tactic(auto)]
+
 ghost use Rattle.std.specs.Prelude.{◌≡◌};
 ghost use Rattle.layout.specs.ControlRecord.{tuning_of};
 ghost use Rattle.rules.specs.Create as Create;

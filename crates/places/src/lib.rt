@@ -1,4 +1,6 @@
 // The list of sinks and the sets of the clusters: whether they are right, and the sets made from the heap, each in one pass over it.
+#![tactic(auto)]
+
 ghost use Rattle.std.specs.Prelude.{◌≡◌, cond, not, ◌&&◌, leb};
 ghost use Rattle.layout.specs.Limits.{object_max};
 ghost use Rattle.rules.specs.Buffers.{short};

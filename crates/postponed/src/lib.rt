@@ -1,5 +1,7 @@
 // The set of postponed objects in a collection's work words from 9 n on: a bit for each number, 32 to a word; and after these words the summary,
 // a bit for each of them that is not 0.
+#![tactic(auto)]
+
 ghost use Rattle.std.specs.Prelude.{◌≡◌, ◌%◌, ◌≤◌, get_or, set};
 ghost use Rattle.std.specs.Int.Count.{count_trailing_zeros};
 ghost use Rattle.layout.specs.Field.{put_flag};

@@ -1,5 +1,7 @@
 // The record of an object, packed into a word: seven flags from bit 0 up (in use, written, sink, out, and three for the walks),
 // the width from bit 8 and the cluster from bit 16.
+#![tactic(auto)]
+
 ghost use Rattle.std.specs.Prelude.{◌≡◌, ◌%◌};
 ghost use Rattle.layout.specs.Field.{flag};
 ghost use Rattle.records.specs.Record as R;

@@ -21,7 +21,7 @@ the line is longer than 4096 bytes
 ";
 
 // What is known of a list so far. `problem` is 0 while nothing is wrong; wrote and loaded are the lengths of the builds' names, 0 for none.
-#[derive(Drop)]
+#[derive(Clone, Copy)]
 pub(crate) struct Check {
     pub source: Source,
     pub created: bool,

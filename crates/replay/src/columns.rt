@@ -7,7 +7,7 @@ use layout::control::no_control;
 use lines::kinds::{Call, no_call};
 
 // A list that is run, plainly or as it says: the call run last, and what it answered.
-#[derive(Drop)]
+#[derive(Clone, Copy)]
 pub(crate) struct Column {
     pub source: Source,
     pub plain: bool,
@@ -18,7 +18,7 @@ pub(crate) struct Column {
 
 // The two columns, whether one list is run in both, the place in the page, the first difference, and whether both lists are at
 // their end.
-#[derive(Drop)]
+#[derive(Clone, Copy)]
 pub(crate) struct Both {
     pub left: Column,
     pub right: Column,

@@ -119,7 +119,7 @@ fn root_rows(page: &mut Text, from: usize, r: u32, q: u32, roots: &Roots) -> usi
 // ---- what changed hands
 
 // The place in the page, and whether something was told.
-#[derive(Drop)]
+#[derive(Clone, Copy)]
 struct Told {
     pub at: usize,
     pub any: bool,

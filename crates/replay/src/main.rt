@@ -1,4 +1,6 @@
 // Runs one call list in two ways, or two call lists, and reports in two columns: replay LIST, or replay LIST LIST.
+#![tactic(auto)]
+
 use crate::checks::{Check, check_path};
 use crate::columns::*;
 use crate::ends::*;

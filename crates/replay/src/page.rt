@@ -12,7 +12,7 @@ const ANSWER: usize = 30;
 const FULL: usize = 49152;
 
 // The place in the page, and places in the cells of a row, which stand one behind the other: where each ends, or what is still to be written of each.
-#[derive(Drop)]
+#[derive(Clone, Copy)]
 struct Row {
     pub at: usize,
     pub call: usize,

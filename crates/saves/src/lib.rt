@@ -1,4 +1,6 @@
 // Save ("Saves"): the heap as three chunks, and a fourth that lists its sinks if it has any. Each body is written into the part of the image after its length and kind.
+#![tactic(auto)]
+
 ghost use Rattle.std.specs.Prelude.{◌≡◌, ◌+◌, ◌*◌, ◌≤◌, ◌<◌, [], ◌∷◌, ◌++◌, length, take, drop};
 ghost use Rattle.std.proofs.lemmas.List.Edits.{sets};
 ghost use Rattle.layout.specs.Field.{digit};

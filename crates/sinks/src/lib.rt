@@ -1,5 +1,7 @@
 // Declare sink ("Writes and sinks"): the object is listed, its cluster dissolved, and every out bit and set made exact. For an object that is a sink
 // already nothing is done.
+#![tactic(auto)]
+
 ghost use Rattle.std.specs.Prelude.{◌≡◌, true, ◌++◌, ◌≤◌, length, take, drop};
 ghost use Rattle.layout.specs.Limits.{sink_max};
 ghost use Rattle.layout.specs.Refusal.{first};

@@ -1,4 +1,6 @@
 // The sweep of every collection. After a walk the mark of a record says that its object is kept; the sweep needs nothing else of the walk.
+#![tactic(auto)]
+
 ghost use Rattle.std.specs.Prelude.{◌≡◌};
 ghost use Rattle.rules.specs.Buffers.{each_record};
 ghost use Rattle.rules.specs.Sweep.{kept_record};

@@ -1,4 +1,6 @@
 // The trials of docs/HEAP.md ("Trials") that are run and not proved, a line of output each. Each begins with buffers of zeros.
+#![tactic(auto)]
+
 use analyse::analyse;
 use collect::collect;
 use heap::allocate::allocate;

@@ -1,4 +1,6 @@
 // The walk of a collection, over the heap as it is or by its clusters. `by` tells whether clusters are walked.
+#![tactic(auto)]
+
 mod marks;
 mod scan;
 mod trace;

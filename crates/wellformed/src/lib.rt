@@ -1,4 +1,6 @@
 // The check of a whole heap ("The heap"): every rule of every object, then the roots, the list of sinks and the sets. It stops at the first rule that is broken.
+#![tactic(auto)]
+
 ghost use Rattle.std.specs.Prelude.{◌≡◌, ◌≤◌, length};
 ghost use Rattle.layout.specs.Limits.{object_max};
 ghost use Rattle.layout.specs.Refusal.{first};
