@@ -8,8 +8,7 @@ use borrow.Author.Tests.{eqb-true, ltb-true, ltb-false}
 use Rattle.layout.specs.Limits.{limit_max, within}
 use Rattle.layout.specs.ControlRecord.{bad_limit}
 use Rattle.layout.proofs.LimitLaws.{in_within, below-within, above_within}
-use Rattle.layout.proofs.refusals.bad_limit.Statement.{statement}
-use Rattle.layout.proofs.refusals.bad_limit.Tie as tie
+use Rattle.layout.proofs.refusals.bad_limit.Goals as goal
 
 limit-tests : (lowest m : ℕ) → ltb limit_max m || (not (eqb m 0) && ltb m lowest) ≡ bad_limit lowest m
 unfolding bad_limit
@@ -23,8 +22,5 @@ limit-tests lowest m = go (eqb m 0) refl (ltb m lowest) refl (ltb limit_max m) r
     go false ez true es false el = rw (below-within lowest limit_max m (ltb-true m lowest es)) refl
     go false ez false es false el = rw (in_within lowest limit_max m (ltb-false m lowest es) (ltb-false limit_max m el)) refl
 
-returns : tie.Need-returns
+pub returns : goal.returns
 returns c = limit-tests c.args.lowest c.args.limit
-
-pub bad-limit-spec : {M : Type 1} → statement M
-bad-limit-spec = tie.close (tie.spec returns)

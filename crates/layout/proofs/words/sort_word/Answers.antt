@@ -9,8 +9,7 @@ use Rattle.layout.specs.Limits.{within}
 use Rattle.layout.specs.Word.{sort_of, is_nil, is_pointer}
 use Rattle.layout.specs.declared.words.Word.TheVariants.{Nil, Object, Immediate, Illegal}
 use Rattle.layout.proofs.WordLaws.{is-immediate, not-immediate}
-use Rattle.layout.proofs.words.sort_word.Statement.{statement}
-use Rattle.layout.proofs.words.sort_word.Tie as tie
+use Rattle.layout.proofs.words.sort_word.Goals as goal
 
 nil : (n w : ℕ) → w ≡ 0 → Nil ≡ sort_of n w
 unfolding sort_of is_nil
@@ -33,20 +32,17 @@ module _ (n w : ℕ) (z : w ≢ 0) where
   unfolding sort_of is_nil
   immediate l h = rw (ne_eqb w 0 z, lt-leb w 4095 (omega arith), and-false, is-immediate w l h) refl
 
-returns : tie.Need-returns
-returns c = nil _ _ c.match.keys1
+pub returns-in-0 : goal.returns-in-0
+returns-in-0 c = nil _ _ c.in-0.is
 
-returns-2 : tie.Need-returns-2
-returns-2 c = let a = c.before.before.before.args in object a.n a.w c.before.before.match.rest.1 (omega arith) (omega arith)
+pub returns-then-w-n : goal.returns-then-w-n
+returns-then-w-n c = let a = c.args in object a.n a.w c.in-1-to-4095.in_default-own.rest.1 (omega arith) (omega arith)
 
-returns-3 : tie.Need-returns-3
-returns-3 c = let a = c.before.before.before.args in above a.n a.w c.before.before.match.rest.1 (omega arith) (omega arith)
+pub returns-else-w-n : goal.returns-else-w-n
+returns-else-w-n c = let a = c.args in above a.n a.w c.in-1-to-4095.in_default-own.rest.1 (omega arith) (omega arith)
 
-returns-4 : tie.Need-returns-4
-returns-4 c = let a = c.before.before.before.args in gap a.n a.w c.before.before.match.rest.1 (omega arith) (omega arith)
+pub returns-in-4096-to-2147483647 : goal.returns-in-4096-to-2147483647
+returns-in-4096-to-2147483647 c = let a = c.args in gap a.n a.w c.in-4096-to-2147483647.in_default-own.rest.1 (omega arith) (omega arith)
 
-returns-5 : tie.Need-returns-5
-returns-5 c = let a = c.before.before.before.args in immediate a.n a.w c.before.before.match.rest.1 (omega arith) (omega arith)
-
-pub sort-word-spec : {M : Type 1} → statement M
-sort-word-spec = tie.close (tie.spec returns returns-2 returns-3 returns-4 returns-5)
+pub returns-in_default : goal.returns-in_default
+returns-in_default c = let a = c.args in immediate a.n a.w c.in_default.in_default-own.rest.1 (omega arith) (omega arith)

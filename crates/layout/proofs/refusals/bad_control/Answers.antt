@@ -1,11 +1,9 @@
 -- `layout::refusals::bad_control` makes every test of the control record; in which order does not matter. Assumes nothing.
-use borrow.Author.Rules.{rules}
 use mathlib.Core.Path.{◌≡◌, refl, sym, ap₂, ◌∙◌}
 use mathlib.Core.Bool.{Bool, true, false, ◌||◌, false≢true, true≢false}
 use lib.Dec.{ltb}
-use Rattle.layout.specs.ControlRecord.{bad_sizes, bad_tuning, bad_limit, bad_control}
-use Rattle.layout.proofs.refusals.bad_control.Statement.{statement}
-use Rattle.layout.proofs.refusals.bad_control.Tie as tie
+use Rattle.layout.specs.ControlRecord.{bad_sizes, bad_control}
+use Rattle.layout.proofs.refusals.bad_control.Goals as goal
 
 -- the tests in the order of the definition: limit and tuning decide, or leave it to the others
 module _ (s l w o : Bool) where
@@ -38,30 +36,17 @@ module _ (s l w o : Bool) where
   late false true e = absurd (true≢false e)
   late true t e = absurd (true≢false e)
 
-bad-limit-requires : tie.Need-bad-limit-requires
-bad-limit-requires c κs = search rules
+pub returns-then-bad_limit-bad_tuning : goal.returns-then-bad_limit-bad_tuning
+unfolding bad_control
+returns-then-bad_limit-bad_tuning c =
+    let a = c.args.c in
+    early (bad_sizes a.n a.r) (ltb a.n a.last) (ltb a.n a.write_loss) (ltb a.n a.out_loss) _ _
+    (sym (ap₂ ◌||◌ c.bad_limit.ensures c.bad_tuning.ensures) ∙ c.if-bad_limit-bad_tuning.true)
 
-bad-tuning-requires : tie.Need-bad-tuning-requires
-bad-tuning-requires c κs = search rules
-
-returns : tie.Need-returns
+pub returns : goal.returns
 unfolding bad_control
 returns c =
-    let a = c.before.before.before.before.args.c in
-    early (bad_sizes a.n a.r) (ltb a.n a.last) (ltb a.n a.write_loss) (ltb a.n a.out_loss) _ _
-    (sym (ap₂ ◌||◌ c.before.before.bad-limit.ensures c.before.bad-tuning.ensures) ∙ c.if1.true)
-
-bad-sizes-requires : tie.Need-bad-sizes-requires
-bad-sizes-requires c κs = search rules
-
-returns-2 : tie.Need-returns-2
-unfolding bad_control
-returns-2 c =
-    let a = c.before.before.before.before.before.before.before.before.args.c in
-    let b = c.before.before.before in
-    rw b.bad-sizes.ensures
+    let a = c.args.c in
+    rw c.bad_sizes.ensures
     (late (bad_sizes a.n a.r) (ltb a.n a.last) (ltb a.n a.write_loss) (ltb a.n a.out_loss) _ _
-    (sym (ap₂ ◌||◌ b.before.before.before.bad-limit.ensures b.before.before.bad-tuning.ensures) ∙ b.before.if1.false))
-
-pub bad-control-spec : {M : Type 1} → statement M
-bad-control-spec = tie.close (tie.spec bad-limit-requires bad-tuning-requires returns bad-sizes-requires returns-2)
+    (sym (ap₂ ◌||◌ c.bad_limit.ensures c.bad_tuning.ensures) ∙ c.if-bad_limit-bad_tuning.false))
