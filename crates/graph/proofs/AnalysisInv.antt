@@ -241,7 +241,7 @@ module _ (H : Heap) (limit : ℕ) (R : Ready H) (seen : ℕ → Bool) (cl : ℕ 
     where
       visits : (k : ℕ) → Memᴰ k (gather H.n (λ x. eqb (cl x) (cl i.obj) && H.out x) H.kids) ⊎ Memᴰ k (sinks_at H (cl i.obj)) → k ≤ H.n
       visits k (inl m) = gather-all (λ k. k ≤ H.n) H.n _ H.kids (λ x q k m. R.closed x k m) k m
-      visits k (inr m) = (sink-plain H R.Listed-in (cl i.obj) k m).0.1
+      visits k (inr m) = (sink-plain H R.listed_in (cl i.obj) k m).0.1
   acts l alone f = look _ _ upd-seen (whole-upd (no-older f.1 f.2)) (R.closed i.obj)
   acts l join f =
       let t = (all_first I.visits).from f.1 in

@@ -273,11 +273,13 @@ waits-right [] m a = a
 waits-right (i ∷ l) m a = later (waits-right l m a)
 
 waits-left : {y : ℕ} (l m : List Item) → Waits y l → Waits y (l ++ m)
+waits-left {y = y} [] m x' = elim x' [ ]
 waits-left (i ∷ l) m (next e) = next e
 waits-left (i ∷ l) m (later a) = later (waits-left l m a)
 
 waits-items : {y : ℕ} (c : ℕ) (l : List ℕ) → Memᴰ y l → Waits y (items c l)
 unfolding items
+waits-items {y = y} c [] x' = elim x' [ ]
 waits-items c (x ∷ l) (Memᴰ.head e) = next e
 waits-items c (x ∷ l) (Memᴰ.tail m) = later (waits-items c l m)
 
@@ -417,6 +419,7 @@ due-seen y w e (met s) nz = s
 due-seen y w e (waits a) nz = absurd (none w.todo e a)
   where
     none : (l : List Item) → l ≡ [] → Waits y l → ⊥
+    none [] e a = elim a [ ]
     none (i ∷ l) e a = cons≢nil e
 
 module _ (H : Heap) (limit : ℕ) (from : List ℕ) (R : Ready H) (p : 1 ≤ limit) (h : (k : ℕ) → Memᴰ k from → k ≤ H.n) where

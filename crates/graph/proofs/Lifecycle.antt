@@ -21,10 +21,12 @@ use Rattle.graph.proofs.State.{Good, clustered, keep-fewer}
 -- ---- a list with each member changed
 
 map_of : (f : ℕ → ℕ) (l : List ℕ) (y : ℕ) → Memᴰ y (map f l) → (w : ℕ) × Memᴰ w l × (y ≡ f w)
+map_of f [] y x' = elim x' [ ]
 map_of f (x ∷ l) y (Memᴰ.head e) = (x, Memᴰ.head refl, e)
 map_of f (x ∷ l) y (Memᴰ.tail m) = let t = map_of f l y m in (t.0, Memᴰ.tail t.1, t.2)
 
 map-in : (f : ℕ → ℕ) (l : List ℕ) (w : ℕ) → Memᴰ w l → Memᴰ (f w) (map f l)
+map-in f [] w x' = elim x' [ ]
 map-in f (x ∷ l) w (Memᴰ.head e) = Memᴰ.head (ap f e)
 map-in f (x ∷ l) w (Memᴰ.tail m) = Memᴰ.tail (map-in f l w m)
 

@@ -19,6 +19,7 @@ use Rattle.graph.proofs.NumberLaws.{gather-of}
 
 pub word-pointer : (l : List ℕ) (y : ℕ) → y ≢ 0 → Memᴰ y l → Memᴰ y (pointers l)
 unfolding pointers
+word-pointer [] y p x'' = elim x'' [ ]
 word-pointer (w ∷ l) y p (Memᴰ.head e) = rw (ne_eqb w 0 (λ i. p (e ∙ i))) (Memᴰ.head e)
 word-pointer (w ∷ l) y p (Memᴰ.tail m) = go (eqb w 0) (word-pointer l y p m)
   where
@@ -28,6 +29,7 @@ word-pointer (w ∷ l) y p (Memᴰ.tail m) = go (eqb w 0) (word-pointer l y p m)
 
 pub pointer_word : (l : List ℕ) (y : ℕ) → Memᴰ y (pointers l) → Memᴰ y l
 unfolding pointers
+pointer_word [] y m = elim m [ ]
 pointer_word (w ∷ l) y m = go (eqb w 0) (λ r. pointer_word l y r) m
   where
     go : (b : Bool) → (Memᴰ y (pointers l) → Memᴰ y l) → Memᴰ y (cond b (pointers l) (w ∷ pointers l)) → Memᴰ y (w ∷ l)
@@ -37,6 +39,7 @@ pointer_word (w ∷ l) y m = go (eqb w 0) (λ r. pointer_word l y r) m
 
 pub pointer-nonzero : (l : List ℕ) (y : ℕ) → Memᴰ y (pointers l) → y ≢ 0
 unfolding pointers
+pointer-nonzero [] y m = elim m [ ]
 pointer-nonzero (w ∷ l) y m = go (eqb w 0) refl (λ r. pointer-nonzero l y r) m
   where
     go : (b : Bool) → eqb w 0 ≡ b → (Memᴰ y (pointers l) → y ≢ 0) → Memᴰ y (cond b (pointers l) (w ∷ pointers l)) → y ≢ 0
@@ -69,6 +72,7 @@ reach-member H cl from h e y p r =
 -- a pointer that leaves is counted
 counted : (sink : ℕ → Bool) (cl : ℕ → ℕ) (c : ℕ) (l : List ℕ) (y : ℕ) → Memᴰ y l → leaves sink cl c y ≡ true → 0 < out_count sink cl c l
 unfolding out_count
+counted sink cl c [] y x'' t = elim x'' [ ]
 counted sink cl c (x ∷ l) y (Memᴰ.head e) t = rw (← e, t) (omega arith)
 counted sink cl c (x ∷ l) y (Memᴰ.tail m) t = let a = counted sink cl c l y m t in omega arith
 

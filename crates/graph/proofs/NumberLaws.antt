@@ -175,6 +175,7 @@ has-none x (y ∷ l) h = rw (ne_eqb x y (λ e. h 0 (omega arith) (sym e)), has-n
 
 -- a member that is not the one at k stays when k is set
 pub mem-set : (l : List ℕ) (k t y : ℕ) → Memᴰ y l → get_or l k 0 ≢ y → Memᴰ y (set l k t)
+mem-set [] k t y x'' h = elim x'' [ ]
 mem-set (x ∷ l) zero t y (Memᴰ.head e) h = absurd (h (sym e))
 mem-set (x ∷ l) zero t y (Memᴰ.tail m) h = Memᴰ.tail m
 mem-set (x ∷ l) (suc k) t y (Memᴰ.head e) h = Memᴰ.head e
@@ -341,6 +342,7 @@ only-from t (x ∷ l) y m = go (λ a. only-from t l y a) (t x) refl m
 
 pub only-in : (t : ℕ → Bool) (l : List ℕ) (y : ℕ) → Memᴰ y l → t y ≡ true → Memᴰ y (only t l)
 unfolding only
+only-in t [] y x'' e = elim x'' [ ]
 only-in t (x ∷ l) y (Memᴰ.head q) e = rw (ap t (sym q) ∙ e) (Memᴰ.head q)
 only-in t (x ∷ l) y (Memᴰ.tail m) e = go (t x) (only-in t l y m e)
   where

@@ -119,6 +119,7 @@ placed-from o (z ∷ l) y m = go (λ a. placed-from o l y a) (eqb z 0) m
 -- what was listed stays
 pub placed-keeps : (o : ℕ) (l : List ℕ) (y : ℕ) → Memᴰ y l → y ≢ 0 → Memᴰ y (placed o l)
 unfolding placed
+placed-keeps o [] y m nz = elim m [ ]
 placed-keeps o (z ∷ l) y m nz = go (λ a. placed-keeps o l y a nz) (eqb z 0) refl m
   where
     go : (Memᴰ y l → Memᴰ y (placed o l)) → (b : Bool) → eqb z 0 ≡ b → Memᴰ y (z ∷ l)
@@ -131,6 +132,7 @@ placed-keeps o (z ∷ l) y m nz = go (λ a. placed-keeps o l y a nz) (eqb z 0) r
 -- o is listed, once there is an empty place
 pub placed-there : (o : ℕ) (l : List ℕ) → Memᴰ 0 l → Memᴰ o (placed o l)
 unfolding placed
+placed-there o [] m = elim m [ ]
 placed-there o (z ∷ l) m = go (λ a. placed-there o l a) (eqb z 0) refl m
   where
     go : (Memᴰ 0 l → Memᴰ o (placed o l)) → (b : Bool) → eqb z 0 ≡ b → Memᴰ 0 (z ∷ l)

@@ -95,7 +95,7 @@ module _ (H : Heap) where
   weight-visit_by R w o true h false r e b = let t = weight-scan w o b e in (t.0, omega arith)
   weight-visit_by R w o false true m true e b = (refl, omega arith)
   weight-visit_by R w o false true m false e b =
-      let a = weight-scan_all (sinks_at H o) w (λ y q. (sink-plain H R.Listed-in o y q).0) in
+      let a = weight-scan_all (sinks_at H o) w (λ y q. (sink-plain H R.listed_in o y q).0) in
       let t = weight-arrive (scan_all H (sinks_at H o) w) o in
       let u = weight-scan_outs o n (arrive H o (scan_all H (sinks_at H o) w)) (omega arith) in
       (u.0 ∙ t.0 ∙ a.0, omega arith)

@@ -101,7 +101,7 @@ module _ (H : Heap) (from : List ℕ) (R : Ranged H) where
       → Inv H from None None (scan_outs H o n (arrive H o (scan_all H (sinks_at H o) w)))
   inv-head w o e b v =
       let u = scan_all H (sinks_at H o) w in
-      let a = inv-scan_all (λ x. x ≡ o) None (sinks_at H o) w (λ y m. sink-plain H R.Listed-in o y m) v in
+      let a = inv-scan_all (λ x. x ≡ o) None (sinks_at H o) w (λ y m. sink-plain H R.listed_in o y m) v in
       let w' = scan_outs H o n (arrive H o u) in
       let i : Is (arrive H o u).flags reached o = unfold arrive in (set_flag-same u.flags reached o true) in
       let t = inv-scan_outs (λ x. x ≡ o) o n (arrive H o u) (omega arith) i (inv-arrive H from (λ x. x ≡ o) u o a.0 a.1) in

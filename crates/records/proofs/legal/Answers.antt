@@ -1,5 +1,4 @@
 -- `records::legal` is the test of specs/: four tests joined, then those of a sink and of an out member. Assumes nothing.
-use borrow.Author.Rules.{rules}
 use borrow.Author.Tests.{lt-ltb, le-ltb, leb-true, leb-false, eq-eqb, ne_eqb}
 use mathlib.Core.Path.{◌≡◌, refl, ◌∙◌, sym, ap}
 use mathlib.Core.Bool.{true, false, not, Bool, ◌&&◌, ◌||◌, and-true, or-true, or-false, false≢true}
@@ -9,8 +8,7 @@ use lib.Dec.{eqb, leb, ltb}
 use Rattle.layout.specs.Field.{flag}
 use Rattle.records.specs.Record.{legal, clear, width, cluster}
 use Rattle.records.proofs.RecordLaws.{mask-clear}
-use Rattle.records.proofs.legal.Statement.{statement}
-use Rattle.records.proofs.legal.Tie as tie
+use Rattle.records.proofs.legal.Goals as goal
 
 above : (a b : ℕ) → ltb a b ≡ not (leb b a)
 above a b = go (leb b a) refl
@@ -79,65 +77,18 @@ module _ (n r : ℕ) where
         of_some : not (flag 2 r) ≡ sink-passes && out-passes
         of_some = rw (ne_eqb _ _ z, or-false (not (flag 2 r)), or-true (not (flag 3 r)), and-true (not (flag 2 r))) refl
 
--- none of the joined tests holds
-none-holds : (c : tie.Else1) → joined c.before.before.before.before.args.n c.before.before.before.before.args.r ≡ false
-none-holds c =
-    let w = c.before in
-    rw (sym w.before.in_use.ensures, sym w.width_of.ensures, sym w.before.before.cluster-of.ensures) c.if1.false
+pub returns-then-flags-past : goal.returns-then-flags-past
+returns-then-flags-past c =
+    refused _ _ (rw (sym c.in_use.ensures, sym c.width_of.ensures, sym c.cluster_of-c.ensures) c.if-flags-past.true)
 
-cluster-of-requires : tie.Need-cluster-of-requires
-cluster-of-requires c κs = search rules
+pub returns-then-not-is_sink-is_out : goal.returns-then-not-is_sink-is_out
+returns-then-not-is_sink-is_out c =
+    plain _ _ (rw (sym c.in_use.ensures, sym c.width_of.ensures, sym c.cluster_of-c.ensures) c.if-flags-past.false) (rw (sym c.is_sink.ensures, sym c.is_out.ensures) c.if-not-is_sink-is_out.true-raw)
 
-in-use-requires : tie.Need-in-use-requires
-in-use-requires c κs = search rules
+pub returns-then-c-eq0 : goal.returns-then-c-eq0
+returns-then-c-eq0 c =
+    ap not c.is_out-then-c-eq0.ensures ∙ loose _ _ (rw (sym c.in_use.ensures, sym c.width_of.ensures, sym c.cluster_of-c.ensures) c.if-flags-past.false) (sym c.cluster_of-c.ensures ∙ c.if-c-eq0.true)
 
-width-of-requires : tie.Need-width-of-requires
-width-of-requires c κs = search rules
-
-returns : tie.Need-returns
-returns c =
-    let w = c.before in
-    refused _ _ (rw (sym w.before.in_use.ensures, sym w.width_of.ensures, sym w.before.before.cluster-of.ensures) c.if1.true)
-
-is-sink-requires : tie.Need-is-sink-requires
-is-sink-requires c κs = search rules
-
-is-out-requires : tie.Need-is-out-requires
-is-out-requires c κs = search rules
-
-returns-2 : tie.Need-returns-2
-returns-2 c =
-    let o = c.before in
-    plain _ _ (none-holds o.before.before) (rw (sym o.before.is-sink.ensures, sym o.is-out.ensures) c.if2.true)
-
-is-out-requires-2 : tie.Need-is-out-requires-2
-is-out-requires-2 c κs = search rules
-
-is-sink-requires-2 : tie.Need-is-sink-requires-2
-is-sink-requires-2 c κs = search rules
-
-returns-3 : tie.Need-returns-3
-returns-3 c =
-    let e = c.before.before.before.before.before in
-    ap not c.is-out2.ensures ∙ loose _ _ (none-holds e) (sym e.before.before.before.cluster-of.ensures ∙ c.before.if3.true)
-
-returns-4 : tie.Need-returns-4
-returns-4 c =
-    let e = c.before.before.before.before.before in
-    ap not c.is-sink2.ensures ∙ member _ _ (none-holds e) (λ z. c.before.if3.false (e.before.before.before.cluster-of.ensures ∙ z))
-
-pub legal-spec : {M : Type 1} → statement M
-legal-spec =
-    tie.close
-    (tie.spec
-    cluster-of-requires
-    in-use-requires
-    width-of-requires
-    returns
-    is-sink-requires
-    is-out-requires
-    returns-2
-    is-out-requires-2
-    is-sink-requires-2
-    returns-3
-    returns-4)
+pub returns-else-c-eq0 : goal.returns-else-c-eq0
+returns-else-c-eq0 c =
+    ap not c.is_sink-else-c-eq0.ensures ∙ member _ _ (rw (sym c.in_use.ensures, sym c.width_of.ensures, sym c.cluster_of-c.ensures) c.if-flags-past.false) (λ z. c.if-c-eq0.false (c.cluster_of-c.ensures ∙ z))

@@ -1,0 +1,17 @@
+-- `endian::store4` stores four bytes that have a place. Assumes nothing.
+use native.Mathlib.Omega.{arith}
+use lib.ListN.{length-set}
+use Rattle.endian.proofs.BytesLaws.{sets-four}
+use Rattle.endian.proofs.store4.Goals as goal
+
+pub bounds-out-i-2 : goal.bounds-out-i-2
+bounds-out-i-2 c = simp length-set (omega arith)
+
+pub bounds-out-i-3 : goal.bounds-out-i-3
+bounds-out-i-3 c = simp length-set (omega arith)
+
+pub bounds-out-i-4 : goal.bounds-out-i-4
+bounds-out-i-4 c = simp length-set (omega arith)
+
+pub returns : goal.returns
+returns c = sets-four _ _ _
