@@ -99,6 +99,7 @@ module _ (c : Control) (v : ℕ) (recs slots : List ℕ) where
   full (here q h) x b z = absurd (omega (arith, q))
   full (there h (here q k)) x b z = absurd (omega (arith, q))
   full (there h (there k (here q m))) x b z = absurd (omega (arith, q))
+  full (there h (there k (there m (there _ x34)))) x b z = elim x34 [ ]
   full (there h (there k (there m (here q e)))) x b z =
       (candidates-first (λ y. R.free (rec_of c.n recs y)) c.last c.n x (control-facts c h).last b (unfold R.free in (eq-eqb _ 0 z))).0
       (unfold Allocate.given in (eqb-true _ 0 e))

@@ -238,6 +238,7 @@ map-set f (x ∷ l) zero w = refl
 map-set f (x ∷ l) (suc k) w = ap (λ r. f x ∷ r) (map-set f l k w)
 
 pub map_of : (f : ℕ → ℕ) (l : List ℕ) (y : ℕ) → Memᴰ y (map f l) → (w : ℕ) × Memᴰ w l × (y ≡ f w)
+map_of f [] y x' = elim x' [ ]
 map_of f (x ∷ l) y (Memᴰ.head e) = (x, Memᴰ.head refl, e)
 map_of f (x ∷ l) y (Memᴰ.tail m) = let a = map_of f l y m in (a.0, Memᴰ.tail a.1, a.2)
 
@@ -251,6 +252,7 @@ mem-get (x ∷ l) (suc k) p = Memᴰ.tail (mem-get l k (omega arith))
 
 pub all_of-at : (t : ℕ → Bool) (l : List ℕ) (w : ℕ) → all_of t l ≡ true → Memᴰ w l → t w ≡ true
 unfolding all_of
+all_of-at t [] w e x'' = elim x'' [ ]
 all_of-at t (x ∷ l) w e (Memᴰ.head p) = rw p (and_split (t x) (all_of t l) e).0
 all_of-at t (x ∷ l) w e (Memᴰ.tail m) = all_of-at t l w (and_split (t x) (all_of t l) e).1 m
 

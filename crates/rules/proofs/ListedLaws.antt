@@ -240,6 +240,7 @@ full-places l = go (has 0 l) refl
 -- ---- with empty places behind
 
 pub mem-replicate : {A : Type 0} (k : ℕ) (a w : A) → Memᴰ w (replicate k a) → w ≡ a
+mem-replicate {A = A} zero a w x' = elim x' [ ]
 mem-replicate (suc k) a w (Memᴰ.head e) = e
 mem-replicate (suc k) a w (Memᴰ.tail m) = mem-replicate k a w m
 

@@ -36,6 +36,7 @@ refuses (t ∷ l) k p e = go t.1 refl e (λ f. refuses l k p f)
 
 pub refused-first : (T : List Test) (k : ℕ) → Refuses k T → first T ≡ k
 unfolding first
+refused-first [] k x' = elim x' [ ]
 refused-first (t ∷ l) k (here e h) = rw h e
 refused-first (t ∷ l) k (there h r) = rw h (refused-first l k r)
 

@@ -2,7 +2,7 @@
 -- Assumes nothing.
 use Prim.Native.Nat.{ℕ, ◌+◌, ◌*◌, ◌≤◌}
 use mathlib.Core.Path.{◌≡◌, refl, sym, ap, ◌∙◌, fun_ext}
-use mathlib.Core.Bool.{true, not, false≢true}
+use mathlib.Core.Bool.{Bool, ◌||◌, ◌&&◌, true, not, false≢true}
 use mathlib.Core.List.{List, [], ◌∷◌, ◌++◌}
 use mathlib.Core.Logic.{◌⊎◌, inl, inr}
 use native.Mathlib.Nat.{suc-ne-zero}
@@ -17,6 +17,7 @@ use Rattle.layout.specs.Refusal.{first}
 use Rattle.layout.specs.declared.answers.Control.{Control}
 use Rattle.layout.proofs.ControlLaws.{facts-sizes}
 use Rattle.layout.proofs.RefusalLaws.{first-passed, first-fails}
+use Rattle.layout.specs.Word.{is_pointer}
 use Rattle.records.specs.Record as R
 use Rattle.records.proofs.RecordLaws.{Legal, legal-nonzero}
 use Rattle.graph.specs.Numbers.{count}
@@ -167,6 +168,11 @@ module _ (s : State) (I : Inv s) where
       answered _ _ _ (λ (o : Outcome). o.answer.refusal) refl (λ k. refl) ∙ save-tests out
       ∙ first-fails 2 [] _ (le-ltb (length out) (length (plain_image (plain_of s) (listed_in s))) h)
 
+  -- which numbers a word names, in full
+  spelled : (b : Bool) (w : ℕ) → (b || names s.control.n s.records w) ≡ true → (b || (is_pointer s.control.n w && R.in_use (record_in s w))) ≡ true
+  unfolding names
+  spelled b w e = e
+
   -- the plain heap has what it takes for its image to be read again
   pub writable : PlainWritable (plain_of s)
   unfolding plain_words is_sink plain_sink
@@ -178,8 +184,8 @@ module _ (s : State) (I : Inv s) where
         sunk = λ x e. sunk (cell_at (plain_of s).cells x) e;
         few = few;
         narrow = λ x. rw (at_words s.control.n s.records s.slots x, used-length s I x) (widths s I x);
-        worded = λ x w u m. rw (c, ← used w) (unfold names in (I.named x w (rw (at_words s.control.n s.records s.slots x) at m)));
-        rooted = λ w m. rw (c, ← used w) (unfold names in (I.rooted w m));
+        worded = λ x w u m. rw (c, ← used w) (spelled _ w (I.named x w (rw (at_words s.control.n s.records s.slots x) at m)));
+        rooted = λ w m. rw (c, ← used w) (spelled _ w (I.rooted w m));
       }
     where
       sunk : (c : Cell) → is_sink c ≡ true → not (is_free c) ≡ true

@@ -44,6 +44,7 @@ use Rattle.rules.proofs.DeclareLaws.{declare-answered, full-count}
 -- ---- places of a list
 
 place_of : (x : ℕ) (l : List ℕ) → Memᴰ x l → (k : ℕ) × (k < length l) × (get_or l k 0 ≡ x)
+place_of x [] x'' = elim x'' [ ]
 place_of x (y ∷ l) (Memᴰ.head e) = (0, omega arith, sym e)
 place_of x (y ∷ l) (Memᴰ.tail m) = let t = place_of x l m in let p = t.1 in (suc t.0, omega arith, t.2)
 
