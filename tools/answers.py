@@ -24,25 +24,80 @@ def load(path):
         return json.load(f)
 
 
+def clause(rest, fields):
+    """The part of a contract by its clause's name, where it was told by its place."""
+    if rest and rest[0].isdigit() and int(rest[0]) < len(fields):
+        return [fields[int(rest[0])]] + rest[1:]
+    return rest
+
+
+def split_tuple(text):
+    """The parts of a tuple that ends the text, after what stands before it; None where the text does not end in one."""
+    t = text.rstrip()
+    if not t.endswith(")"):
+        return None
+    depth = 0
+    for k in range(len(t) - 1, -1, -1):
+        if t[k] in ")]}":
+            depth += 1
+        elif t[k] in "([{":
+            depth -= 1
+            if depth == 0:
+                break
+    before = t[:k]
+    if before.strip() and not re.search(r"\bin\s*$", before):
+        return None
+    inner, parts, depth, last = t[k + 1 : -1], [], 0, 0
+    for j, ch in enumerate(inner):
+        if ch in "([{":
+            depth += 1
+        elif ch in ")]}":
+            depth -= 1
+        elif ch == "," and depth == 0:
+            parts.append(inner[last:j])
+            last = j + 1
+    if inner[last:].strip():
+        parts.append(inner[last:])
+    return before, parts
+
+
 class Names:
     def __init__(self, record):
         self.r = record
         self.places = {}
+        self.clauses = {}
         for i, (name, parent, field, callee, subs) in enumerate(record["places"]):
             self.places[name] = (parent, field, callee, subs, record["arms"][i], record["typed"][i])
+            self.clauses[name] = record["clauses"][i]
         self.where = [a[0] for a in record["asked_at"]]
 
     def parent(self, p):
         return self.places[p][0]
 
+    def above(self, goal, head):
+        """The nearest place from the goal's on upwards whose step has this old name."""
+        q = goal
+        while q is not None:
+            if self.places[q][0] is not None and norm(self.places[q][1][0]) == norm(head):
+                return q
+            q = self.places[q][0]
+        return None
+
     def field(self, goal, place, segs):
         """The new path, without `c.`, for the old fields `segs` at `place`, seen from the goal's place; None where none is known."""
         head, rest = segs[0], segs[1:]
-        if place == "Start" or self.places[place][0] is None:
-            return ".".join(segs)
+        if head in ("args", "requires", "ranges", "lifetimes"):
+            if head == "requires" and self.r["pre"]:
+                rest = clause(rest, self.r["pre"])
+            return ".".join([head] + rest)
+        # a step is found by its name where the count of steps is another today
+        if place is None or self.places[place][0] is None or norm(self.places[place][1][0]) != norm(head):
+            place = self.above(goal, head)
+            if place is None:
+                return None
         old, new = self.places[place][1]
-        if norm(head) != norm(old):
-            return None
+        if rest[:1] == ["ensures"] and self.clauses[place]:
+            rest = ["ensures"] + clause(rest[1:], self.clauses[place]["fields"])
         # what the type of a variable says
         for var, step in self.places[place][5]:
             if norm(step) == norm(head) and goal == place and rest[:1] == ["given"]:
@@ -80,7 +135,7 @@ def items(text):
     """Top-level items: runs of lines, each beginning at a line that is not indented; comments above belong to the next."""
     out, cur = [], []
     for line in text.split("\n"):
-        top = line and not line[0].isspace()
+        top = line and not line[0].isspace() and line[0] not in ")]}"
         if top and cur:
             out.append(cur)
             cur = []
@@ -108,7 +163,7 @@ class Turner:
                 break
             p = alias[m.group(2)]
             for _ in range(m.group(3).count(".before")):
-                p = self.n.parent(p)
+                p = self.n.parent(p) if p is not None else None
             alias[m.group(1)] = p
             text = text[: m.start()] + text[m.end() :]
 
@@ -119,10 +174,7 @@ class Turner:
             segs = [s for s in path.split(".") if s]
             p = alias[var]
             while segs and segs[0] == "before":
-                p, segs = self.n.parent(p), segs[1:]
-                if p is None:
-                    self.left.append(f"{self.where}: no place above: {m.group(0)}")
-                    return m.group(0)
+                p, segs = (self.n.parent(p) if p is not None else None), segs[1:]
             if not segs:
                 if var == "c":
                     self.left.append(f"{self.where}: a whole place: {m.group(0)}")
@@ -131,7 +183,7 @@ class Turner:
                 return m.group(0)
             new = self.n.field(place, p, segs)
             if new is None:
-                self.left.append(f"{self.where}: {m.group(0)} at {p} {self.n.places[p][1]}")
+                self.left.append(f"{self.where}: {m.group(0)} at {p}")
                 return m.group(0)
             return "c." + new
 
@@ -249,10 +301,17 @@ def turn(crate, path, record, where):
                 comment = []
                 continue
             term, _ = t.body(term, place)
+            fields = record["asked"].get(needs[k][0])
+            if fields:
+                cut = split_tuple(term)
+                if cut and len(cut[1]) == len(fields):
+                    term = cut[0] + "record {\n" + "\n".join(f"      {f} = {v.strip()};" for f, v in zip(fields, cut[1])) + "\n    }"
+                else:
+                    t.left.append(f"{where}: {new} asks a record of {fields}")
             answers.append(comment + [f"pub {new} : goal.{new}"] + ([unf] if unf else []) + [f"{new} c ={term}"])
             comment = []
             continue
-        if "tie.close" in s or re.match(r"pub [\w-]+-spec : ", s):
+        if "tie.close" in s or re.match(r"pub [\w-]+[-_]spec : .*statement M$", s):
             comment = []
             continue
         # a lemma of the file: a signature, perhaps unfolding, and clauses
