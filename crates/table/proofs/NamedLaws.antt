@@ -7,7 +7,7 @@ use mathlib.Core.Logic.{◌≢◌}
 use lib.Dec.{ltb}
 use lib.ListN.{length, get_or}
 use native.Mathlib.Omega.{arith}
-use borrow.Author.Tests.{lt-ltb, le-ltb, ltb-true, ltb-false, not-false}
+use borrow.Author.Tests.{le-ltb, ltb-true, ltb-false, not-false}
 use Rattle.layout.specs.declared.answers.Control.{Control}
 use Rattle.layout.specs.Limits.{object_max, slots_len, within}
 use Rattle.records.specs.Record.{width, legal, damaged}
@@ -67,14 +67,14 @@ module _ (a b n : ℕ) where
 
 module _ (a b o n : ℕ) where
   pub room_fits : n ≤ room_of a b o → (n ≤ a) × (slots_len n ≤ b) × (n ≤ o)
-  unfolding room_of
+  unfolding room_of object_room
   room_fits h =
       let p = least-each (object_room a b) o n h in
       let q = object-room-fits a b n p.0 in
       (q.0, q.1, p.1)
 
   pub room-short : room_of a b o < n → ltb a n || ltb b (slots_len n) || ltb o n ≡ true
-  unfolding room_of
+  unfolding room_of object_room
   room-short h = go (ltb a n) refl (ltb b (slots_len n)) refl (ltb o n) refl
     where
       go : (x : Bool) → ltb a n ≡ x → (y : Bool) → ltb b (slots_len n) ≡ y → (z : Bool) → ltb o n ≡ z → x || y || z ≡ true
