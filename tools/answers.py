@@ -66,6 +66,7 @@ class Names:
         self.r = record
         self.places = {}
         self.clauses = {}
+        self.today = {p[2][1] for p in record["places"]} | {a[0] for a in record["arms"] if a}
         for i, (name, parent, field, callee, subs) in enumerate(record["places"]):
             self.places[name] = (parent, field, callee, subs, record["arms"][i], record["typed"][i])
             self.clauses[name] = record["clauses"][i]
@@ -75,12 +76,14 @@ class Names:
         return self.places[p][0]
 
     def above(self, goal, head):
-        """The nearest place from the goal's on upwards whose step has this old name."""
-        q = goal
-        while q is not None:
-            if self.places[q][0] is not None and norm(self.places[q][1][0]) == norm(head):
-                return q
-            q = self.places[q][0]
+        """The nearest place from the goal's on upwards whose step has this old name; port.py gave some another spelling."""
+        plain = lambda s: re.sub(r"(-lem)?$", "", norm(s).lower())
+        for alike in (norm, plain, lambda s: re.sub(r"\d+$", "", plain(s))):
+            q = goal
+            while q is not None:
+                if self.places[q][0] is not None and alike(self.places[q][1][0]) == alike(head):
+                    return q
+                q = self.places[q][0]
         return None
 
     def field(self, goal, place, segs):
@@ -88,14 +91,24 @@ class Names:
         head, rest = segs[0], segs[1:]
         if head in ("args", "requires", "ranges", "lifetimes"):
             if head == "requires" and self.r["pre"]:
-                rest = clause(rest, self.r["pre"])
+                rest = clause(rest, self.r["pre"]["fields"])
             return ".".join([head] + rest)
         # a step is found by its name where the count of steps is another today
         if place is None or self.places[place][0] is None or norm(self.places[place][1][0]) != norm(head):
-            place = self.above(goal, head)
+            place = self.above(goal, head) if head not in self.today else None
             if place is None:
                 return None
         old, new = self.places[place][1]
+        if rest[:1] == ["auto"] and self.places[place][2] in self.r["params"]:
+            # what a call keeps of the lengths, once a tuple over its parameters
+            k, more = 0, rest[1:]
+            params = self.r["params"][self.places[place][2]]
+            while more and more[0] == "1" and k + 1 < len(params):
+                k, more = k + 1, more[1:]
+            if more[:1] == ["0"]:
+                more = more[1:]
+            if rest[1:]:
+                rest = ["auto", params[k]] + more
         if rest[:1] == ["ensures"] and self.clauses[place]:
             rest = ["ensures"] + clause(rest[1:], self.clauses[place]["fields"])
         # what the type of a variable says
@@ -145,12 +158,90 @@ def items(text):
     return out
 
 
+TYPED = r"\((\w+) : tie\.([A-Z][\w'-]*)(?: [\w'-]+)*\)"
+
+
 class Turner:
+    """Turns terms; `helpers` are the file's lemmas over a step's record, which are written out where they were used."""
+
     def __init__(self, names, where):
         self.n, self.where, self.left = names, where, []
+        self.helpers = {}
+        self.opened = set()
 
-    def body(self, text, place):
-        alias = {"c": place}
+    def place(self, old):
+        for p in self.n.places:
+            if norm(p) == norm(old):
+                return p
+        return None
+
+    def learn(self, parts):
+        """Takes in the helpers among the items of a file, and says which items they are."""
+        taken = set()
+        for i, lines in enumerate(parts):
+            t = "\n".join(lines).rstrip()
+            m = re.match(r"(?:abbrev |pub )*([\w'-]+) : " + TYPED + r" → ", t)
+            if m and i + 1 < len(parts):
+                j, unf = i + 1, ""
+                while j < len(parts) and not "\n".join(parts[j]).strip():
+                    j += 1
+                u = "\n".join(parts[j]).rstrip()
+                if u.startswith("unfolding"):
+                    unf, j = u, j + 1
+                    u = "\n".join(parts[j]).rstrip()
+                b = re.match(re.escape(m.group(1)) + r"\s+([\w']+)\s*=(.*)$", u, re.S)
+                p = self.place(m.group(3))
+                if b and p:
+                    self.helpers[m.group(1)] = (p, b.group(1), b.group(2).strip(), unf, set())
+                    taken |= set(range(i, j + 1))
+                continue
+            m = re.match(r"module _ " + TYPED + r" where\n(.*)$", t, re.S)
+            if m:
+                p = self.place(m.group(2))
+                inner = [x for x in items("\n".join(l[2:] for l in m.group(3).split("\n")))]
+                names, unf = set(), ""
+                k = 0
+                for k, x in enumerate(inner):
+                    y = "\n".join(x).rstrip()
+                    if y.startswith("unfolding"):
+                        unf = y
+                        continue
+                    b = re.match(r"([\w'-]+)\s*=(?!=)(.*)$", y, re.S)
+                    if b and p:
+                        self.helpers[b.group(1)] = (p, m.group(1), b.group(2).strip(), unf, set(names))
+                        names.add(b.group(1))
+                        unf = ""
+                taken.add(i)
+        return taken
+
+    def written_out(self, text, goal, inside=frozenset(), where=None, depth=0):
+        """The term with helpers replaced by their own terms."""
+        if depth > 8:
+            return text
+        for h in sorted(self.helpers, key=len, reverse=True):
+            p, var, term, unf, inner = self.helpers[h]
+            arg = r"" if h in inside else r"\s+(?:\((?:[\w'-]+)\s+[\w'.-]+\)|[\w'.-]+)"
+            pat = re.compile(r"(?<![\w.'-])(\()?" + re.escape(h) + r"(?![\w'-])" + ("" if h in inside else arg) + r"(?(1)\))((?:\.[\w'-]+)*)")
+
+            def one(m):
+                path = m.group(2) or ""
+                chain = re.fullmatch(r"[\w']+((?:\.before)*)", term)
+                if chain:  # a helper that is a step's record
+                    q = p
+                    for _ in range(chain.group(1).count("before")):
+                        q = self.n.parent(q)
+                    return self.body("c" + path, goal, {"c": q})[0]
+                if unf:
+                    self.opened.add(unf)
+                inl = self.written_out(term, goal, inner, p, depth + 1)
+                inl = self.body(inl, goal, {var: p})[0]
+                return "(" + inl + ")" + path
+
+            text = pat.sub(one, text)
+        return text
+
+    def body(self, text, place, alias=None):
+        alias = dict(alias) if alias else {"c": place}
         # let s = c.before.before in   -> a name for a place
         while True:
             m = None
@@ -182,6 +273,8 @@ class Turner:
                 self.left.append(f"{self.where}: a whole place: {m.group(0)}")
                 return m.group(0)
             new = self.n.field(place, p, segs)
+            if new is None and segs[0] in self.n.today:
+                return "c." + ".".join(segs)
             if new is None:
                 self.left.append(f"{self.where}: {m.group(0)} at {p}")
                 return m.group(0)
@@ -219,7 +312,11 @@ def turn(crate, path, record, where):
     needs = record["needs"]
     given = [o for o in (order or []) if not re.match(r"(invariant|decreases)-", o)]
     positional = len(given) == len(needs)
+    helping = t.learn(parts)
     while i < len(parts):
+        if i in helping:
+            i += 1
+            continue
         lines = parts[i]
         s = "\n".join(lines).rstrip()
         i += 1
@@ -300,7 +397,11 @@ def turn(crate, path, record, where):
             if re.fullmatch(r"\s*search rules\s*", term):
                 comment = []
                 continue
+            t.opened = set()
+            term = t.written_out(term, place)
             term, _ = t.body(term, place)
+            if t.opened:
+                unf = "unfolding " + " ".join(dict.fromkeys(w for u in ([unf] if unf else []) + sorted(t.opened) for w in u.split()[1:]))
             fields = record["asked"].get(needs[k][0])
             if fields:
                 cut = split_tuple(term)

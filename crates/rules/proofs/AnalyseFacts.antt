@@ -32,7 +32,7 @@ use Rattle.rules.specs.Analyse.{rule_of, sixteenth, half, clamped, next_limit, u
 use Rattle.rules.specs.Analyse as Analyse
 use Rattle.rules.specs.Calls.{analyse}
 use Rattle.rules.specs.Steps.{State, step}
-use Rattle.rules.specs.Demands.{record_in, refusal_of, Analyses, Adjusts, heap_of, roots_of, limit_in, walked_in, members_in, outs_in, too_many_outs}
+use Rattle.rules.specs.Demands.{record_in, refusal_of, Analyses, Adjusts, heap_of, roots_of, limit_in, walked_in, members_in, too_many_outs}
 use Rattle.graph.proofs.Paths.{keep-zero}
 use Rattle.rules.proofs.BoolLaws.{cond-not, or-true}
 use Rattle.rules.proofs.Invariant.{Inv, inv-control, inv-long, inv-formed, enough}

@@ -3,7 +3,7 @@
 use mathlib.Core.Path.{◌≡◌, refl, sym, ap, ap₂, ◌∙◌}
 use mathlib.Core.Bool.{Bool}
 use mathlib.Core.List.{List, [], ◌∷◌, ◌++◌}
-use Rattle.layout.specs.Refusal.{Test, outcome}
+use Rattle.layout.specs.Refusal.{outcome}
 use Rattle.rules.specs.Load.{image_tests, input_tests}
 use Rattle.rules.specs.Calls.{Call, did}
 use Rattle.rules.specs.Plain.{Plain, Played, answer, plain_slots, plain_step, plain_loaded}

@@ -1,6 +1,5 @@
 -- `lowest` meets its contract. The loop's invariant: from word k of the summary on the search ends as it does from the first.
 use mathlib.Core.Path.{refl, sym, ◌∙◌}
-use Prim.Native.Nat.{◌-◌}
 use native.Mathlib.Omega.{arith}
 use Rattle.postponed.proofs.PostponedLaws.{search-on, search-found, search-done}
 use Rattle.postponed.proofs.lowest.Goals as goal
