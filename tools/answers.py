@@ -26,9 +26,16 @@ def load(path):
 
 def clause(rest, fields):
     """The part of a contract by its clause's name, where it was told by its place."""
-    if rest and rest[0].isdigit() and int(rest[0]) < len(fields):
-        return [fields[int(rest[0])]] + rest[1:]
-    return rest
+    if not rest or rest[0] not in ("0", "1"):
+        return rest
+    k, rest = 0, list(rest)
+    while k < len(fields) - 1 and rest[:1] == ["1"]:
+        k, rest = k + 1, rest[1:]
+    if k < len(fields) - 1:
+        if rest[:1] != ["0"]:
+            return ["WHICH"] + rest
+        rest = rest[1:]
+    return [fields[k]] + rest
 
 
 def split_tuple(text):
@@ -180,7 +187,7 @@ class Turner:
         taken = set()
         for i, lines in enumerate(parts):
             t = "\n".join(lines).rstrip()
-            m = re.match(r"(?:abbrev |pub )*([\w'-]+) : " + TYPED + r" → ", t)
+            m = re.match(r"(?:abbrev |pub )*([\w'-]+) : " + TYPED + r"\s+→ (.*)$", t, re.S)
             if m and i + 1 < len(parts):
                 j, unf = i + 1, ""
                 while j < len(parts) and not "\n".join(parts[j]).strip():
@@ -192,23 +199,27 @@ class Turner:
                 b = re.match(re.escape(m.group(1)) + r"\s+([\w']+)\s*=(.*)$", u, re.S)
                 p = self.place(m.group(3))
                 if b and p:
-                    self.helpers[m.group(1)] = (p, b.group(1), b.group(2).strip(), unf, set())
+                    self.helpers[m.group(1)] = (p, b.group(1), b.group(2).strip(), unf, set(), (m.group(2), m.group(4)))
                     taken |= set(range(i, j + 1))
                 continue
             m = re.match(r"module _ " + TYPED + r" where\n(.*)$", t, re.S)
             if m:
                 p = self.place(m.group(2))
                 inner = [x for x in items("\n".join(l[2:] for l in m.group(3).split("\n")))]
-                names, unf = set(), ""
+                names, unf, said = set(), "", {}
                 k = 0
                 for k, x in enumerate(inner):
                     y = "\n".join(x).rstrip()
                     if y.startswith("unfolding"):
                         unf = y
                         continue
+                    g = re.match(r"([\w'-]+) :\s+(.*)$", y, re.S)
+                    if g:
+                        said[g.group(1)] = g.group(2)
+                        continue
                     b = re.match(r"([\w'-]+)\s*=(?!=)(.*)$", y, re.S)
                     if b and p:
-                        self.helpers[b.group(1)] = (p, m.group(1), b.group(2).strip(), unf, set(names))
+                        self.helpers[b.group(1)] = (p, m.group(1), b.group(2).strip(), unf, set(names), (m.group(1), said.get(b.group(1))))
                         names.add(b.group(1))
                         unf = ""
                 taken.add(i)
@@ -219,7 +230,7 @@ class Turner:
         if depth > 8:
             return text
         for h in sorted(self.helpers, key=len, reverse=True):
-            p, var, term, unf, inner = self.helpers[h]
+            p, var, term, unf, inner, (who, said) = self.helpers[h]
             arg = r"" if h in inside else r"\s+(?:\((?:[\w'-]+)\s+[\w'.-]+\)|[\w'.-]+)"
             pat = re.compile(r"(?<![\w.'-])(\()?" + re.escape(h) + r"(?![\w'-])" + ("" if h in inside else arg) + r"(?(1)\))((?:\.[\w'-]+)*)")
 
@@ -235,6 +246,10 @@ class Turner:
                     self.opened.add(unf)
                 inl = self.written_out(term, goal, inner, p, depth + 1)
                 inl = self.body(inl, goal, {var: p})[0]
+                if said:
+                    told = self.written_out(said, goal, inner, p, depth + 1)
+                    told = self.body(told, goal, {who: p})[0]
+                    inl = f"let it : ({' '.join(told.split())}) = {inl} in it"
                 return "(" + inl + ")" + path
 
             text = pat.sub(one, text)
@@ -405,6 +420,11 @@ def turn(crate, path, record, where):
             fields = record["asked"].get(needs[k][0])
             if fields:
                 cut = split_tuple(term)
+                while cut and len(cut[1]) < len(fields):
+                    inner = split_tuple(cut[1][-1])
+                    if not inner or inner[0].strip():
+                        break
+                    cut = (cut[0], cut[1][:-1] + inner[1])
                 if cut and len(cut[1]) == len(fields):
                     term = cut[0] + "record {\n" + "\n".join(f"      {f} = {v.strip()};" for f, v in zip(fields, cut[1])) + "\n    }"
                 else:
