@@ -2,14 +2,15 @@
 // the others are given exactly.
 #![tactic(auto)]
 
-ghost use Rattle.std.specs.Prelude.{◌≡◌, ◌-◌, ◌≤◌, length, drop};
+ghost use Rattle.std.specs.Prelude.{◌≡◌, ◌-◌, ◌+◌, ◌≤◌, length, drop, IfOk};
 ghost use Rattle.std.proofs.Math.Seq.{paste};
 ghost use Rattle.files.specs.Reading.{room, new_source, held, line_state, taken, looked, Found, Searched, call_at, end_problem};
 
 use lines::kinds::{Call, no_call};
 use lines::parse::parse;
 use lines::words::line_end;
-use std::num::wrapping_add_u64;
+use std::io;
+use std::io::Read;
 
 // The bytes of a list that are at hand at a time.
 pub const ROOM: usize = 65536;
@@ -35,7 +36,8 @@ pub const TOO_LONG: u32 = 10;
 
 pub const UNREADABLE: u32 = 11;
 
-// A list. Of its input the bytes from `from` to `end` are still to be used; the line found has those from `start` to `stop`.
+// A list. Of its input the bytes from `from` to `end` are still to be used; the line found has those from `start` to `stop`. Which list it is, `fd`
+// says to the caller, who hands over the reader of it.
 #[derive(Clone, Copy)]
 pub struct Source {
     pub fd: i32,
@@ -91,7 +93,7 @@ fn found(s: Source, stop: usize, next: usize) -> Source
     ensures { result ≡ taken s stop next }
 {
     let mut t = s;
-    t.number = wrapping_add_u64(s.number, 1);
+    t.number = s.number.wrapping_add(1);
     t.start = s.from;
     t.stop = stop;
     t.state = line_state(less(stop, s.from));
@@ -137,41 +139,40 @@ fn to_front(input: &mut [u8], from: usize, end: usize) -> usize
 }
 
 // Reads once into the bytes from `kept` on.
-fn read_on(fd: i32, input: &mut [u8], kept: usize) -> isize
+fn read_on<R: Read>(reader: &mut R, input: &mut [u8], kept: usize) -> io::Result<usize>
     requires { kept ≤ length input.old }
+    ensures { IfOk result (λ n. kept + n ≤ length input.new) }
 {
-    libc::read(fd, &mut input[kept..])
+    reader.read(&mut input[kept..])
 }
 
 // Moves the bytes at hand to the front, reads on, and looks again.
-fn fill(s: Source, input: &mut [u8; ROOM]) -> Source
+fn fill<R: Read>(s: Source, reader: &mut R, input: &mut [u8; ROOM]) -> Source
     requires { s.end ≤ room }
     ensures { Found s result }
 {
     let kept = to_front(input, s.from, s.end);
-    let got = read_on(s.fd, input, kept);
-    if got < 0 {
-        return holding(s, 0, kept, FAILED);
-    }
-    if got == 0 {
-        if kept == 0 {
-            return holding(s, 0, 0, END);
+    match read_on(reader, input, kept) {
+        Err(_) => holding(s, 0, kept, FAILED),
+        Ok(0) => {
+            if kept == 0 {
+                return holding(s, 0, 0, END);
+            }
+            found(holding(s, 0, kept, MORE), kept, kept)
         }
-        return found(holding(s, 0, kept, MORE), kept, kept);
+        Ok(more) => look(holding(s, 0, kept + more, MORE), input),
     }
-    let more = io::count(got, input);
-    look(holding(s, 0, kept + more, MORE), input)
 }
 
 // The next line.
-pub fn next_line(s: Source, input: &mut [u8; ROOM]) -> Source
+pub fn next_line<R: Read>(s: Source, reader: &mut R, input: &mut [u8; ROOM]) -> Source
     ensures found { Found s result }
     ensures searched { Searched s input.old result input.new }
 {
     let mut t = look(s, input);
     let mut turns = ROOM;
     while 0 < turns && t.state == MORE {
-        t = fill(t, input);
+        t = fill(t, reader, input);
         turns -= 1;
     }
     t

@@ -162,6 +162,7 @@ module _ (list : List ℕ) (ones : once (places list) ≡ true) where
   -- a bit is in the word of its head
   bits-word : (c : ℕ) (l : List ℕ) → ((w : ℕ) → Memᴰ w l → w < 4096) → (z : ℕ) → Memᴰ z (place_bits table c l) → z / 64 ≡ c - 1
   unfolding place_bits
+  bits-word c [] p z m = elim m [ ]
   bits-word c (w ∷ l) p z m = go (ℕ_discrete w 0) (bits-word c l (λ v i. p v (Memᴰ.tail i)) z)
     where
       there-in : Place w → (Memᴰ z (place_bits table c l) → z / 64 ≡ c - 1) → z / 64 ≡ c - 1

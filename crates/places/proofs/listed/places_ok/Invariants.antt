@@ -1,0 +1,10 @@
+-- `places::listed::places_ok` goes from the last place to the first. Assumes nothing.
+use Prim.Native.Nat.{◌-◌}
+use Rattle.places.proofs.SeenLaws.{Seeing}
+use Rattle.places.proofs.listed.places_ok.Given as goal
+
+abbrev pub invariant-loop-k : goal.invariant-loop-k
+invariant-loop-k l = Seeing l.n l.records l.sinks l.seen l.k
+
+abbrev pub decreases-loop-k : goal.decreases-loop-k
+decreases-loop-k l = l.k
