@@ -273,6 +273,19 @@ class Turner:
             alias[m.group(1)] = p
             text = text[: m.start()] + text[m.end() :]
 
+        # let k = c.before.f in, let e = c.f.ensures in   -> written out, where parts are told by their clause's or variable's name today
+        steps = {}
+        for m in list(re.finditer(r"let ([\w'-]+) = ([\w'-]+)((?:\.[\w'-]+)+) in\s*", text)):
+            segs = [s for s in m.group(3).split(".") if s and s != "before"]
+            source = m.group(2) in alias or m.group(2) in steps
+            told = segs[-1:] in (["ensures"], ["auto"]) or (segs == ["requires"] and self.n.r["pre"]) or (len(segs) == 1 and segs[0] not in ("args", "requires", "ranges"))
+            used = re.search(r"(?<![\w.'-])" + re.escape(m.group(1)) + r"(\.ensures|\.auto)?\.[01]", text)
+            if source and told and used and len(segs) <= 2:
+                steps[m.group(1)] = m.group(2) + m.group(3)
+                text = text.replace(m.group(0), "", 1)
+        for k in reversed(list(steps)):
+            text = re.sub(r"(?<![\w.'-])" + re.escape(k) + r"(?![\w'-])", lambda _: steps[k], text)
+
         def one(m):
             var, path = m.group(1), m.group(2)
             if var not in alias:
