@@ -106,8 +106,8 @@ class Names:
             if place is None:
                 return None
         old, new = self.places[place][1]
-        if rest[:1] == ["auto"] and self.places[place][2] in self.r["params"]:
-            # what a call keeps of the lengths, once a tuple over its parameters
+        if rest[:1] in (["auto"], ["new"]) and rest[1:2] in ([], ["0"], ["1"]) and self.places[place][2] in self.r["params"]:
+            # what a call keeps of the lengths, and leaves in what was lent to it: once a tuple over its parameters
             k, more = 0, rest[1:]
             params = self.r["params"][self.places[place][2]]
             while more and more[0] == "1" and k + 1 < len(params):
@@ -115,7 +115,7 @@ class Names:
             if more[:1] == ["0"]:
                 more = more[1:]
             if rest[1:]:
-                rest = ["auto", params[k]] + more
+                rest = [rest[0], params[k]] + more
         if rest[:1] == ["ensures"] and self.clauses[place]:
             rest = ["ensures"] + clause(rest[1:], self.clauses[place]["fields"])
         # what the type of a variable says

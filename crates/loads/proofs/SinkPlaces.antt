@@ -17,7 +17,7 @@ use Rattle.layout.specs.Refusal.{first}
 use Rattle.endian.specs.Bytes.{number, number_at}
 use Rattle.graph.specs.Numbers.{count, sum, gather}
 use Rattle.rules.specs.Buffers.{all_to, each_from, numbers, zeros}
-use Rattle.rules.specs.Image.{front_len, sinks_kind, body_of, kind_of, past, cut, left, listed, shaped, words_ok, saved_as_sink, saved_list, sinks_ok, objects_ok}
+use Rattle.rules.specs.Image.{front_len, sinks_kind, body_of, kind_of, past, cut, left, shaped, words_ok, saved_as_sink, saved_list, sinks_ok, objects_ok}
 use Rattle.rules.specs.Load.{objects, image_n, chunk_tests, sinks_before, bad_sinks, loaded_sinks}
 use Rattle.rules.proofs.BoolLaws.{or_split, and_split}
 use Rattle.rules.proofs.ListLaws.{length-numbers, length-each}
