@@ -134,7 +134,7 @@ unflagged-by r a b c p q s = s ∙ ap (with_reached false) (q ∙ ap (with_postp
 
 module _ (n : ℕ) (recs : List ℕ) where
   pub unflagged-members : unflagged n (members_marked n recs) ≡ unflagged n recs
-  unfolding unflagged members_marked each_record
+  unfolding unflagged members_marked member_marked each_record
   unflagged-members =
       each-each 1 n (λ x r. member_marked n recs r) (λ x r. unflagged_record r) recs
       ∙ each_same 1 n (λ x r. unflagged_record (member_marked n recs r)) (λ x r. unflagged_record r) recs (λ x r p q. unflagged-member r)
@@ -144,7 +144,7 @@ module _ (n : ℕ) (recs : List ℕ) where
       go false r = refl
 
       unflagged-member : (r : ℕ) → unflagged_record (member_marked n recs r) ≡ unflagged_record r
-      unflagged-member r = unfold member_marked in go (not (eqb (cluster r) 0) && is_reached (rec_of n recs (cluster r))) r
+      unflagged-member r = go (not (eqb (cluster r) 0) && is_reached (rec_of n recs (cluster r))) r
 
   module _ (long : n ≤ length recs) (x : ℕ) (o : Obj n x) where
     -- marked before, or a member of a cluster whose head is reached
