@@ -84,7 +84,7 @@ class Names:
 
     def above(self, goal, head):
         """The nearest place from the goal's on upwards whose step has this old name; port.py gave some another spelling."""
-        plain = lambda s: re.sub(r"(-lem)?$", "", norm(s).lower())
+        plain = lambda s: re.sub(r"-(?=\d+$)", "", re.sub(r"(-lem)?$", "", norm(s).lower()))
         for alike in (norm, plain, lambda s: re.sub(r"\d+$", "", plain(s))):
             q = goal
             while q is not None:
@@ -279,7 +279,7 @@ class Turner:
             segs = [s for s in m.group(3).split(".") if s and s != "before"]
             source = m.group(2) in alias or m.group(2) in steps
             told = segs[-1:] in (["ensures"], ["auto"]) or (segs == ["requires"] and self.n.r["pre"]) or (len(segs) == 1 and segs[0] not in ("args", "requires", "ranges"))
-            used = re.search(r"(?<![\w.'-])" + re.escape(m.group(1)) + r"(\.ensures|\.auto)?\.[01]", text)
+            used = re.search(r"(?<![\w.'-])" + re.escape(m.group(1)) + r"((\.ensures|\.auto)?\.[01]|(\.ensures|\.auto) in)", text)
             if source and told and used and len(segs) <= 2:
                 steps[m.group(1)] = m.group(2) + m.group(3)
                 text = text.replace(m.group(0), "", 1)
