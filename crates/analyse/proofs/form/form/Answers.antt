@@ -1,0 +1,57 @@
+-- `form` meets its contract. Assumes nothing.
+use mathlib.Core.Path.{◌∙◌}
+use mathlib.Core.List.{[]}
+use native.Mathlib.Omega.{arith}
+use Rattle.analyse.proofs.PartLaws.{links-filled}
+use Rattle.analyse.proofs.StartLaws.{prepared}
+use Rattle.analyse.proofs.form.form.Goals as goal
+
+pub overflow_mul-a : goal.overflow_mul-a
+overflow_mul-a c = omega arith
+
+pub overflow_add-a : goal.overflow_add-a
+overflow_add-a c = omega arith
+
+pub overflow_mul-b : goal.overflow_mul-b
+overflow_mul-b c = omega arith
+
+pub overflow_add-b : goal.overflow_add-b
+overflow_add-b c = omega arith
+
+pub offset_bounds-work-a : goal.offset_bounds-work-a
+offset_bounds-work-a c = omega arith
+
+pub slice_bounds-link-count : goal.slice_bounds-link-count
+slice_bounds-link-count c = omega arith
+
+pub slice_bounds-link-start : goal.slice_bounds-link-start
+slice_bounds-link-start c = omega arith
+
+pub slice_bounds-link-end : goal.slice_bounds-link-end
+slice_bounds-link-end c = omega (arith, c.requires.0.sized.work-long)
+
+pub put_states-requires : goal.put_states-requires
+put_states-requires c =
+    let z = c.requires.0.sized in
+    let l = links-filled _ _ _ _ z.room.most z.room.recs-long z.work-long c.link.auto.work c.link.ensures in
+    (z.room.recs-long, omega (arith, l.long, z.work-long), z.room.most)
+
+pub from_roots-requires : goal.from_roots-requires
+from_roots-requires c =
+    let s = c.requires in
+    let z = s.0.sized in
+    let l = links-filled _ _ _ _ z.room.most z.room.recs-long z.work-long c.link.auto.work c.link.ensures in
+    ((prepared _ _ _ _ _ _ _ _ _ _ s.0 l c.put_states.ensures).walked.walking, s.1, s.0.fit)
+
+pub shape_of-work : goal.shape_of-work
+shape_of-work c =
+    let z = c.requires.0.sized in
+    let l = links-filled _ _ _ _ z.room.most z.room.recs-long z.work-long c.link.auto.work c.link.ensures in
+    c.from_roots.auto.work ∙ c.put_states.ensures.long ∙ l.long
+
+pub returns : goal.returns
+returns c =
+    let s = c.requires in
+    let z = s.0.sized in
+    let l = links-filled _ _ _ _ z.room.most z.room.recs-long z.work-long c.link.auto.work c.link.ensures in
+    c.from_roots.ensures.after [] (prepared _ _ _ _ _ _ _ _ _ _ s.0 l c.put_states.ensures)

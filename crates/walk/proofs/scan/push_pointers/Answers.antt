@@ -1,0 +1,73 @@
+-- `push_pointers` meets its contract. The loop's invariant, `Pushing`: from here down it ends with the same words.
+use Prim.Native.Nat.{◌+◌, ◌-◌, ◌≤◌}
+use mathlib.Core.Path.{◌≡◌, refl, sym, ◌∙◌}
+use mathlib.Core.Bool.{true}
+use lib.ListN.{length, get_or}
+use Rattle.layout.specs.Limits.{within}
+use Rattle.walk.proofs.PendingLaws.{pushing-here, pushing-passed, pushing-room, pushing-inside, pushing-kept, pushing-done}
+use native.Mathlib.Omega.{arith}
+use Rattle.walk.proofs.scan.push_pointers.Goals as goal
+
+-- the word at hand is a pointer: there is room for it
+pub loop-j-init : goal.loop-j-init
+loop-j-init c = pushing-here _ _ _ _ _
+
+pub overflow_sub-j : goal.overflow_sub-j
+overflow_sub-j c = omega arith
+
+pub overflow_add-w : goal.overflow_add-w
+overflow_add-w c = omega arith
+
+pub offset_bounds-slots-from : goal.offset_bounds-slots-from
+offset_bounds-slots-from c = omega arith
+
+pub bounds-slots-from : goal.bounds-slots-from
+bounds-slots-from c = omega arith
+
+pub overflow_sub-at : goal.overflow_sub-at
+overflow_sub-at c = omega (
+  arith,
+  (let it : ((1 ≤ c.loop-j.at) × (c.loop-j.at ≤ length c.loop-j.work)) = let a = c.args in
+      let l = c.loop-j in
+      let t = c.loop-j-test.true in
+      let e : within 1 a.n (get_or a.slots.now (a.from + (l.j - 1)) 0) ≡ true = sym c.within.ensures ∙ c.if-within.true in
+      (pushing-room _ _ _ _ _ _ c.requires _ _ _ l.invariant t _ refl e, pushing-inside _ _ _ _ _ _ c.requires _ _ _ l.invariant t _ refl e) in it),
+)
+
+pub offset_bounds-work-at : goal.offset_bounds-work-at
+offset_bounds-work-at c = omega arith
+
+pub bounds-work-at : goal.bounds-work-at
+bounds-work-at c = omega (
+  arith,
+  (let it : ((1 ≤ c.loop-j.at) × (c.loop-j.at ≤ length c.loop-j.work)) = let a = c.args in
+      let l = c.loop-j in
+      let t = c.loop-j-test.true in
+      let e : within 1 a.n (get_or a.slots.now (a.from + (l.j - 1)) 0) ≡ true = sym c.within.ensures ∙ c.if-within.true in
+      (pushing-room _ _ _ _ _ _ c.requires _ _ _ l.invariant t _ refl e, pushing-inside _ _ _ _ _ _ c.requires _ _ _ l.invariant t _ refl e) in it),
+)
+
+pub loop-j-smaller-then-within : goal.loop-j-smaller-then-within
+loop-j-smaller-then-within c = omega arith
+
+pub loop-j-preserved-then-within : goal.loop-j-preserved-then-within
+loop-j-preserved-then-within c =
+    let l = c.loop-j in
+    let test = c.loop-j-test in
+    pushing-kept _ _ _ _ _ _ c.requires _ _ _ l.invariant test.true _ refl (sym c.within.ensures ∙ c.if-within.true)
+
+pub loop-j-smaller : goal.loop-j-smaller
+loop-j-smaller c = omega arith
+
+pub loop-j-preserved : goal.loop-j-preserved
+loop-j-preserved c =
+    let l = c.loop-j in
+    let test = c.loop-j-test in
+    pushing-passed _ _ _ _ _ _ c.requires _ _ _ l.invariant test.true _ refl (sym c.within.ensures ∙ c.if-within.false)
+
+pub shape_of-work : goal.shape_of-work
+shape_of-work c = c.loop-j.invariant.work-length
+
+pub returns : goal.returns
+returns c =
+    pushing-done _ _ _ _ _ _ c.requires _ _ _ c.loop-j.invariant c.loop-j-test.false
