@@ -1,6 +1,5 @@
 -- `heap::allocate::first_free` tries object after object. Assumes nothing.
 use mathlib.Core.Path.{refl, ◌∙◌}
-use Prim.Native.Nat.{◌-◌}
 use native.Mathlib.Omega.{arith}
 use Rattle.heap.proofs.AllocateLaws.{found, more, none}
 use Rattle.heap.proofs.allocate.first_free.Goals as goal

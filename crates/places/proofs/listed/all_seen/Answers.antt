@@ -1,6 +1,5 @@
 -- `places::listed::all_seen` goes object by object. Assumes nothing.
 use native.Mathlib.Omega.{arith}
-use Prim.Native.Nat.{◌-◌}
 use mathlib.Core.Path.{refl}
 use borrow.Author.Tests.{not-true, not-false}
 use Rattle.rules.specs.Buffers.{all_to}

@@ -1,6 +1,5 @@
 -- `places::listed::none_listed` looks at place after place. Assumes nothing.
 use native.Mathlib.Omega.{arith}
-use Prim.Native.Nat.{◌-◌}
 use mathlib.Core.Bool.{false≢true}
 use lib.ListN.{length-take}
 use Rattle.places.proofs.SeenLaws.{empty-more, empty-all}

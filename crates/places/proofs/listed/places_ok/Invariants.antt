@@ -1,5 +1,4 @@
 -- `places::listed::places_ok` goes from the last place to the first. Assumes nothing.
-use Prim.Native.Nat.{◌-◌}
 use Rattle.places.proofs.SeenLaws.{Seeing}
 use Rattle.places.proofs.listed.places_ok.Given as goal
 

@@ -1,6 +1,5 @@
 -- `places::members::put_members` goes object by object. Assumes nothing.
 use native.Mathlib.Omega.{arith}
-use Prim.Native.Nat.{◌-◌}
 use mathlib.Core.Path.{◌≡◌, ap, ◌∙◌}
 use lib.ListN.{length}
 use Rattle.places.proofs.PutLaws.{gather_none, gather-more, length-put}

@@ -1,6 +1,5 @@
 -- `places::sets::all_zero` looks at word after word. Assumes nothing.
 use native.Mathlib.Omega.{arith}
-use Prim.Native.Nat.{◌-◌}
 use mathlib.Core.Path.{refl}
 use Rattle.rules.specs.Buffers.{all_to}
 use Rattle.places.proofs.SeenLaws.{seen_more, seen-stop, seen_end}

@@ -1,9 +1,8 @@
 -- `places::sets::fill_places` goes place by place. Assumes nothing.
 use native.Mathlib.Omega.{arith}
-use Prim.Native.Nat.{ℕ, ◌+◌, ◌-◌}
+use Prim.Native.Nat.{ℕ, ◌+◌}
 use mathlib.Core.List.{List}
 use mathlib.Core.Path.{refl, sym, ap, ◌∙◌}
-use mathlib.Core.Logic.{⊎_elim}
 use lib.ListN.{length, set, get_or, length-set, length-take}
 use borrow.Author.Tests.{ltb-true, ltb-false}
 use Rattle.places.proofs.FillLaws.{left_end, left-put, left_out}

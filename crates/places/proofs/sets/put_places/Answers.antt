@@ -1,6 +1,5 @@
 -- `places::sets::put_places` puts place after place: what is left to put comes to the same. Assumes nothing.
 use native.Mathlib.Omega.{arith}
-use Prim.Native.Nat.{◌-◌}
 use mathlib.Core.Path.{refl, ap, ◌∙◌}
 use lib.ListN.{length}
 use borrow.Author.Tests.{ltb-true, ltb-false}
