@@ -16,8 +16,7 @@ all: build/libpakzid.a build/pakzid.h build/pakzid.pc
 
 # rt itself knows whether anything has to be built again.
 build/libpakzid.a: FORCE | build
-	rt staticlib pakzid
-	cp target/staticlib/libpakzid.a $@
+	bash tests/build.sh archive
 
 build/pakzid.h: include/pakzid.h | build
 	cp include/pakzid.h $@
@@ -33,8 +32,8 @@ test:
 	bash .ci/run
 
 run:
-	rt check replay
-	target/bin/replay examples/trials.calls
+	bash tests/build.sh replay
+	build/replay examples/trials.calls
 
 reports:
 	bash tests/replay/run.sh

@@ -1,6 +1,6 @@
 #!/usr/bin/env bash
 # Builds each example with the archive, runs it and compares what it prints with the file NAME.expected. The archive is that of the
-# argument, or one that is built first (rt staticlib pakzid).
+# argument, or one that is built first (tests/build.sh).
 set -euo pipefail
 
 archive=${1:-}
@@ -8,8 +8,8 @@ if [ -n "$archive" ]; then archive=$(realpath -- "$archive"); fi
 cd "$(dirname "$0")/.."
 
 if [ -z "$archive" ]; then
-    rt staticlib pakzid
-    archive=target/staticlib/libpakzid.a
+    bash tests/build.sh archive
+    archive=build/libpakzid.a
 fi
 mkdir -p build/examples
 for source in examples/*.c; do

@@ -1,5 +1,5 @@
 #!/usr/bin/env bash
-# Runs each C test of this folder against the archive: that of the argument, or one that is built first (rt staticlib pakzid).
+# Runs each C test of this folder against the archive: that of the argument, or one that is built first (tests/build.sh).
 set -euo pipefail
 
 archive=${1:-}
@@ -7,8 +7,8 @@ if [ -n "$archive" ]; then archive=$(realpath -- "$archive"); fi
 cd "$(dirname "$0")/../.."
 
 if [ -z "$archive" ]; then
-    rt staticlib pakzid
-    archive=target/staticlib/libpakzid.a
+    bash tests/build.sh archive
+    archive=build/libpakzid.a
 fi
 mkdir -p build/c
 for source in tests/c/*.c; do

@@ -4,7 +4,7 @@
 #
 #   tests/reference/run.sh [ARCHIVE]
 #
-# Without ARCHIVE the library is built first (rt staticlib pakzid). Every call that include/pakzid.h declares must come
+# Without ARCHIVE the library is built first (tests/build.sh). Every call that include/pakzid.h declares must come
 # from the archive. One run has a fixed seed and one a fresh seed, which is printed: build/reference/compare SEED COUNT
 # repeats it. (COUNT, from the environment or 2000, is the number of short call lists.)
 set -euo pipefail
@@ -24,8 +24,8 @@ die() {
 }
 
 if [ -z "$archive" ]; then
-    rt staticlib pakzid
-    archive=target/staticlib/libpakzid.a
+    bash tests/build.sh archive
+    archive=build/libpakzid.a
 fi
 [ -f "$archive" ] || die "there is no archive $archive"
 

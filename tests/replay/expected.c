@@ -1,5 +1,5 @@
 /*
- * expected.c - the report that target/bin/replay should print, made by other means.
+ * expected.c - the report that the program replay should print, made by other means.
  *
  *   expected LIST [LIST]
  *

@@ -4,15 +4,15 @@
 #
 #   tests/replay/run.sh [PROGRAM]
 #
-# Without PROGRAM the program is proved and built first (rt check replay). Half of the random lists have fixed seeds and half have fresh ones, from a first that is
+# Without PROGRAM the program is proved and built first (tests/build.sh). Half of the random lists have fixed seeds and half have fresh ones, from a first that is
 # printed. COUNT, from the environment or 200, is how many seeds there are: each gives a list alone and a pair of lists.
 set -euo pipefail
 
 program=${1:-}
 if [ -n "$program" ]; then program=$(realpath -- "$program"); fi
 cd "$(dirname "$0")/../.."
-if [ -z "$program" ]; then rt check replay; fi
-replay=${program:-$PWD/target/bin/replay}
+if [ -z "$program" ]; then bash tests/build.sh replay; fi
+replay=${program:-$PWD/build/replay}
 count=${COUNT:-200}
 out=build/replay
 mkdir -p "$out"
