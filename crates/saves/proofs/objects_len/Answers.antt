@@ -1,5 +1,4 @@
 -- `saves::objects_len` is the length of the objects' body. Invariant: the total so far is the length of the objects passed. Assumes nothing.
-use Prim.Native.Nat.{◌-◌}
 use mathlib.Core.Path.{◌≡◌, ap, ◌∙◌}
 use lib.ListN.{get_or}
 use Rattle.saves.proofs.SaveLaws.{len-none, len-step, len-most, len-bound}

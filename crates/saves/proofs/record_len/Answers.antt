@@ -1,6 +1,6 @@
 -- `saves::record_len` is what the object's bytes count. Assumes nothing.
 use native.Mathlib.Omega.{arith}
-use Prim.Native.Nat.{ℕ, ◌+◌, ◌*◌, ◌-◌}
+use Prim.Native.Nat.{ℕ, ◌+◌, ◌*◌}
 use mathlib.Core.Path.{sym, ap, ◌∙◌}
 use Rattle.saves.proofs.SaveLaws.{width-bound, len-used, len-free}
 use Rattle.saves.proofs.record_len.Goals as goal

@@ -1,5 +1,5 @@
 -- `saves::sinks_count` counts the filled places. Invariant: the total is that of the places passed. Assumes nothing.
-use Prim.Native.Nat.{ℕ, ◌-◌}
+use Prim.Native.Nat.{ℕ}
 use mathlib.Core.Path.{◌≡◌, sym, ap, ◌∙◌}
 use lib.ListN.{length, get_or}
 use Rattle.saves.proofs.SaveLaws.{first_sinks, sinks-none, count-step, count_most, place-most}

@@ -1,5 +1,5 @@
 -- `saves::write_objects` fills the body of kind 2. Invariant: the objects passed are stored, and `at` is their length. Assumes nothing.
-use Prim.Native.Nat.{ℕ, ◌-◌}
+use Prim.Native.Nat.{ℕ}
 use mathlib.Core.Path.{refl, ap, ◌∙◌}
 use mathlib.Core.List.{List}
 use lib.ListN.{get_or}

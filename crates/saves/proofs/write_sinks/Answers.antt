@@ -1,5 +1,5 @@
 -- `saves::write_sinks` fills the body of kind 0x8001. Invariant: the sinks in the places passed are stored. Assumes nothing.
-use Prim.Native.Nat.{ℕ, ◌-◌}
+use Prim.Native.Nat.{ℕ}
 use mathlib.Core.Path.{◌≡◌, refl, ap, ◌∙◌}
 use mathlib.Core.List.{List, [], ◌∷◌}
 use lib.ListN.{length, get_or}

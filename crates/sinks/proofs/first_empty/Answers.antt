@@ -1,5 +1,4 @@
 -- `sinks::first_empty` meets its contract: no place before k is empty. Assumes nothing.
-use Prim.Native.Nat.{◌-◌}
 use native.Mathlib.Omega.{arith}
 use borrow.Author.Tests.{ltb-true, ltb-false}
 use Rattle.sinks.proofs.SinkLaws.{filled_none, filled_more, found, past-list, past-places}

@@ -1,6 +1,5 @@
 -- `sinks::make_exact` is the pass over the records. Assumes nothing.
 use mathlib.Core.Path.{refl, ◌∙◌}
-use Prim.Native.Nat.{◌-◌}
 use lib.ListN.{length-set}
 use borrow.Author.Tests.{ltb-true, ltb-false}
 use Rattle.sinks.proofs.SinkLaws.{passed_none, passed-more, passed-past, passed-all}

@@ -1,5 +1,4 @@
 -- `sweep::clear_marks` is a pass over the records. Assumes nothing.
-use Prim.Native.Nat.{◌-◌}
 use borrow.Author.Tests.{ltb-true, ltb-false}
 use Rattle.sweep.proofs.MarkLaws.{unflagged-start}
 use Rattle.sweep.proofs.PassingLaws.{passing-start, passing-turn, passing-end, passing-past}

@@ -1,5 +1,4 @@
 -- `sweep::count_marked` counts record by record. Assumes nothing.
-use Prim.Native.Nat.{◌-◌}
 use borrow.Author.Tests.{ltb-false}
 use Rattle.sweep.proofs.MarkLaws.{marked-none, marked_more, marked-end, marked-past}
 use native.Mathlib.Omega.{arith}

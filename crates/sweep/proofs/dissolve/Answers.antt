@@ -1,5 +1,4 @@
 -- `sweep::dissolve` is a pass over the records that leaves what it reads of them. Assumes nothing.
-use Prim.Native.Nat.{◌-◌}
 use borrow.Author.Tests.{ltb-true, ltb-false}
 use Rattle.sweep.proofs.PassingLaws.{in-place-start, in-place-turn, passing-end, passing-past}
 use Rattle.sweep.proofs.MarkLaws.{head-same, head-mark}

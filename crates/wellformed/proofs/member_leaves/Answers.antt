@@ -1,5 +1,5 @@
 -- `wellformed::member_leaves` follows the words of members alone, and no nil. Assumes nothing.
-use borrow.Author.Tests.{eq-eqb, ne_eqb, eqb-true}
+use borrow.Author.Tests.{eq-eqb, ne_eqb}
 use mathlib.Core.Path.{◌≡◌, refl, sym}
 use mathlib.Core.Bool.{false, not}
 use mathlib.Core.List.{List}

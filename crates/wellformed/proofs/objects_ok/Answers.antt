@@ -1,6 +1,5 @@
 -- `wellformed::objects_ok`: the inner loop keeps what is left of an object's words, the outer one that all objects before passed. Assumes nothing.
 use mathlib.Core.Path.{refl, sym, ◌∙◌}
-use Prim.Native.Nat.{◌-◌}
 use borrow.Author.Tests.{not-true, not-false}
 use Rattle.wellformed.proofs.CheckLaws.{seen_none, seen_more, seen-bad, seen-fine, seen-leave, bad-record, bad-head, bad-slot, bad-out, good-object}
 use Rattle.wellformed.proofs.CheckLaws.{objects-none, objects-more, objects-all, objects-fail}

@@ -1,6 +1,6 @@
 -- `wellformed::roots_ok`: the loop keeps what is left of the roots. Assumes nothing.
 use mathlib.Core.Path.{refl, sym, ap, ◌∙◌}
-use Prim.Native.Nat.{ℕ, ◌-◌}
+use Prim.Native.Nat.{ℕ}
 use borrow.Author.Tests.{not-true, not-false}
 use Rattle.records.specs.Record.{in_use}
 use Rattle.wellformed.proofs.CheckLaws.{roots-begin, roots-end, root-nil, root-used, root-bad}

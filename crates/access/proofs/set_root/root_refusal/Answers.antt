@@ -2,7 +2,6 @@
 use borrow.Author.Tests.{ltb-true, ltb-false}
 use mathlib.Core.Path.{◌≡◌, sym, ◌∙◌}
 use mathlib.Core.Bool.{false}
-use mathlib.Core.Logic.{⊎_elim}
 use Rattle.layout.specs.ControlRecord.{bad_control}
 use Rattle.access.proofs.SetRootLaws as Laws
 use Rattle.access.proofs.set_root.root_refusal.Goals as goal

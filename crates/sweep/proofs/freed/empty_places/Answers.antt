@@ -1,5 +1,4 @@
 -- `sweep::freed::empty_places` is a pass over the places. Assumes nothing.
-use Prim.Native.Nat.{◌-◌}
 use borrow.Author.Tests.{ltb-true, ltb-false}
 use Rattle.sweep.proofs.FreedLaws.{emptied-start}
 use Rattle.sweep.proofs.PassingLaws.{passing-start, passing-turn, passing-end, passing-past}

@@ -1,5 +1,5 @@
 -- `sweep::freed::fill_map` is a pass over the words of the map. Assumes nothing.
-use Prim.Native.Nat.{◌+◌, ◌-◌}
+use Prim.Native.Nat.{◌+◌}
 use mathlib.Core.Path.{◌≡◌, refl, ap, ◌∙◌}
 use Rattle.bitmap.specs.Bits.{word_of}
 use Rattle.sweep.proofs.PassingLaws.{passing-start, passing-turn, passing-end}

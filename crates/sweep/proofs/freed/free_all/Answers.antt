@@ -1,5 +1,4 @@
 -- `sweep::freed::free_all` goes from word to word. Assumes nothing.
-use Prim.Native.Nat.{◌-◌}
 use mathlib.Core.Path.{refl}
 use Rattle.sweep.proofs.FreedLaws.{mapping-start, mapping-turn, mapping-end}
 use native.Mathlib.Omega.{arith}

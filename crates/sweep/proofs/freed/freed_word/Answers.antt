@@ -1,5 +1,5 @@
 -- `sweep::freed::freed_word` makes the word from its highest bit down. Assumes nothing.
-use Prim.Native.Nat.{◌<◌, ◌+◌, ◌-◌, ◌*◌, ◌^◌}
+use Prim.Native.Nat.{◌+◌, ◌-◌, ◌*◌}
 use mathlib.Core.Path.{◌≡◌, refl}
 use Rattle.bitmap.specs.Bits.{bits_of, word_of}
 use Rattle.graph.proofs.NumberLaws.{bit_le}

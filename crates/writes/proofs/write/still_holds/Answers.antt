@@ -1,5 +1,4 @@
 -- `writes::write::still_holds` meets its contract: no word before k, after the store, is the pointer. Assumes nothing.
-use Prim.Native.Nat.{◌-◌}
 use mathlib.Core.Path.{sym, ◌∙◌}
 use native.Mathlib.Omega.{arith}
 use Rattle.writes.proofs.WriteLaws.{place-low, place-there, other-slot, after-at, not_yet, still-there, not_there}
