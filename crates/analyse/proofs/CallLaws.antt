@@ -11,7 +11,6 @@ use lib.ListN.{length}
 use borrow.Author.Tests.{ltb-false}
 use borrow.Rule.Slice.PartMut.{mid_of, put_mid}
 use Rattle.layout.specs.declared.answers.Control.{Control}
-use Rattle.layout.specs.declared.answers.Analysed.{Analysed}
 use Rattle.layout.specs.Limits.{object_max, work_len}
 use Rattle.records.specs.Record.{is_sink}
 use Rattle.layout.specs.ControlRecord.{with_analysis}

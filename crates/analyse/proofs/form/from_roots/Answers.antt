@@ -1,5 +1,4 @@
 -- `from_roots` meets its contract. Assumes nothing.
-use Prim.Native.Nat.{◌-◌}
 use mathlib.Core.Path.{◌≡◌, refl, ◌∙◌}
 use Rattle.analyse.proofs.WalkLaws.{taken_in}
 use Rattle.analyse.proofs.StartLaws.{on_none, roots-more}

@@ -1,5 +1,4 @@
 -- `put_states` meets its contract. Assumes nothing.
-use Prim.Native.Nat.{◌-◌}
 use mathlib.Core.Path.{◌≡◌, refl, ap, ◌∙◌}
 use Rattle.records.specs.Record.{cluster}
 use Rattle.analyse.proofs.FillLaws.{fill_start, fill-turn}

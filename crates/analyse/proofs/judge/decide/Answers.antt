@@ -1,5 +1,4 @@
 -- `decide` meets its contract. Assumes nothing.
-use Prim.Native.Nat.{◌-◌}
 use mathlib.Core.Path.{◌≡◌, refl, ◌∙◌}
 use Rattle.analyse.proofs.FillLaws.{fill_start, fill-turn}
 use Rattle.analyse.proofs.JudgeLaws.{judging-now, left-same}

@@ -1,5 +1,4 @@
 -- `tally` meets its contract. Assumes nothing.
-use Prim.Native.Nat.{◌-◌}
 use mathlib.Core.Path.{◌≡◌, ◌∙◌}
 use Rattle.analyse.proofs.JudgeLaws.{judging-cleared, tally-start, tally-end, own-there, count-asks, count-skip, count-there, count_fits, count_turn}
 use Rattle.analyse.proofs.PartLaws.{zeros-filled}

@@ -1,5 +1,4 @@
 -- `used_count` meets its contract. Assumes nothing.
-use Prim.Native.Nat.{◌-◌}
 use mathlib.Core.Path.{ap, ◌∙◌}
 use Rattle.records.specs.Record.{in_use}
 use Rattle.graph.proofs.NumberLaws.{bit_le}

@@ -1,5 +1,4 @@
 -- `push_kids` meets its contract. Assumes nothing.
-use Prim.Native.Nat.{◌-◌}
 use mathlib.Core.Path.{ap, ◌∙◌}
 use Rattle.records.specs.Record.{width}
 use Rattle.analyse.proofs.PushLaws.{target_fits, slots-there, pushing-start, spot-left, spot-there, slot-there, pushing-turn, pushing-end}

@@ -1,5 +1,4 @@
 -- `push_pointers` meets its contract. The loop's invariant, `Pushing`: from here down it ends with the same words.
-use Prim.Native.Nat.{◌-◌}
 use lib.ListN.{drop}
 use Rattle.walk.proofs.PendingLaws.{Pushing}
 use Rattle.walk.proofs.scan.push_pointers.Given as goal
