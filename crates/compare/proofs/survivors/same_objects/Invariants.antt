@@ -1,0 +1,11 @@
+-- `compare::survivors::same_objects` compares one by one: what is left to compare decides as all did. Assumes nothing.
+use mathlib.Core.Path.{◌≡◌}
+use Prim.Native.Nat.{◌-◌}
+use Rattle.compare.specs.Survivors.{same_objects}
+use Rattle.compare.proofs.survivors.same_objects.Given as goal
+
+abbrev pub invariant-loop-i : goal.invariant-loop-i
+invariant-loop-i l = same_objects l.rec1 l.slot1 l.rec2 l.slot2 l.i (4095 - l.i) ≡ same_objects l.rec1 l.slot1 l.rec2 l.slot2 0 4095
+
+abbrev pub decreases-loop-i : goal.decreases-loop-i
+decreases-loop-i l = 4095 - l.i
