@@ -7,31 +7,30 @@ use heap::allocate::allocate;
 use heap::create::create;
 use layout::answers::Control;
 use layout::control::{new_control, usual_tuning, with_analysis, with_write_loss};
-use libc::STDOUT_FILENO;
 use writes::write::write;
 
 // ---- lines of output
 
-fn print(text: &[u8]) {
-    io::write_all(STDOUT_FILENO, text);
+fn print<R: Print>(rt: &R, text: &[u8]) {
+    let _ = rt.write_all(text);
 }
 
-fn print_number(trial: &[u8], k: u32) {
-    print(trial);
-    print(b": ");
-    io::print_decimal(STDOUT_FILENO, k as u64);
-    print(b"\n");
+fn print_number<R: Print>(rt: &R, trial: &[u8], k: u32) {
+    print(rt, trial);
+    print(rt, b": ");
+    let _ = rt.print(k);
+    print(rt, b"\n");
 }
 
-fn print_refusal(trial: &[u8], refusal: u32) {
-    print(trial);
+fn print_refusal<R: Print>(rt: &R, trial: &[u8], refusal: u32) {
+    print(rt, trial);
     if refusal == 0 {
-        print(b": accepted\n");
+        print(rt, b": accepted\n");
         return;
     }
-    print(b": refusal ");
-    io::print_decimal(STDOUT_FILENO, refusal as u64);
-    print(b"\n");
+    print(rt, b": refusal ");
+    let _ = rt.print(refusal);
+    print(rt, b"\n");
 }
 
 // ---- the trials
@@ -232,32 +231,40 @@ fn first_limit(used: u32) -> u32 {
     .limit
 }
 
-fn main() {
-    print_refusal(b"create, n 0", creating(0));
-    print_refusal(b"create, n 4096", creating(4096));
+fn main(rt: HostRuntime) {
+    print_refusal(&rt, b"create, n 0", creating(0));
+    print_refusal(&rt, b"create, n 4096", creating(4096));
     let mut enough = [0u32; 74];
-    print_refusal(b"analyse, n 1, 74 words of work", analysing(&mut enough));
     print_refusal(
+        &rt,
+        b"analyse, n 1, 74 words of work",
+        analysing(&mut enough),
+    );
+    print_refusal(
+        &rt,
         b"collect plainly, n 1, 74 words of work",
         collecting(false, &mut enough),
     );
     print_refusal(
+        &rt,
         b"collect by clusters, n 1, 74 words of work",
         collecting(true, &mut enough),
     );
     let mut less = [0u32; 73];
-    print_refusal(b"analyse, n 1, 73 words of work", analysing(&mut less));
+    print_refusal(&rt, b"analyse, n 1, 73 words of work", analysing(&mut less));
     print_refusal(
+        &rt,
         b"collect plainly, n 1, 73 words of work",
         collecting(false, &mut less),
     );
     print_refusal(
+        &rt,
         b"collect by clusters, n 1, 73 words of work",
         collecting(true, &mut less),
     );
-    print_refusal(b"allocate, width 9", allocating(9));
-    print_refusal(b"write of 0x7FFFFFFF", writing(0x7FFFFFFF));
-    print_number(b"size limit 17, halved", halved(17));
-    print_number(b"first limit, 143 in use", first_limit(143));
-    print_number(b"first limit, 144 in use", first_limit(144));
+    print_refusal(&rt, b"allocate, width 9", allocating(9));
+    print_refusal(&rt, b"write of 0x7FFFFFFF", writing(0x7FFFFFFF));
+    print_number(&rt, b"size limit 17, halved", halved(17));
+    print_number(&rt, b"first limit, 143 in use", first_limit(143));
+    print_number(&rt, b"first limit, 144 in use", first_limit(144));
 }
