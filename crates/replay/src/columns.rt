@@ -1,5 +1,7 @@
 // Two lists that are run on the buffers of their columns, line by line.
+use crate::checks::List;
 use crate::memory::*;
+use crate::page::fail;
 use calls::{Ran, answer, as_run, run};
 use compare::turns::*;
 use files::*;
@@ -63,9 +65,11 @@ pub(crate) fn is_reading(b: Both) -> bool {
 }
 
 // The column after its next line.
-fn next(
+fn next<R: Eprint>(
+    rt: &R,
     p: Column,
     side: usize,
+    lists: &mut [List; 2],
     input: &mut [Text; 2],
     records: &mut Records,
     slots: &mut Slots,
@@ -79,9 +83,9 @@ fn next(
     if 1 < side {
         return p;
     }
-    let source = next_line(p.source, &mut input[side]);
+    let source = next_line(p.source, &mut lists[side], &mut input[side]);
     if source.state == FAILED {
-        os::fail(b"read");
+        fail(rt, "read", lists[side].why);
     }
     if source.state != LINE {
         return standing(p, DONE);
@@ -110,8 +114,10 @@ fn next(
 }
 
 // Both columns after the next line of the left one, if it is on its way, or else of the right one.
-pub(crate) fn step(
+pub(crate) fn step<R: Eprint>(
+    rt: &R,
     b: Both,
+    lists: &mut [List; 2],
     input: &mut [Text; 2],
     records: &mut Records,
     slots: &mut Slots,
@@ -127,11 +133,11 @@ pub(crate) fn step(
     let verdict = b.verdict;
     if left.state == READING {
         left = next(
-            left, 0, input, records, slots, roots, sinks, sets, work, map, images,
+            rt, left, 0, lists, input, records, slots, roots, sinks, sets, work, map, images,
         );
     } else {
         right = next(
-            right, 1, input, records, slots, roots, sinks, sets, work, map, images,
+            rt, right, 1, lists, input, records, slots, roots, sinks, sets, work, map, images,
         );
     }
     Both {

@@ -50,7 +50,14 @@ fn object_cell(s: &mut Text, at: usize, i: u32, records: &[u32], slots: &[u32]) 
 }
 
 // The row of object i + 1, unless it is free in both columns.
-fn object_row(page: &mut Text, at: usize, i: u32, recs: &Records, slots: &Slots) -> usize {
+fn object_row<R: Print + Eprint>(
+    rt: &R,
+    page: &mut Text,
+    at: usize,
+    i: u32,
+    recs: &Records,
+    slots: &Slots,
+) -> usize {
     let x = word_at(&recs[0], i as usize);
     let y = word_at(&recs[1], i as usize);
     if x == 0 && y == 0 {
@@ -62,7 +69,7 @@ fn object_row(page: &mut Text, at: usize, i: u32, recs: &Records, slots: &Slots)
     let call = form(&mut s, 0, b"* object %\nobject %", k, i as u64 + 1);
     let left = object_cell(&mut s, call, i, &recs[0], &slots[0]);
     let right = object_cell(&mut s, left, i, &recs[1], &slots[1]);
-    put_row(page, at, &s, call, left, right)
+    put_row(rt, page, at, &s, call, left, right)
 }
 
 // Root j of a column of r roots.
@@ -74,7 +81,15 @@ fn root_cell(s: &mut Text, at: usize, j: u32, r: u32, roots: &[u32]) -> usize {
 }
 
 // The row of root j of columns of r and q roots, if one of them has it.
-fn root_row(page: &mut Text, at: usize, j: u32, r: u32, q: u32, roots: &Roots) -> usize {
+fn root_row<R: Print + Eprint>(
+    rt: &R,
+    page: &mut Text,
+    at: usize,
+    j: u32,
+    r: u32,
+    q: u32,
+    roots: &Roots,
+) -> usize {
     if r <= j && q <= j {
         return at;
     }
@@ -83,7 +98,7 @@ fn root_row(page: &mut Text, at: usize, j: u32, r: u32, q: u32, roots: &Roots) -
     let call = form(&mut s, 0, b"* root %\nroot %", same as usize, j as u64);
     let left = root_cell(&mut s, call, j, r, &roots[0]);
     let right = root_cell(&mut s, left, j, q, &roots[1]);
-    put_row(page, at, &s, call, left, right)
+    put_row(rt, page, at, &s, call, left, right)
 }
 
 // Whether all of the words are 0.
@@ -97,21 +112,34 @@ fn is_empty(words: &[u32]) -> bool {
 }
 
 // The objects that survive.
-fn object_rows(page: &mut Text, from: usize, recs: &Records, slots: &Slots) -> usize {
+fn object_rows<R: Print + Eprint>(
+    rt: &R,
+    page: &mut Text,
+    from: usize,
+    recs: &Records,
+    slots: &Slots,
+) -> usize {
     let mut at = from;
     if is_empty(&recs[0]) && is_empty(&recs[1]) {
-        at = line(page, at, b"none");
+        at = line(rt, page, at, b"none");
     }
     for i in 0..OBJECT_MAX {
-        at = object_row(page, at, i, recs, slots);
+        at = object_row(rt, page, at, i, recs, slots);
     }
     at
 }
 
-fn root_rows(page: &mut Text, from: usize, r: u32, q: u32, roots: &Roots) -> usize {
+fn root_rows<R: Print + Eprint>(
+    rt: &R,
+    page: &mut Text,
+    from: usize,
+    r: u32,
+    q: u32,
+    roots: &Roots,
+) -> usize {
     let mut at = from;
     for j in 0..ROOT_MAX {
-        at = root_row(page, at, j, r, q, roots);
+        at = root_row(rt, page, at, j, r, q, roots);
     }
     at
 }
@@ -126,7 +154,15 @@ struct Told {
 }
 
 // Tells of object x of a column, if it changed hands, as its word says.
-fn tell(t: Told, page: &mut Text, one: bool, is_left: bool, x: u64, word: u64) -> Told {
+fn tell<R: Print + Eprint>(
+    rt: &R,
+    t: Told,
+    page: &mut Text,
+    one: bool,
+    is_left: bool,
+    x: u64,
+    word: u64,
+) -> Told {
     if word <= FREED {
         return t;
     }
@@ -144,29 +180,36 @@ fn tell(t: Told, page: &mut Text, one: bool, is_left: bool, x: u64, word: u64) -
     let object = place / 8 + 1;
     let end = say(page, t.at, &AGAIN, row, x, line, slot, object);
     Told {
-        at: end_line(page, end),
+        at: end_line(rt, page, end),
         any: true,
     }
 }
 
 // What changed hands.
-fn hands_part(page: &mut Text, at: usize, one: bool, hands: &Hands) -> usize {
+fn hands_part<R: Print + Eprint>(
+    rt: &R,
+    page: &mut Text,
+    at: usize,
+    one: bool,
+    hands: &Hands,
+) -> usize {
     let mut t = Told { at, any: false };
     for x in 0..OBJECT_MAX + 1 {
-        t = tell(t, page, one, true, x as u64, hand_of(hands, true, x));
-        t = tell(t, page, one, false, x as u64, hand_of(hands, false, x));
+        t = tell(rt, t, page, one, true, x as u64, hand_of(hands, true, x));
+        t = tell(rt, t, page, one, false, x as u64, hand_of(hands, false, x));
     }
     if t.any {
         t.at
     } else {
-        line(page, t.at, b"none")
+        line(rt, page, t.at, b"none")
     }
 }
 
 // ---- the verdict
 
 // The last line. `whole` says whether both lists were read to the last line that was checked, `same` whether the same survives in both columns.
-pub(crate) fn verdict_line(
+pub(crate) fn verdict_line<R: Print + Eprint>(
+    rt: &R,
     page: &mut Text,
     at: usize,
     one: bool,
@@ -187,12 +230,13 @@ pub(crate) fn verdict_line(
     };
     let first = if v.left == 0 { v.right } else { v.left };
     let last = say(page, at, &VERDICTS, row, first, v.right, 0, 0);
-    let end = end_line(page, last);
-    flush(libc::STDOUT_FILENO, page, end);
+    let end = end_line(rt, page, last);
+    flush(rt, rt, page, end);
 }
 
 // What follows the rows of the calls but for the last line, for columns of r and q roots; answers the place after it.
-pub(crate) fn ends(
+pub(crate) fn ends<R: Print + Eprint>(
+    rt: &R,
     page: &mut Text,
     at: usize,
     one: bool,
@@ -203,12 +247,12 @@ pub(crate) fn ends(
     slots: &Slots,
     roots: &Roots,
 ) -> usize {
-    let survivors = line(page, at, b"\nSurvivors");
-    let objects = object_rows(page, survivors, recs, slots);
-    let rows = root_rows(page, objects, r, q, roots);
-    let head = line(page, rows, b"\nObjects that changed hands");
-    let told = hands_part(page, head, one, hands);
-    end_line(page, told)
+    let survivors = line(rt, page, at, b"\nSurvivors");
+    let objects = object_rows(rt, page, survivors, recs, slots);
+    let rows = root_rows(rt, page, objects, r, q, roots);
+    let head = line(rt, page, rows, b"\nObjects that changed hands");
+    let told = hands_part(rt, page, head, one, hands);
+    end_line(rt, page, told)
 }
 
 // Whether the same survives in columns of r and q roots.

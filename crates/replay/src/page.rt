@@ -2,6 +2,8 @@
 use crate::memory::*;
 use crate::text::*;
 use files::*;
+use std::fmt::InlineText;
+use std::io;
 
 // The widths of the cells: that of a call, and those of two answers.
 const CALL: usize = 31;
@@ -20,32 +22,41 @@ struct Row {
     pub right: usize,
 }
 
-// Writes the page out, and answers its next place, 0.
-pub(crate) fn flush(fd: i32, page: &Text, at: usize) -> usize {
+// Says on standard error what failed, and why in the system's words, without the number that the library puts behind them.
+pub(crate) fn fail<R: Eprint>(rt: &R, what: &str, why: io::Error) {
+    let said = InlineText::<256>::of(why);
+    let words = match said.as_str().split_once(" (os error ") {
+        Some((words, _)) => words,
+        None => said.as_str(),
+    };
+    let _ = eprintln!(rt; "{what}: {words}");
+}
+
+// Writes the page out to `to`, and answers its next place, 0.
+pub(crate) fn flush<R: Eprint, W: Print>(rt: &R, to: &W, page: &Text, at: usize) -> usize {
     let whole = &page[..];
     if ROOM < at {
         return 0;
     }
-    let is_written = io::write_all(fd, &whole[0..at]);
-    if !is_written {
-        os::fail(b"write");
+    if let Err(e) = to.write_all(&whole[0..at]) {
+        fail(rt, "write", e);
     }
     0
 }
 
 // The end of a line.
-pub(crate) fn end_line(page: &mut Text, at: usize) -> usize {
+pub(crate) fn end_line<R: Print + Eprint>(rt: &R, page: &mut Text, at: usize) -> usize {
     let end = text(page, at, b"\n");
     if FULL < end {
-        flush(libc::STDOUT_FILENO, page, end)
+        flush(rt, rt, page, end)
     } else {
         end
     }
 }
 
-pub(crate) fn line(page: &mut Text, at: usize, t: &[u8]) -> usize {
+pub(crate) fn line<R: Print + Eprint>(rt: &R, page: &mut Text, at: usize, t: &[u8]) -> usize {
     let end = text(page, at, t);
-    end_line(page, end)
+    end_line(rt, page, end)
 }
 
 fn is_blank(cells: &Text, i: usize) -> bool {
@@ -86,7 +97,7 @@ fn padded(page: &mut Text, at: usize, cells: &Text, from: usize, to: usize, room
 }
 
 // The next line of the row from these places on, where its cells end at those.
-fn row_line(page: &mut Text, cells: &Text, from: Row, ends: Row) -> Row {
+fn row_line<R: Print + Eprint>(rt: &R, page: &mut Text, cells: &Text, from: Row, ends: Row) -> Row {
     let a = line_stop(cells, from.call, ends.call, CALL);
     let b = line_stop(cells, from.left, ends.left, ANSWER);
     let c = line_stop(cells, from.right, ends.right, ANSWER);
@@ -96,7 +107,7 @@ fn row_line(page: &mut Text, cells: &Text, from: Row, ends: Row) -> Row {
     let last = form(page, second, b" |\n | ", (from.right < c) as usize, 0);
     let end = copy(page, last, cells, from.right, c);
     Row {
-        at: end_line(page, end),
+        at: end_line(rt, page, end),
         call: past(cells, a, ends.call),
         left: past(cells, b, ends.left),
         right: past(cells, c, ends.right),
@@ -109,7 +120,15 @@ fn has_more(from: Row, ends: Row) -> bool {
 }
 
 // Writes the row of the three cells, which end at a, b and c, and answers the place after it.
-pub(crate) fn put_row(page: &mut Text, at: usize, s: &Text, a: usize, b: usize, c: usize) -> usize {
+pub(crate) fn put_row<R: Print + Eprint>(
+    rt: &R,
+    page: &mut Text,
+    at: usize,
+    s: &Text,
+    a: usize,
+    b: usize,
+    c: usize,
+) -> usize {
     let ends = Row {
         at,
         call: a,
@@ -124,7 +143,7 @@ pub(crate) fn put_row(page: &mut Text, at: usize, s: &Text, a: usize, b: usize, 
     };
     let mut turns = ROOM;
     while 0 < turns && has_more(from, ends) {
-        from = row_line(page, s, from, ends);
+        from = row_line(rt, page, s, from, ends);
         turns -= 1;
     }
     from.at

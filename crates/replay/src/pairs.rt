@@ -52,7 +52,14 @@ fn has_row(t: Turn, j: usize, x: Ran, k: usize, y: Ran) -> bool {
 }
 
 // The row of a turn, if it has one; answers the place in the page after it.
-fn turn_row(b: Both, t: Turn, page: &mut Text, slots: &Slots, map: &Map) -> usize {
+fn turn_row<R: Print + Eprint>(
+    rt: &R,
+    b: Both,
+    t: Turn,
+    page: &mut Text,
+    slots: &Slots,
+    map: &Map,
+) -> usize {
     let l = b.left;
     let r = b.right;
     if !has_row(t, l.call.kind, l.ran, r.call.kind, r.ran) {
@@ -67,7 +74,7 @@ fn turn_row(b: Both, t: Turn, page: &mut Text, slots: &Slots, map: &Map) -> usiz
     let call = call_cell(&mut s, t, b.one, m, l.call, n, r.call);
     let left = answer_cell(&mut s, call, l, j, &slots[0], &map[0]);
     let right = answer_cell(&mut s, left, r, k, &slots[1], &map[1]);
-    put_row(page, b.at, &s, call, left, right)
+    put_row(rt, page, b.at, &s, call, left, right)
 }
 
 // ---- going on
@@ -114,7 +121,8 @@ fn onward(p: Column, is_there: bool) -> Column {
 }
 
 // The next turn of two columns that both wait: its row, what changed hands at it, and the first difference.
-pub(crate) fn turn(
+pub(crate) fn turn<R: Print + Eprint>(
+    rt: &R,
     b: Both,
     page: &mut Text,
     hands: &mut Hands,
@@ -126,7 +134,7 @@ pub(crate) fn turn(
     let l = b.left;
     let r = b.right;
     let t = turn_of(l, r, slots, map);
-    let at = turn_row(b, t, page, slots, map);
+    let at = turn_row(rt, b, t, page, slots, map);
     note_turn(l, r, t, hands, records, slots, roots, map);
     Both {
         left: onward(l, t.has_left),

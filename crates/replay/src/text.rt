@@ -1,6 +1,7 @@
 // Text in a buffer: each function puts it from the place `at` on and answers the place after it. What does not fit is left out.
 use crate::memory::*;
 use files::*;
+use std::fmt::InlineText;
 
 fn put(s: &mut Text, at: usize, b: u8) -> usize {
     if at < ROOM {
@@ -38,17 +39,15 @@ pub(crate) fn blanks(s: &mut Text, at: usize, count: usize) -> usize {
 }
 
 fn decimal(s: &mut Text, at: usize, n: u64) -> usize {
-    let mut digits = [0u8; 20];
-    let k = io::decimal(n, &mut digits);
-    text(s, at, &digits[..k])
+    let digits = InlineText::<20>::of(n);
+    text(s, at, digits.as_str().as_bytes())
 }
 
 // Eight digits after 0x.
 fn hex(s: &mut Text, at: usize, n: u64) -> usize {
-    let mut digits = [0u8; 16];
-    let k = io::hex(n, 8, &mut digits);
+    let digits = InlineText::<16>::of(format_args!("{n:08x}"));
     let end = text(s, at, b"0x");
-    text(s, end, &digits[..k])
+    text(s, end, digits.as_str().as_bytes())
 }
 
 // A byte of a form, where % stands for n as a decimal number and $ for n as a hexadecimal one.
