@@ -22,13 +22,18 @@ struct Row {
     pub right: usize,
 }
 
-// Says on standard error what failed, and why in the system's words, without the number that the library puts behind them.
+// The text of an error without the number that the library puts behind the system's words.
+fn words_of(said: &str) -> &str {
+    match said.split_once(" (os error ") {
+        Some((words, _)) => words,
+        None => said,
+    }
+}
+
+// Says on standard error what failed, and why in the system's words.
 pub(crate) fn fail<R: Eprint>(rt: &R, what: &str, why: io::Error) {
     let said = InlineText::<256>::of(why);
-    let words = match said.as_str().split_once(" (os error ") {
-        Some((words, _)) => words,
-        None => said.as_str(),
-    };
+    let words = words_of(said.as_str());
     let _ = eprintln!(rt; "{what}: {words}");
 }
 
