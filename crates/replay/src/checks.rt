@@ -24,7 +24,7 @@ expected create, and the list has no call
 the line is longer than 4096 bytes
 ";
 
-// The file of a list, and why it could not be opened, read or set back last: of success while nothing failed.
+// The file of a list, and what failed last as it was opened, read or set back: error 0, success, while nothing did.
 #[derive(Drop)]
 pub(crate) struct List {
     pub file: Option<File>,
@@ -154,8 +154,8 @@ fn open<R: Files<File = File>>(rt: &R, path: &str, list: &mut List) {
     }
 }
 
-// Opens the list at path, checks it, says what is wrong with it, and sets it back to its first line. It is the list of column `fd`. A name of the
-// build that wrote, of this length, is known already.
+// Opens the list at path, checks it, says what is wrong with it, and sets it back to its first line. It is number `fd` of the lists, 0 or 1. A
+// name of the build that wrote, of this length, is known already.
 pub(crate) fn check_path<R: Files<File = File> + Eprint, W: Print>(
     rt: &R,
     err: &W,

@@ -32,7 +32,7 @@ const HEADS: [u8; 161] =
     *b"Call                            | Build that wrote               | Build that loaded
 Call                            | Plain heap                     | As listed";
 
-// The system's numbers for an argument that is not there, one that is too long, and one that is no text.
+// The system's numbers for an argument that is not there, one that is too long, and one that is not UTF-8.
 const NO_ARG: i32 = 22;
 
 const TOO_LONG_NAME: i32 = 36;
@@ -193,7 +193,7 @@ fn has_arg<R: Env>(rt: &R, i: usize) -> bool {
     }
 }
 
-// Argument i, which is put into the buffer; where it does not fit there or is no text, that is said on standard error.
+// Argument i, which is put into the buffer. Where it does not fit or is not UTF-8, standard error is told, and the argument is called `what`.
 fn arg<'a, R: Env + Eprint>(
     rt: &R,
     i: usize,
