@@ -84,6 +84,14 @@ module _ (c : Control) (width : ℕ) (recs slots : List ℕ) where
     pub too_short : object_room (length recs) (length slots) < c.n → Refusal 2 ≡ choice c width recs slots
     too_short l = refuses 2 (unfold allocate_tests first short in (rw (b, object-room-short _ _ _ l) refl)) (λ (q : 2 ≡ 0). omega arith)
 
+    -- the two ways to be too short, one by one
+    pub few-records : length recs < c.n → Refusal 2 ≡ choice c width recs slots
+    few-records l = refuses 2 (unfold allocate_tests first short in (rw (b, lt-ltb _ _ l) refl)) (λ (q : 2 ≡ 0). omega arith)
+
+    module _ (l : c.n ≤ length recs) where
+      pub few-slots : length slots < slots_len c.n → Refusal 2 ≡ choice c width recs slots
+      few-slots m = refuses 2 (unfold allocate_tests first short in (rw (b, le-ltb _ _ l, lt-ltb _ _ m) refl)) (λ (q : 2 ≡ 0). omega arith)
+
     module _ (l : c.n ≤ length recs) (m : slots_len c.n ≤ length slots) where
       pub too_wide : 8 < width → Refusal 3 ≡ choice c width recs slots
       too_wide w = refuses 3 (unfold allocate_tests first short in (rw (b, le-ltb _ _ l, le-ltb _ _ m, lt-ltb _ _ w) refl)) (λ (q : 3 ≡ 0). omega arith)
