@@ -8,24 +8,26 @@ no call made; illegal records, wrong out bits, lists and sets, clusters without 
 range), and IMAGES loads (of images as they should be, and with bytes, lengths, kinds and chunks changed, that of the sinks
 above all), with a few of either whose list of sinks is full, are run through the reference, under tunings of all kinds. Each answer, with the control
 record, every word of every buffer and every byte of a saved image, is written out as a theorem over the definitions, proved
-by computation, in a crate of its own under target/definitions. `rt dev` accepts it only if all agree. Printed are the last
-calls by their answer, and how often the reference took each of its paths. It is no part of the gate, which needs no
-Python."""
-import ctypes as C, itertools, os, random, re, shutil, subprocess, sys
+by computation, in a crate of its own, and `rt check` there accepts it only if all agree. Printed are the last calls by their
+answer, and how often the reference took each of its paths. It is no part of the gate, which needs no Python.
+
+The crate, and those that it rests on, are written to a new temporary folder outside the checkout, since `rt ci` refuses .rt and
+.antt files anywhere in the checkout but in the crates of crates.txt, also in folders that git ignores. The folder is removed
+where all agree; else it stays, and its path is printed."""
+import ctypes as C, itertools, os, random, re, shutil, subprocess, sys, tempfile
 
 seed, made, hostile, images = ([int(x) for x in sys.argv[1:]] + [1, 100, 500, 200][len(sys.argv) - 1:])[:4]
 top = os.path.abspath(os.path.join(os.path.dirname(__file__), '..', '..'))
-build = f'{top}/target/definitions'
-shutil.rmtree(build, ignore_errors=True)
+build = tempfile.mkdtemp(prefix='definitions-')
 os.makedirs(f'{build}/crates/sample/src')
 os.makedirs(f'{build}/crates/sample/specs')
 subprocess.run(['gcc', '-shared', '-fPIC', '-O2', '-I', f'{top}/include', '-o', f'{build}/libref.so', f'{top}/tests/reference/reference.c'], check=True)
 crates = ('layout', 'endian', 'records', 'bitmap', 'graph', 'rules')
-function = 'pub fn version() -> u32 {\n    1\n}\n'
+function = '#![tactic(auto)]\n\npub fn version() -> u32 {\n    1\n}\n'
 for crate in crates:
     # Of these three the definitions are enough, so that their functions and theorems need not be proved first.
     bare = ('src', 'proofs') if crate in ('endian', 'graph', 'rules') else ()
-    shutil.copytree(f'{top}/crates/{crate}', f'{build}/crates/{crate}', ignore=shutil.ignore_patterns('must-fail', *bare))
+    shutil.copytree(f'{top}/crates/{crate}', f'{build}/crates/{crate}', ignore=shutil.ignore_patterns('must-fail', 'out', *bare))
     if bare:
         os.makedirs(f'{build}/crates/{crate}/src')
         open(f'{build}/crates/{crate}/src/lib.rt', 'w').write(function)
@@ -43,77 +45,74 @@ for crate in crates:
         found = re.findall(r'^\s*unfoldable pub (\S+)', open(f'{top}/crates/{crate}/specs/{file}', encoding='utf8').read(), re.M)
         if found:
             name = crate[0].upper() + module
-            what = {'RSteps': '.{State, created, step, afterAll}', 'RCollect': '.{plainly, byClusters}'}.get(name)
+            what = {'RSteps': '.{State, created, step, after_all}', 'RCollect': '.{plainly, by_clusters}'}.get(name)
             if what:
-                uses.append(f'use Rattle·{crate}.specs.{module}{what}')
-            uses.append(f'use Rattle·{crate}.specs.{module} as {name}')
+                uses.append(f'use Rattle.{crate}.specs.{module}{what}')
+            uses.append(f'use Rattle.{crate}.specs.{module} as {name}')
             names += [f'{name}.{x}' for x in found]
-unfolding = 'unfolding observed ctl nth stateOf ' + ' '.join(names)
+unfolding = 'unfolding observed ctl nth state_of ' + ' '.join(names)
 definitions = '''
 unfoldable pub ctl : Control → List ℕ
 ctl c =
-    c .n ∷ c .r ∷ c .last ∷ c .limit ∷ c .«write_loss» ∷ c .«out_loss»
-    ∷ c .tuning .«least_members» ∷ c .tuning .«outs_per_ten» ∷ c .tuning .«lowest_limit» ∷ []
+    c.n ∷ c.r ∷ c.last ∷ c.limit ∷ c.write_loss ∷ c.out_loss
+    ∷ c.tuning.least_members ∷ c.tuning.outs_per_ten ∷ c.tuning.lowest_limit ∷ []
 
 unfoldable pub nth : List ℕ → ℕ → ℕ
-nth l i = getD l i 0
+nth l i = get_or l i 0
 
-unfoldable pub stateOf : List ℕ → List ℕ → List ℕ → List ℕ → List ℕ → List ℕ → State
-stateOf c recs slots roots list sets = record {
-  control = LControlRecord.controlWith (nth c 2) (nth c 3) (nth c 4) (nth c 5) 
-    (LControlRecord.newControl (nth c 0) (nth c 1) (LControlRecord.tuningOf (nth c 6) (nth c 7) (nth c 8)));
+unfoldable pub state_of : List ℕ → List ℕ → List ℕ → List ℕ → List ℕ → List ℕ → State
+state_of c recs slots roots list sets = record {
+  control = LControlRecord.control_with (nth c 2) (nth c 3) (nth c 4) (nth c 5)
+    (LControlRecord.new_control (nth c 0) (nth c 1) (LControlRecord.tuning_of (nth c 6) (nth c 7) (nth c 8)));
   records = recs; slots = slots; roots = roots; sinks = list; sets = sets;
 }
 
 unfoldable pub observed : Call → State → List (List ℕ)
 observed (allocate width) s =
-    let o = RAllocate.allocate (s .control) width (s .records) (s .slots) in
-    (o .answer .refusal ∷ o .answer .object ∷ []) ∷ ctl (o .answer .control) ∷ o .records ∷ o .slots ∷ s .roots ∷ s .sinks ∷ s .sets ∷ []
-observed (allocateInPlace width) s =
-    let o = RAllocate.allocateInPlace (s .control) width (s .records) (s .slots) in
-    (o .answer .refusal ∷ o .answer .object ∷ []) ∷ ctl (o .control) ∷ o .records ∷ o .slots ∷ s .roots ∷ s .sinks ∷ s .sets ∷ []
+    let o = RAllocate.allocate s.control width s.records s.slots in
+    (o.answer.refusal ∷ o.answer.object ∷ []) ∷ ctl o.answer.control ∷ o.records ∷ o.slots ∷ s.roots ∷ s.sinks ∷ s.sets ∷ []
+observed (allocate_in_place width) s =
+    let o = RAllocate.allocate_in_place s.control width s.records s.slots in
+    (o.answer.refusal ∷ o.answer.object ∷ []) ∷ ctl o.control ∷ o.records ∷ o.slots ∷ s.roots ∷ s.sinks ∷ s.sets ∷ []
 observed (read i k) s =
-    let o = RRead.read (s .control) i k (s .records) (s .slots) in
-    (o .refusal ∷ o .word ∷ []) ∷ ctl (o .control) ∷ s .records ∷ s .slots ∷ s .roots ∷ s .sinks ∷ s .sets ∷ []
+    let o = RRead.read s.control i k s.records s.slots in
+    (o.refusal ∷ o.word ∷ []) ∷ ctl o.control ∷ s.records ∷ s.slots ∷ s.roots ∷ s.sinks ∷ s.sets ∷ []
 observed (show i) s =
-    let o = RShow.show (s .control) i (s .records) (s .slots) in
-    (o .answer .refusal ∷ []) ∷ o .words ∷ ctl (o .answer .control) ∷ s .records ∷ s .slots ∷ s .roots ∷ s .sinks ∷ s .sets ∷ []
+    let o = RShow.show s.control i s.records s.slots in
+    (o.answer.refusal ∷ []) ∷ o.words ∷ ctl o.answer.control ∷ s.records ∷ s.slots ∷ s.roots ∷ s.sinks ∷ s.sets ∷ []
 observed (write i k w) s =
-    let o = RWrite.write (s .control) i k w (s .records) (s .slots) (s .sinks) (s .sets) in
-    (o .answer .refusal ∷ []) ∷ ctl (o .answer .control) ∷ o .records ∷ o .slots ∷ s .roots ∷ s .sinks ∷ o .sets ∷ []
-observed (writeInPlace i k w) s =
-    let o = RWrite.writeInPlace (s .control) i k w (s .records) (s .slots) (s .sinks) (s .sets) in
-    (o .refusal ∷ []) ∷ ctl (o .control) ∷ o .records ∷ o .slots ∷ s .roots ∷ s .sinks ∷ o .sets ∷ []
-observed (setRoot j w) s =
-    let o = RSetRoot.setRoot (s .control) j w (s .records) (s .roots) in
-    (o .answer .refusal ∷ []) ∷ ctl (o .answer .control) ∷ s .records ∷ s .slots ∷ o .roots ∷ s .sinks ∷ s .sets ∷ []
-observed (declareSink i) s =
-    let o = RDeclareSink.declareSink (s .control) i (s .records) (s .slots) (s .roots) (s .sinks) (s .sets) in
-    (o .answer .refusal ∷ []) ∷ ctl (o .answer .control) ∷ o .records ∷ s .slots ∷ s .roots ∷ o .sinks ∷ o .sets ∷ []
+    let o = RWrite.write s.control i k w s.records s.slots s.sinks s.sets in
+    (o.answer.refusal ∷ []) ∷ ctl o.answer.control ∷ o.records ∷ o.slots ∷ s.roots ∷ s.sinks ∷ o.sets ∷ []
+observed (write_in_place i k w) s =
+    let o = RWrite.write_in_place s.control i k w s.records s.slots s.sinks s.sets in
+    (o.refusal ∷ []) ∷ ctl o.control ∷ o.records ∷ o.slots ∷ s.roots ∷ s.sinks ∷ o.sets ∷ []
+observed (set_root j w) s =
+    let o = RSetRoot.set_root s.control j w s.records s.roots in
+    (o.answer.refusal ∷ []) ∷ ctl o.answer.control ∷ s.records ∷ s.slots ∷ o.roots ∷ s.sinks ∷ s.sets ∷ []
+observed (declare_sink i) s =
+    let o = RDeclareSink.declare_sink s.control i s.records s.slots s.roots s.sinks s.sets in
+    (o.answer.refusal ∷ []) ∷ ctl o.answer.control ∷ o.records ∷ s.slots ∷ s.roots ∷ o.sinks ∷ o.sets ∷ []
 observed (collect kind work freed) s =
-    let o = RCollect.collect kind (s .control) (s .records) (s .slots) (s .roots) (s .sinks) (s .sets) work freed in
-    (o .answer .refusal ∷ o .answer .freed ∷ o .answer .kept ∷ o .answer .scanned ∷ [])
-    ∷ o .work ∷ o .map ∷ ctl (o .answer .control) ∷ o .records ∷ o .slots ∷ s .roots ∷ o .sinks ∷ o .sets ∷ []
+    let o = RCollect.collect kind s.control s.records s.slots s.roots s.sinks s.sets work freed in
+    (o.answer.refusal ∷ o.answer.freed ∷ o.answer.kept ∷ o.answer.scanned ∷ [])
+    ∷ o.work ∷ o.map ∷ ctl o.answer.control ∷ o.records ∷ o.slots ∷ s.roots ∷ o.sinks ∷ o.sets ∷ []
 observed (analyse work) s =
-    let o = RAnalyse.analyse (s .control) (s .records) (s .slots) (s .roots) (s .sinks) (s .sets) work in
-    (o .answer .refusal ∷ o .answer .clusters ∷ o .answer .members ∷ [])
-    ∷ o .work ∷ ctl (o .answer .control) ∷ o .records ∷ s .slots ∷ s .roots ∷ s .sinks ∷ o .sets ∷ []
+    let o = RAnalyse.analyse s.control s.records s.slots s.roots s.sinks s.sets work in
+    (o.answer.refusal ∷ o.answer.clusters ∷ o.answer.members ∷ [])
+    ∷ o.work ∷ ctl o.answer.control ∷ o.records ∷ s.slots ∷ s.roots ∷ s.sinks ∷ o.sets ∷ []
 observed (save out) s =
-    let o = RSave.save (s .control) (s .records) (s .slots) (s .roots) (s .sinks) (s .sets) out in
-    (o .answer .refusal ∷ o .answer .length ∷ []) ∷ o .image ∷ ctl (o .answer .control) ∷ s .records ∷ s .slots ∷ s .roots ∷ s .sinks ∷ s .sets ∷ []
+    let o = RSave.save s.control s.records s.slots s.roots s.sinks s.sets out in
+    (o.answer.refusal ∷ o.answer.length ∷ []) ∷ o.image ∷ ctl o.answer.control ∷ s.records ∷ s.slots ∷ s.roots ∷ s.sinks ∷ s.sets ∷ []
 observed (load t image recs slots roots list sets) s =
     let o = RLoad.load t image recs slots roots list sets in
-    (o .answer .refusal ∷ []) ∷ ctl (o .answer .control) ∷ o .records ∷ o .slots ∷ o .roots ∷ o .sinks ∷ o .sets ∷ []
+    (o.answer.refusal ∷ []) ∷ ctl o.answer.control ∷ o.records ∷ o.slots ∷ o.roots ∷ o.sinks ∷ o.sets ∷ []
 '''
 
 
 def header():
-    return '''use Prim.Native.Nat.{ℕ, zero, suc, _+_, _*_}
-use mathlib.Core.Path.{_≡_, refl}
-use mathlib.Core.List.{List, [], _∷_, _++_, map}
-use lib.ListN.{getD, replicate}
-use Rattle·layout.specs.declared.answers.Control.{Control}
-use Rattle·rules.specs.Calls.{Call, allocate, allocateInPlace, read, show, write, writeInPlace, setRoot, declareSink, collect, analyse, save, load}
+    return '''use Rattle.std.specs.Prelude.{ℕ, ◌≡◌, List, [], ◌∷◌, ◌++◌, get_or, replicate, refl}
+use Rattle.layout.specs.declared.answers.Control.{Control}
+use Rattle.rules.specs.Calls.{Call, allocate, allocate_in_place, read, show, write, write_in_place, set_root, declare_sink, collect, analyse, save, load}
 ''' + '\n'.join(uses) + '\n' + definitions
 
 
@@ -133,8 +132,7 @@ calls = {
     'analyse': (range(5), 'k clusters members', (U,)),
     'collect_plain': (range(5), 'k freed kept scanned', (U, U64)), 'collect_clusters': (range(5), 'k freed kept scanned', (U, U64)),
 }
-names_in_c = {'setRoot': 'set_root', 'declareSink': 'declare_sink', 'plainly': 'collect_plain', 'byClusters': 'collect_clusters',
-              'allocateInPlace': 'allocate', 'writeInPlace': 'write'}
+names_in_c = {'plainly': 'collect_plain', 'by_clusters': 'collect_clusters', 'allocate_in_place': 'allocate', 'write_in_place': 'write'}
 for name, (lent, gives, further) in calls.items():
     getattr(lib, 'ref_' + name).restype = type('Answer', (C.Structure,), {'_fields_': [(x, U) for x in gives.split()] + [('c', Ctl)]})
 def ctl(c):
@@ -167,7 +165,7 @@ def lst(l):
     runs = [(x, len(list(run))) for x, run in itertools.groupby(l)]
     return '(' + ''.join(f'replicate {k} {x} ++ ' if k > 9 else f'{x} ∷ ' * k for x, k in runs) + '[])'
 def tuned(t):
-    return '(LControlRecord.tuningOf ' + ' '.join(map(str, t)) + ')'
+    return '(LControlRecord.tuning_of ' + ' '.join(map(str, t)) + ')'
 def term(op, a):
     return '(' + op + ''.join(f' {lst(x) if type(x) is list else tuned(x) if type(x) is tuple else x}' for x in a) + ')'
 def tuning(wrong=.04):
@@ -183,7 +181,7 @@ def work(n, ok=True):
 def word(n):
     return R.choice([0, 0x80000000, 0x80000005, n + 1, 4096, 0x7FFFFFFF] + [R.randint(1, n) for _ in range(14)])
 def either(op):
-    return R.choice([op, op + 'InPlace'])
+    return R.choice([op, op + '_in_place'])
 def le(value, count):
     return list(value.to_bytes(count, 'little'))
 def chunk(kind, body):
@@ -250,17 +248,17 @@ def saved(s):
 def random_save(s):
     return 'save', [[6] * max(0, len(saved(s)) + R.choice([-1, 0, 0, 1, 3]))]
 def random_collect(n, ok=True):
-    return 'collect', [R.choice(['plainly', 'byClusters', 'byClusters']), work(n, ok), [9] * (n // 64 + 1)]
+    return 'collect', [R.choice(['plainly', 'by_clusters', 'by_clusters']), work(n, ok), [9] * (n // 64 + 1)]
 def random_call(n, r, s):
-    op = R.choice(['allocate'] * 3 + ['read', 'show'] + ['write'] * 10 + ['setRoot'] * 2 + ['declareSink'] * 4 + ['analyse'] * 4 + ['collect'] * 2
+    op = R.choice(['allocate'] * 3 + ['read', 'show'] + ['write'] * 10 + ['set_root'] * 2 + ['declare_sink'] * 4 + ['analyse'] * 4 + ['collect'] * 2
                   + ['save'] * 2 + ['load'])
     o = R.choice([0, n + 1] + list(range(1, n + 1)) * 3)
     if op == 'allocate': return either(op), [R.choice([0, 1, 2, 2, 3, 3, 8, 9])]
     if op == 'read': return op, [o, R.randint(0, 3)]
     if op == 'show': return op, [o]
     if op == 'write': return either(op), [o, R.choice([0, 0, 0, 1, 1, 2, 8]), word(n)]
-    if op == 'setRoot': return op, [R.randint(0, r), R.choice([word(n), R.randint(0, n)])]
-    if op == 'declareSink': return op, [o]
+    if op == 'set_root': return op, [R.randint(0, r), R.choice([word(n), R.randint(0, n)])]
+    if op == 'declare_sink': return op, [o]
     if op == 'analyse': return op, [work(n, R.random() < .95)]
     if op == 'save': return random_save(s)
     if op == 'load': return op, [tuning(), saved(s), *[[7] * len(l) for l in s[1:]]] if R.random() < .5 else random_load()
@@ -271,12 +269,12 @@ stats = {}
 def emit(calls, last, st, observed):
     i, cs = len(out), ''.join(f'{term(*c)} ∷ ' for c in calls)
     seen = ''.join(f'{lst(l)} ∷ ' for l in observed)
-    out.append(f't{i} : observed {term(*last)} (afterAll step ({cs}[]) {st}) ≡ ({seen}[])\n{unfolding}\nt{i} = refl\n')
+    out.append(f't{i} : observed {term(*last)} (after_all step ({cs}[]) {st}) ≡ ({seen}[])\n{unfolding}\nt{i} = refl\n')
     k = (last[0], observed[0][0]); stats[k] = stats.get(k, 0) + 1
 def emit_single(op, a, s):
-    emit([], (op, a), '(stateOf ' + ' '.join(lst(l) for l in s) + ')', call(op, s, a)[0])
+    emit([], (op, a), '(state_of ' + ' '.join(lst(l) for l in s) + ')', call(op, s, a)[0])
 def emit_load(a):
-    emit([], ('load', a), '(stateOf [] [] [] [] [] [])', call('load', None, a)[0])
+    emit([], ('load', a), '(state_of [] [] [] [] [] [])', call('load', None, a)[0])
 def made_list():
     """Calls from create on: sinks, then clusters that lead to them, then calls at random."""
     n, r = R.randint(5, 8), R.randint(1, 3)
@@ -284,7 +282,7 @@ def made_list():
     t = tuning(.02)
     start = f'(created {n} {r} {tuned(t)} ' + ' '.join(lst(l) for l in b) + ')'
     refused, s = create(n, r, t, b)
-    if refused: return emit([], ('setRoot', [0, 0]), start, call('setRoot', s, [0, 0])[0])
+    if refused: return emit([], ('set_root', [0, 0]), start, call('set_root', s, [0, 0])[0])
     done = []
     def do(op, a):
         nonlocal s
@@ -292,14 +290,14 @@ def made_list():
     # sinks in another order than by number, and often all but one of them freed again, so that the list has holes
     first = R.sample(range(1, 4), R.randint(1, 3))
     for _ in range(3): do('allocate', [R.randint(0, 2)])
-    for x in first: do('declareSink', [x])
-    if R.random() < .6: do('setRoot', [0, R.choice(first)]); do(*random_collect(n))
+    for x in first: do('declare_sink', [x])
+    if R.random() < .6: do('set_root', [0, R.choice(first)]); do(*random_collect(n))
     for _ in range(n - R.randint(0, 1)): do('allocate', [R.choice([1, 2, 2, 3])])
-    if R.random() < .3: do('declareSink', [R.randint(1, n)])
+    if R.random() < .3: do('declare_sink', [R.randint(1, n)])
     # the other objects in a row from the root on, with further pointers at random
     types = [x for x in s[4] if x]
     others = [x for x in range(1, n + 1) if x not in types]
-    do('setRoot', [0, others[0]])
+    do('set_root', [0, others[0]])
     for x, y in zip(others, others[1:]): do('write', [x, 0, y])
     for _ in range(n): do('write', [R.randint(1, n), R.choice([0, 1, 1, 1, 2]), R.choice([R.randint(1, n)] + types)])
     do('analyse', [work(n)]); do('analyse', [work(n)])
@@ -388,7 +386,7 @@ def full_list(count):
     sinks = types + [0] * (64 - count)
     R.shuffle(sinks)
     s = [65, 1, 0, 0, 0, 0, 4, 25, 8], [5 if x in types else 1 for x in range(1, 66)], [0] * 520, order[:1], sinks, [0] * 65
-    for op, a in ('declareSink', order[-1:]), ('declareSink', order[:1]), random_save(s): emit_single(op, a, s)
+    for op, a in ('declare_sink', order[-1:]), ('declare_sink', order[:1]), random_save(s): emit_single(op, a, s)
 def full_image(count):
     """An image of 65 objects without words, 64 or all of them sinks, with their chunk and without."""
     types = R.sample(range(1, 66), count)
@@ -396,7 +394,7 @@ def full_image(count):
     for image in chunks, chunks + [chunk(0x8001, twos(types))]: emit_load([(4, 25, 8), sum(image, []), *[[7] * k for k in (65, 520, 1, 64, 65)]])
 for _ in range(made): made_list()
 for _ in range(hostile):
-    op = R.choice(['any'] * 4 + ['write'] * 5 + ['collect'] * 3 + ['analyse'] * 3 + ['declareSink', 'save'])
+    op = R.choice(['any'] * 4 + ['write'] * 5 + ['collect'] * 3 + ['analyse'] * 3 + ['declare_sink', 'save'])
     n, r = R.choice([3, 4, 5, 6, 7, 7, 8, 8, 8]), R.randint(1, 3)
     objects = world(n) if n > 6 and op != 'write' and R.random() < .7 else any_objects(n)
     s = random_heap(n, r, objects, .8 if op == 'write' else .35)
@@ -404,7 +402,7 @@ for _ in range(hostile):
     elif op == 'write': op, a = random_write(n, s)
     elif op == 'collect': op, a = random_collect(n)
     elif op == 'analyse': a = [work(n)]
-    elif op == 'declareSink': a = [R.randint(1, n)]
+    elif op == 'declare_sink': a = [R.randint(1, n)]
     else: op, a = random_save(s)
     emit_single(op, a, s)
 for _ in range(images): emit_load(random_load())
@@ -416,7 +414,8 @@ for k in sorted(stats):
     print(k[0], k[1], stats[k])
 for path, k in zip(paths, taken):
     print(f'{path}: {k}')
-run = subprocess.run(['rt', 'dev', 'sample'], cwd=build, capture_output=True, text=True)
+run = subprocess.run(['rt', 'check'], cwd=f'{build}/crates/sample', capture_output=True, text=True)
 good = run.returncode == 0
-print(f'{len(out) - 1} passed, 0 failed' if good else run.stdout[-3000:] + run.stderr[-3000:])
+print(f'{len(out) - 1} passed, 0 failed' if good else run.stdout[-3000:] + run.stderr[-3000:] + f'\nThe crates stay in {build}')
+if good: shutil.rmtree(build)
 sys.exit(0 if good else 1)
