@@ -14,11 +14,12 @@ use lib.Arith.{lt-one}
 use lib.Dec.{lit<, eqb}
 use lib.Pow.{pow_pos, pow_mono, shr_lt, shr-shr}
 use lib.ListN.{length, take, get_or, length-append, length-set, get_or-eq_default, replicate, length-replicate, get_or-replicate}
-use lib.Seq.{take-suc, set_out, get_or-set_same, get_or-set_other}
+use lib.Seq.{take-suc, take_all, set_out, get_or-set_same, get_or-set_other}
 use lib.Bits.{bit_and, and_shr, and_mod, and_self, and_le_r}
 use lib.Count.{ones, ones_in, ones_step, count_trailing_zeros, under}
 use Rattle.layout.specs.Field.{field, flag, put_flag}
-use Rattle.bitmap.specs.Bits.{holds, put_bit, cons_if, set_bits, numbers_in, bits_of, word_of}
+use Rattle.layout.specs.Limits.{map_len}
+use Rattle.bitmap.specs.Bits.{holds, put_bit, cons_if, set_bits, numbers_in, map_max, bits_of, word_of}
 use Rattle.layout.proofs.FieldLaws.{zero_flag, flag-put-same, flag-put-other}
 
 pub half_lt : {w : ℕ} (k : ℕ) → w < 2 ^ suc k → w / 2 < 2 ^ k
@@ -114,6 +115,18 @@ count-more ws n i e l h = rw (add-one i, take-suc ws i 0 l, snoc 0 (take i ws) (
 pub count_none : (ws : List ℕ) → 0 ≡ length (numbers_in 0 (take 0 ws))
 unfolding numbers_in
 count_none ws = refl
+
+-- the count's two ends: all words that count, or all words
+pub count-most : (ws : List ℕ) (i : ℕ) → i ≤ 64 → 64 ≤ i → length (numbers_in 0 (take i ws)) ≡ length (numbers_in 0 (take map_max ws))
+unfolding map_len
+count-most ws i a b = let q : i ≡ 64 = omega arith in ap (λ (k : ℕ). length (numbers_in 0 (take k ws))) q
+
+pub count-all : (ws : List ℕ) (i : ℕ) → i ≤ 64 → length ws ≤ i → length (numbers_in 0 (take i ws)) ≡ length (numbers_in 0 (take map_max ws))
+unfolding map_len
+count-all ws i a b = ap (λ (l : List ℕ). length (numbers_in 0 l)) (take_all i ws b ∙ sym (take_all 64 ws (omega arith)))
+
+-- both, for the search
+pub ruleset counts = (count-most, count-all)
 
 -- a word past the end is 0
 pub holds-past : (i : ℕ) (ws : List ℕ) → length ws ≤ i / 64 → holds i ws ≡ false

@@ -33,6 +33,7 @@ pub fn put_bit(map: &mut [u64], i: usize)
 }
 
 // How many numbers are in the set, of a map's first 64 words.
+#[tactic(auto, using(crate::proofs::BitLaws::counts))]
 pub fn ones(map: &[u64]) -> u32
     ensures { result ≡ length (numbers_in 0 (take map_max map.now)) }
 {

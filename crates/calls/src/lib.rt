@@ -151,6 +151,7 @@ pub fn plainly(call: Call) -> Call
 }
 
 // The call as a column runs it.
+#[tactic(auto, unfolding(crate::specs::Compare::as_run))]
 pub fn as_run(call: Call, plain: bool) -> Call
     ensures { result ≡ as_run plain call }
 {

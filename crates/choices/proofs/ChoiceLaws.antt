@@ -102,3 +102,6 @@ settled_is w r =
   where
     ne-two : ◌≡◌ {A = ℕ} 1 2 → ⊥
     ne-two e = omega arith
+
+-- what a cluster adds to the out loss, for the search
+pub ruleset losses = (loss-none, loss-over)

@@ -34,6 +34,7 @@ fn raised(lowest: u32, x: u32) -> u32
 }
 
 // x, clamped to the range of limits.
+#[tactic(auto, unfolding(rules::specs::Analyse::clamped))]
 pub fn clamp(lowest: u32, x: u32) -> u32
     ensures { result ≡ clamped lowest x }
 {
@@ -102,6 +103,7 @@ pub fn stays(t: Tuning, s: u32, p: u32) -> bool
 }
 
 // What it adds to the out loss: its members, where it has too many out pointers.
+#[tactic(auto, using(crate::proofs::ChoiceLaws::losses))]
 pub fn loss(t: Tuning, s: u32, p: u32) -> u32
     ensures { result ≡ loss_by t s p }
 {

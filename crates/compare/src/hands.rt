@@ -120,6 +120,7 @@ fn named_at(slots: &[u32], roots: &[u32], x: u32) -> usize
 
 // Whether the object x that a column was given now was freed before, has not changed hands yet, is not what the other column was
 // given now, and is in use there.
+#[tactic(auto, unfolding(crate::specs::Hands::is_again))]
 fn is_again(hands: &[u64], is_left: bool, x: u32, y: u32, records: &[u32]) -> bool
     ensures { result ≡ is_again hands.now is_left x y records.now }
 {

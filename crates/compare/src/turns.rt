@@ -90,6 +90,7 @@ fn there(is_there: bool, line: u64) -> u64
 }
 
 // The first difference, after this turn at these lines.
+#[tactic(auto, unfolding(crate::specs::Turns::noted_after))]
 pub fn noted(v: Verdict, t: Turn, left: u64, right: u64) -> Verdict
     ensures { result ≡ noted_after v t left right }
 {

@@ -82,6 +82,7 @@ pub fn less(a: usize, b: usize) -> usize
 }
 
 // The state of a source whose line has `length` bytes.
+#[tactic(auto, unfolding(crate::specs::Reading::line_state))]
 fn line_state(length: usize) -> u32
     ensures { result ≡ line_state length }
 {

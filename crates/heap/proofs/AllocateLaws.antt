@@ -26,7 +26,7 @@ use Rattle.table.specs.Room.{object_room}
 use Rattle.heap.specs.declared.allocate.Choice.{Choice}
 use Rattle.heap.specs.declared.allocate.Choice.TheVariants.{Object, Refusal}
 use Rattle.table.proofs.ClearedLaws.{cleared-object}
-use Rattle.table.proofs.NamedLaws.{object-room-short}
+use Rattle.table.proofs.NamedLaws.{object-room-fits, object-room-short}
 use Rattle.rules.proofs.BoolLaws.{or_split}
 use Rattle.rules.proofs.SearchLaws.{first_of-found, candidates-of, first_of-here, first_of-next, first_of-none, first_of-rest, first_of-front}
 
@@ -107,6 +107,9 @@ module _ (c : Control) (width : ℕ) (recs slots : List ℕ) where
         pub chosen : x ≢ 0 → Object x ≡ choice c width recs slots
         unfolding choice given
         chosen d = ap Object e ∙ sym (outcome-zero _ _ (allocate_tests c width recs slots) (last-test false (ne_eqb x 0 d)))
+
+-- the ends of the choice, for the search
+pub ruleset ends = (bad-control, too_short, object-room-fits, too_wide, full, chosen)
 
 -- ---- the call
 

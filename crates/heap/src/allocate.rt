@@ -49,6 +49,7 @@ pub(crate) enum Choice {
 }
 
 // The tests in their order.
+#[tactic(auto, using(crate::proofs::AllocateLaws::ends))]
 pub(crate) fn choose(c: Control, width: u32, records: &[u32], slots: &[u32]) -> Choice
     ensures { result ≡ choice c width records.now slots.now }
 {

@@ -12,6 +12,7 @@ use table::buffers::{zero, zero_sets};
 use table::room::short_heap;
 
 // The first test that holds, where a slice is too short or not; 0 where none does.
+#[tactic(auto, unfolding(layout::specs::Refusal::first))]
 fn create_refusal(n: u32, r: u32, t: Tuning, short: bool) -> u32
     ensures { result ≡ first ((1, bad_sizes n r) ∷ (30, bad_tuning t) ∷ (2, short) ∷ []) }
 {

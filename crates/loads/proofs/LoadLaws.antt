@@ -206,3 +206,12 @@ module _ (t : Tuning) (image recs slots roots list sets : List ℕ) where
           rw (s, p, q, e, f, g, u, v, is-sized.last-at, same-n, same-r)
           (sym (outcome-zero _ _ (Load.load_tests t image recs slots roots list sets)
           (short-decides ∙ first-fails 2 [] (short_heap (image_n image) (image_r image) recs slots roots list sets) (rw (sym same-n, sym same-r) h) ∙ none_first)))
+
+-- an image that is not refused may be laid into slices that are not too short
+pub may-lay : (t : Tuning) (image recs slots roots list sets : List ℕ) (n r k : ℕ) (b : Bool) → k ≡ first (input_tests t image) → k ≡ 0
+    → n ≡ number_at 2 8 image → r ≡ number_at 2 10 image → b ≡ short_heap n r recs slots roots list sets → b ≡ false
+    → Accepted n r image recs slots roots list sets
+may-lay t image recs slots roots list sets n r k b e z en er s h = accepted t image recs slots roots list sets (sym e ∙ z) n r en er (sym s ∙ h)
+
+-- the ends of a load, for the search
+pub ruleset loading = (image-refused, too_short, loaded)

@@ -31,6 +31,7 @@ fn input_refusal(t: Tuning, image: &[u8]) -> u32
 
 // A heap with no clusters from the bytes of an image. Every test comes before the first store: after a refusal nothing changes and the
 // control record is all zeros. The sizes stand at fixed places of an image that is not refused.
+#[tactic(auto, using(crate::proofs::LoadLaws::loading))]
 pub fn load(
     t: Tuning,
     image: &[u8],

@@ -515,3 +515,6 @@ module _ (c : Control) (i : ℕ) (recs slots roots list sets : List ℕ) (k : �
           ∙ sets-declared c.n i recs slots facts.low facts.high facts.long list list' sets (taken ∙ sym listed-is) in
           (λ j. gives (record { refusal = 0; control = c }) (r j) (o j) (t j))
           ∙ sym (outcome-zero _ _ (declare_tests c i recs slots roots list sets) (sym e ∙ z) ∙ rw no-sink refl)
+
+-- the ends of a declaration, for the search
+pub ruleset declaring = (facts, refused, again, place-there, anew)

@@ -197,3 +197,6 @@ module _ (n c : ℕ) where
         let z : n - i ≡ suc (n - suc i) = omega arith in
         let e : one (1 + i) (get_or l i 0) ≡ get_or l i 0 = unfold dissolved_record in (rw (ne_eqb (cluster (get_or l i 0)) c (λ w. b (a ∙ w))) refl) in
         rw (add-one i, z) (pass-skip 1 i (n - suc i) one l 0 q e)
+
+-- whether a word leaves a cluster, for the search
+pub ruleset leaving = (nil-stays, none_stays, sink-stays, other-leaves)

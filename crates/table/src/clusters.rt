@@ -22,6 +22,7 @@ pub fn record_of(n: u32, x: u32, records: &[u32]) -> u32
 }
 
 // Whether the word points at an object outside cluster c that is no sink.
+#[tactic(auto, using(crate::proofs::ClusterLaws::leaving))]
 pub fn leaves(n: u32, c: u32, word: u32, records: &[u32]) -> bool
     ensures { result ≡ word_leaves n records.now c word }
 {
