@@ -18,7 +18,7 @@ use Rattle.rules.specs.Collect.{Kind}
 use Rattle.layout.specs.declared.answers.Tuning.{Tuning}
 use Rattle.rules.specs.Load.{image_tests, loaded_sinks, load_tests}
 use Rattle.rules.specs.Load as Load
-use Rattle.rules.specs.Calls.{declare_sink, collect, load}
+use Rattle.rules.specs.Calls.{collect, load}
 use Rattle.rules.specs.Plain.{Plain, is_free, cell_at, answer}
 use Rattle.rules.specs.Steps.{State, loaded, step}
 use Rattle.rules.specs.PlainOf.{plain_of}

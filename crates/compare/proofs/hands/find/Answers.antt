@@ -1,6 +1,5 @@
 -- `compare::hands::find` looks at the words one by one: the search from here on finds the same place. Assumes nothing.
 use mathlib.Core.Path.{refl, sym, ◌∙◌}
-use Prim.Native.Nat.{◌-◌}
 use Rattle.compare.proofs.DecideLaws.{found_here, found-next, found_none}
 use Rattle.compare.proofs.hands.find.Goals as goal
 

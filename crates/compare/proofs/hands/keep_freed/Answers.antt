@@ -1,6 +1,5 @@
 -- `compare::hands::keep_freed` goes through the numbers of the map: what is left to do leads to the same words. Assumes nothing.
 use Rattle.compare.proofs.DecideLaws.{keep-step, keep-end, keep-length}
-use Prim.Native.Nat.{◌-◌}
 use mathlib.Core.Path.{refl, sym, ◌∙◌}
 use Rattle.compare.proofs.hands.keep_freed.Goals as goal
 

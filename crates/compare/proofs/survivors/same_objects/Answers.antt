@@ -1,6 +1,5 @@
 -- `compare::survivors::same_objects` compares one by one: what is left to compare decides as all did. Assumes nothing.
 use mathlib.Core.Path.{refl, sym, ◌∙◌}
-use Prim.Native.Nat.{◌-◌}
 use borrow.Author.Tests.{not-true, not-false}
 use Rattle.compare.proofs.DecideLaws.{every-step, every-stop, every-end}
 use Rattle.compare.proofs.survivors.same_objects.Goals as goal
