@@ -33,7 +33,7 @@ test:
 
 run:
 	bash tests/build.sh replay
-	build/replay examples/trials.calls
+	build/bin/replay examples/trials.calls
 
 reports:
 	bash tests/replay/run.sh

@@ -12,7 +12,7 @@ program=${1:-}
 if [ -n "$program" ]; then program=$(realpath -- "$program"); fi
 cd "$(dirname "$0")/../.."
 if [ -z "$program" ]; then bash tests/build.sh replay; fi
-replay=${program:-$PWD/build/replay}
+replay=${program:-$PWD/build/bin/replay}
 count=${COUNT:-200}
 out=build/replay
 mkdir -p "$out"
