@@ -1,7 +1,7 @@
 -- Clusters in the records: one word and one object after the other. Assumes nothing.
 use Prim.Native.Nat.{ℕ, zero, suc, ◌+◌, ◌-◌, ◌≤◌, ◌<◌}
 use mathlib.Core.Path.{◌≡◌, refl, sym, ap, ap₂, ◌∙◌}
-use mathlib.Core.Bool.{Bool, true, false, not, ◌||◌}
+use mathlib.Core.Bool.{◌&&◌, Bool, true, false, not, ◌||◌}
 use mathlib.Core.Logic.{◌≢◌}
 use mathlib.Core.List.{List, [], ◌∷◌, ◌++◌, map, append-nil}
 use native.Mathlib.Omega.{arith}
@@ -63,6 +63,11 @@ module _ (n c w : ℕ) (recs : List ℕ) where
     pub other-leaves : not s ≡ true → (k : ℕ) → k ≡ cluster r → not (eqb k c) ≡ word_leaves n recs c w
     unfolding word_leaves leaves target
     other-leaves t k g = rw (le-leb w n l, ne_eqb w 0 h, ← e, ← f, t, ← g) refl
+
+  -- both at once, however the code tests them
+  pub leaves-by : w ≢ 0 → w ≤ n → word_leaves n recs c w ≡ not (is_sink (rec_of n recs w)) && not (eqb (cluster (rec_of n recs w)) c)
+  unfolding word_leaves leaves target
+  leaves-by h l = rw (le-leb w n l, ne_eqb w 0 h) refl
 
 module _ (n c : ℕ) (recs : List ℕ) where
   pub any-cons : (w : ℕ) (ws : List ℕ) → any_leaves n recs c (w ∷ ws) ≡ word_leaves n recs c w || any_leaves n recs c ws
@@ -199,4 +204,4 @@ module _ (n c : ℕ) where
         rw (add-one i, z) (pass-skip 1 i (n - suc i) one l 0 q e)
 
 -- whether a word leaves a cluster, for the search
-pub ruleset leaving = (nil-stays, none_stays, sink-stays, other-leaves)
+pub ruleset leaving = (nil-stays, none_stays, leaves-by)
