@@ -13,29 +13,8 @@ use Rattle.access.proofs.read.look_up.Goals as goal
 pub returns-then-k-ne0 : goal.returns-then-k-ne0
 returns-then-k-ne0 c = refused _ _ _ _ _ _ (let it : (c.object_refusal-k.result ≡ first (show_tests c.args.c c.args.object c.args.records.now c.args.slots.now)) = c.object_refusal-k.ensures ∙ named-shown _ _ _ _ _ (omega arith) in it) c.if-k-ne0.true
 
-pub overflow_sub-object : goal.overflow_sub-object
-overflow_sub-object c = (show-named _ _ _ _ (let it : (first (show_tests c.args.c c.args.object c.args.records.now c.args.slots.now) ≡ 0) = sym (let it : (c.object_refusal-k.result ≡ first (show_tests c.args.c c.args.object c.args.records.now c.args.slots.now)) = c.object_refusal-k.ensures ∙ named-shown _ _ _ _ _ (omega arith) in it) ∙ c.if-k-ne0.false in it)).low
-
-pub bounds-records-object : goal.bounds-records-object
-bounds-records-object c = omega (arith, show-named _ _ _ _ (let it : (first (show_tests c.args.c c.args.object c.args.records.now c.args.slots.now) ≡ 0) = sym (let it : (c.object_refusal-k.result ≡ first (show_tests c.args.c c.args.object c.args.records.now c.args.slots.now)) = c.object_refusal-k.ensures ∙ named-shown _ _ _ _ _ (omega arith) in it) ∙ c.if-k-ne0.false in it))
-
 pub returns-then-width-slot : goal.returns-then-width-slot
 returns-then-width-slot c = no_slot _ _ _ _ _ (let it : (first (show_tests c.args.c c.args.object c.args.records.now c.args.slots.now) ≡ 0) = sym (let it : (c.object_refusal-k.result ≡ first (show_tests c.args.c c.args.object c.args.records.now c.args.slots.now)) = c.object_refusal-k.ensures ∙ named-shown _ _ _ _ _ (omega arith) in it) ∙ c.if-k-ne0.false in it) _ c.width_of-width.ensures c.if-width-slot.true
-
-pub overflow_sub-object-2 : goal.overflow_sub-object-2
-overflow_sub-object-2 c = (show-named _ _ _ _ (let it : (first (show_tests c.args.c c.args.object c.args.records.now c.args.slots.now) ≡ 0) = sym (let it : (c.object_refusal-k.result ≡ first (show_tests c.args.c c.args.object c.args.records.now c.args.slots.now)) = c.object_refusal-k.ensures ∙ named-shown _ _ _ _ _ (omega arith) in it) ∙ c.if-k-ne0.false in it)).low
-
-pub overflow_add-result : goal.overflow_add-result
-overflow_add-result c = let p = (let it : (c.slots_len.result + c.args.slot < length c.args.slots.now) = rw (c.slots_len.ensures, start_is (c.args.object - 1))
-    (place _ _ _ _ _ (let it : (first (show_tests c.args.c c.args.object c.args.records.now c.args.slots.now) ≡ 0) = sym (let it : (c.object_refusal-k.result ≡ first (show_tests c.args.c c.args.object c.args.records.now c.args.slots.now)) = c.object_refusal-k.ensures ∙ named-shown _ _ _ _ _ (omega arith) in it) ∙ c.if-k-ne0.false in it) _ c.width_of-width.ensures c.if-width-slot.false) in it) in search rules
-
-pub offset_bounds-slots-slots_len : goal.offset_bounds-slots-slots_len
-offset_bounds-slots-slots_len c = let p = (let it : (c.slots_len.result + c.args.slot < length c.args.slots.now) = rw (c.slots_len.ensures, start_is (c.args.object - 1))
-    (place _ _ _ _ _ (let it : (first (show_tests c.args.c c.args.object c.args.records.now c.args.slots.now) ≡ 0) = sym (let it : (c.object_refusal-k.result ≡ first (show_tests c.args.c c.args.object c.args.records.now c.args.slots.now)) = c.object_refusal-k.ensures ∙ named-shown _ _ _ _ _ (omega arith) in it) ∙ c.if-k-ne0.false in it) _ c.width_of-width.ensures c.if-width-slot.false) in it) in search rules
-
-pub bounds-slots-slots_len : goal.bounds-slots-slots_len
-bounds-slots-slots_len c = (let it : (c.slots_len.result + c.args.slot < length c.args.slots.now) = rw (c.slots_len.ensures, start_is (c.args.object - 1))
-    (place _ _ _ _ _ (let it : (first (show_tests c.args.c c.args.object c.args.records.now c.args.slots.now) ≡ 0) = sym (let it : (c.object_refusal-k.result ≡ first (show_tests c.args.c c.args.object c.args.records.now c.args.slots.now)) = c.object_refusal-k.ensures ∙ named-shown _ _ _ _ _ (omega arith) in it) ∙ c.if-k-ne0.false in it) _ c.width_of-width.ensures c.if-width-slot.false) in it)
 
 pub returns : goal.returns
 returns c =

@@ -15,24 +15,6 @@ returns-then-k-ne0 c =
     let t = part-refused c.args.c c.args.object c.args.records.now c.args.slots.now c.args.slots.ref_ptr.0 c.args.slots.ref_ptr.1 _ (let it : (c.object_refusal-k.result ≡ first (show_tests c.args.c c.args.object c.args.records.now c.args.slots.now)) = c.object_refusal-k.ensures ∙ named-shown _ _ _ _ _ (omega arith) in it) c.if-k-ne0.true in
     record { answer = t.0; own = t.1 }
 
-pub overflow_sub-object : goal.overflow_sub-object
-overflow_sub-object c = (show-named _ _ _ _ (let it : (first (show_tests c.args.c c.args.object c.args.records.now c.args.slots.now) ≡ 0) = sym (let it : (c.object_refusal-k.result ≡ first (show_tests c.args.c c.args.object c.args.records.now c.args.slots.now)) = c.object_refusal-k.ensures ∙ named-shown _ _ _ _ _ (omega arith) in it) ∙ c.if-k-ne0.false in it)).low
-
-pub overflow_sub-object-2 : goal.overflow_sub-object-2
-overflow_sub-object-2 c = (show-named _ _ _ _ (let it : (first (show_tests c.args.c c.args.object c.args.records.now c.args.slots.now) ≡ 0) = sym (let it : (c.object_refusal-k.result ≡ first (show_tests c.args.c c.args.object c.args.records.now c.args.slots.now)) = c.object_refusal-k.ensures ∙ named-shown _ _ _ _ _ (omega arith) in it) ∙ c.if-k-ne0.false in it)).low
-
-pub bounds-records-object : goal.bounds-records-object
-bounds-records-object c = omega (arith, show-named _ _ _ _ (let it : (first (show_tests c.args.c c.args.object c.args.records.now c.args.slots.now) ≡ 0) = sym (let it : (c.object_refusal-k.result ≡ first (show_tests c.args.c c.args.object c.args.records.now c.args.slots.now)) = c.object_refusal-k.ensures ∙ named-shown _ _ _ _ _ (omega arith) in it) ∙ c.if-k-ne0.false in it))
-
-pub overflow_add-end : goal.overflow_add-end
-overflow_add-end c = let p = (let it : (c.slots_len-start.result + c.width_of.result ≤ length c.args.slots.now) = omega (arith, c.slots_len-start.ensures ∙ start_is _, c.width_of.ensures, show-named _ _ _ _ (let it : (first (show_tests c.args.c c.args.object c.args.records.now c.args.slots.now) ≡ 0) = sym (let it : (c.object_refusal-k.result ≡ first (show_tests c.args.c c.args.object c.args.records.now c.args.slots.now)) = c.object_refusal-k.ensures ∙ named-shown _ _ _ _ _ (omega arith) in it) ∙ c.if-k-ne0.false in it)) in it) in search rules
-
-pub offset_bounds-slots-start : goal.offset_bounds-slots-start
-offset_bounds-slots-start c = let p = (let it : (c.slots_len-start.result + c.width_of.result ≤ length c.args.slots.now) = omega (arith, c.slots_len-start.ensures ∙ start_is _, c.width_of.ensures, show-named _ _ _ _ (let it : (first (show_tests c.args.c c.args.object c.args.records.now c.args.slots.now) ≡ 0) = sym (let it : (c.object_refusal-k.result ≡ first (show_tests c.args.c c.args.object c.args.records.now c.args.slots.now)) = c.object_refusal-k.ensures ∙ named-shown _ _ _ _ _ (omega arith) in it) ∙ c.if-k-ne0.false in it)) in it) in search rules
-
-pub slice_bounds-result-end-2 : goal.slice_bounds-result-end-2
-slice_bounds-result-end-2 c = (let it : (c.slots_len-start.result + c.width_of.result ≤ length c.args.slots.now) = omega (arith, c.slots_len-start.ensures ∙ start_is _, c.width_of.ensures, show-named _ _ _ _ (let it : (first (show_tests c.args.c c.args.object c.args.records.now c.args.slots.now) ≡ 0) = sym (let it : (c.object_refusal-k.result ≡ first (show_tests c.args.c c.args.object c.args.records.now c.args.slots.now)) = c.object_refusal-k.ensures ∙ named-shown _ _ _ _ _ (omega arith) in it) ∙ c.if-k-ne0.false in it)) in it)
-
 pub returns : goal.returns
 returns c =
     let t = part-shown c.args.c c.args.object c.args.records.now c.args.slots.now c.args.slots.ref_ptr.0 c.args.slots.ref_ptr.1 _ _ _ c.if-k-ne0.false (let it : (first (show_tests c.args.c c.args.object c.args.records.now c.args.slots.now) ≡ 0) = sym (let it : (c.object_refusal-k.result ≡ first (show_tests c.args.c c.args.object c.args.records.now c.args.slots.now)) = c.object_refusal-k.ensures ∙ named-shown _ _ _ _ _ (omega arith) in it) ∙ c.if-k-ne0.false in it) (c.slots_len-start.ensures ∙ start_is _) c.width_of.ensures in

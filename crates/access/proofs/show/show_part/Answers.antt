@@ -12,18 +12,6 @@ use Rattle.access.proofs.show.show_part.Goals as goal
 pub returns-then-k-ne0 : goal.returns-then-k-ne0
 returns-then-k-ne0 c = sym (ap (λ (o : Show.Outcome). o.answer) (refused _ _ _ _ _ (let it : (c.object_refusal-k.result ≡ first (show_tests c.args.c c.args.object c.args.records.now c.args.slots.now)) = c.object_refusal-k.ensures ∙ named-shown _ _ _ _ _ (omega arith) in it) c.if-k-ne0.true))
 
-pub overflow_sub-object : goal.overflow_sub-object
-overflow_sub-object c = (show-named _ _ _ _ (let it : (first (show_tests c.args.c c.args.object c.args.records.now c.args.slots.now) ≡ 0) = sym (let it : (c.object_refusal-k.result ≡ first (show_tests c.args.c c.args.object c.args.records.now c.args.slots.now)) = c.object_refusal-k.ensures ∙ named-shown _ _ _ _ _ (omega arith) in it) ∙ c.if-k-ne0.false in it)).low
-
-pub overflow_cast-result : goal.overflow_cast-result
-overflow_cast-result c = omega (arith, c.slots_len.ensures ∙ start_is _, show-named _ _ _ _ (let it : (first (show_tests c.args.c c.args.object c.args.records.now c.args.slots.now) ≡ 0) = sym (let it : (c.object_refusal-k.result ≡ first (show_tests c.args.c c.args.object c.args.records.now c.args.slots.now)) = c.object_refusal-k.ensures ∙ named-shown _ _ _ _ _ (omega arith) in it) ∙ c.if-k-ne0.false in it))
-
-pub overflow_sub-object-2 : goal.overflow_sub-object-2
-overflow_sub-object-2 c = (show-named _ _ _ _ (let it : (first (show_tests c.args.c c.args.object c.args.records.now c.args.slots.now) ≡ 0) = sym (let it : (c.object_refusal-k.result ≡ first (show_tests c.args.c c.args.object c.args.records.now c.args.slots.now)) = c.object_refusal-k.ensures ∙ named-shown _ _ _ _ _ (omega arith) in it) ∙ c.if-k-ne0.false in it)).low
-
-pub bounds-records-object : goal.bounds-records-object
-bounds-records-object c = omega (arith, show-named _ _ _ _ (let it : (first (show_tests c.args.c c.args.object c.args.records.now c.args.slots.now) ≡ 0) = sym (let it : (c.object_refusal-k.result ≡ first (show_tests c.args.c c.args.object c.args.records.now c.args.slots.now)) = c.object_refusal-k.ensures ∙ named-shown _ _ _ _ _ (omega arith) in it) ∙ c.if-k-ne0.false in it))
-
 pub returns : goal.returns
 returns c =
     rw (c.width_of.ensures, c.slots_len.ensures, start_is (c.args.object - 1))
