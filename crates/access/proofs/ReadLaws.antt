@@ -1,23 +1,26 @@
 -- What read answers at each of its ends. Assumes nothing.
-use Prim.Native.Nat.{ℕ, ◌+◌, ◌-◌, ◌*◌, ◌≤◌, ◌<◌}
+use Prim.Native.Nat.{ℕ, ◌+◌, ◌-◌, ◌≤◌, ◌<◌}
 use mathlib.Core.Path.{◌≡◌, sym, ap, ◌∙◌}
 use mathlib.Core.Bool.{false}
 use mathlib.Core.List.{List, [], ◌∷◌}
 use mathlib.Core.Logic.{◌≢◌}
 use native.Mathlib.Omega.{arith}
 use lib.Dec.{leb, lit<}
-use lib.ListN.{length, get_or}
+use lib.ListN.{get_or}
 use borrow.Author.Tests.{le-leb, lt-leb}
 use Rattle.layout.specs.declared.answers.Control.{Control}
 use Rattle.layout.specs.declared.answers.WordRead.{WordRead}
 use Rattle.records.specs.Record.{width}
+use Rattle.layout.specs.Limits.{object_max, slots_len}
 use Rattle.layout.specs.Refusal.{Test, first}
 use Rattle.layout.proofs.RefusalLaws.{Numbered, nil, cons, first-front, first-skip, first-zero, first_holds, first-fails, outcome-zero, outcome-number}
 use Rattle.rules.specs.Buffers.{rec_of}
 use Rattle.rules.specs.Show.{show_tests}
 use Rattle.rules.specs.Read as Read
 use Rattle.rules.proofs.BufferLaws.{used-get}
-use Rattle.table.proofs.NamedLaws.{show-named}
+use Rattle.table.specs.Named.{named_tests}
+use Rattle.table.proofs.NamedLaws.{show-named, start_is}
+use Rattle.access.proofs.ShowLaws.{tested, passed, in_reach}
 
 module _ (c : Control) (i k : ℕ) (recs slots : List ℕ) where
   abbrev slot-test : List Test
@@ -32,13 +35,18 @@ module _ (c : Control) (i k : ℕ) (recs slots : List ℕ) where
   numbered = cons (lit< tt) (cons (lit< tt) (cons (lit< tt) (cons (lit< tt) (cons (lit< tt) nil))))
 
   -- a test of the object that holds decides
-  pub refused : (m : ℕ) → m ≡ first (show_tests c i recs slots) → m ≢ 0
+  pub refused : (m : ℕ) → m ≡ first (named_tests c i recs slots object_max) → m ≢ 0
       → ◌≡◌ {A = WordRead} (record { refusal = m; word = 0; control = c }) (Read.read c i k recs slots)
   unfolding Read.read
   refused m e d =
-      sym (outcome-number _ _ (Read.read_tests c i k recs slots) m (front-test (λ z. d (e ∙ z)) ∙ sym e) d)
+      let t = tested c i recs slots m e in
+      sym (outcome-number _ _ (Read.read_tests c i k recs slots) m (front-test (λ z. d (t ∙ z)) ∙ sym t) d)
 
-  module _ (z : first (show_tests c i recs slots) ≡ 0) where
+  -- where none holds, that of the slot decides
+  module _ (m : ℕ) (e : m ≡ first (named_tests c i recs slots object_max)) (d : m ≡ 0) where
+    z : first (show_tests c i recs slots) ≡ 0
+    z = passed c i recs slots m e d
+
     last-test : first (Read.read_tests c i k recs slots) ≡ first slot-test
     unfolding Read.read_tests show_tests
     last-test = first-skip (show_tests c i recs slots) slot-test (first-zero (show_tests c i recs slots) numbered z)
@@ -51,17 +59,18 @@ module _ (c : Control) (i k : ℕ) (recs slots : List ℕ) where
         sym (outcome-number _ _ (Read.read_tests c i k recs slots) 5
         (last-test ∙ first_holds 5 [] _ (rw (N.rec-at, sym e) (le-leb w k l))) (λ (q : 5 ≡ 0). omega arith))
 
-    -- where the word stands
-    pub place : (w : ℕ) → w ≡ width (get_or recs (i - 1) 0) → k < w → 8 * (i - 1) + k < length slots
-    place w e l = omega (arith, show-named c i recs slots z)
-
     pub got : (w : ℕ) → w ≡ width (get_or recs (i - 1) 0) → k < w
-        → ◌≡◌ {A = WordRead} (record { refusal = 0; word = get_or slots (8 * (i - 1) + k) 0; control = c }) (Read.read c i k recs slots)
+        → (s : ℕ) → s ≡ slots_len (i - 1)
+        → ◌≡◌ {A = WordRead} (record { refusal = 0; word = get_or slots (s + k) 0; control = c }) (Read.read c i k recs slots)
     unfolding Read.read first
-    got w e l =
+    got w e l s f =
         let N = show-named c i recs slots z in
-        let s : width (rec_of c.n recs i) ≡ w = rw N.rec-at (sym e) in
-        let t : leb (width (rec_of c.n recs i)) k ≡ false = rw s (lt-leb w k l) in
-        ap (λ (x : ℕ). record { refusal = 0; word = x; control = c })
-        (sym (used-get c.n recs slots i N.low N.legal.narrow k (rw s l)))
-        ∙ sym (outcome-zero _ _ (Read.read_tests c i k recs slots) (last-test ∙ first-fails 5 [] _ t))
+        let v : width (rec_of c.n recs i) ≡ w = rw N.rec-at (sym e) in
+        let t : leb (width (rec_of c.n recs i)) k ≡ false = rw v (lt-leb w k l) in
+        rw (f, start_is (i - 1))
+        (ap (λ (x : ℕ). record { refusal = 0; word = x; control = c })
+        (sym (used-get c.n recs slots i N.low N.legal.narrow k (rw v l)))
+        ∙ sym (outcome-zero _ _ (Read.read_tests c i k recs slots) (last-test ∙ first-fails 5 [] _ t)))
+
+-- the ends of a read, for the search
+pub ruleset ends = (in_reach, refused, no_slot)

@@ -44,10 +44,6 @@ illegal-neither : (n w : ℕ) → legal_word n w ≡ false → (is_nil w ≡ fal
 unfolding legal_word
 illegal-neither n w h = or_split (is_nil w) (is_pointer n w) (or_split (is_nil w || is_pointer n w) (is_immediate w) h).0
 
--- the tests before those of the word are passed
-abbrev pub Front : Control → ℕ → List ℕ → List ℕ → Type 0
-Front c j recs roots = (bad_control c ≡ false) × (c.n ≤ length recs) × (c.r ≤ length roots) × (j < c.r)
-
 module _ (c : Control) (j w : ℕ) (recs roots : List ℕ) where
   pub bad-control : bad_control c ≡ true → 20 ≡ first (set_root_tests c j w recs roots)
   unfolding set_root_tests first
@@ -68,9 +64,10 @@ module _ (c : Control) (j w : ℕ) (recs roots : List ℕ) where
         unfolding set_root_tests first short
         no-root o = rw (b, le-ltb _ _ l, le-ltb _ _ m, le-leb _ _ o) refl
 
-  module _ (F : Front c j recs roots) where
+  -- the tests before those of the word are passed
+  module _ (b : bad_control c ≡ false) (l : c.n ≤ length recs) (m : c.r ≤ length roots) (o : j < c.r) where
     small : c.n ≤ 4095
-    small = (control-facts c F.0).sizes.most
+    small = (control-facts c b).sizes.most
 
     says : (s : Word) → s ≡ sort_of c.n w → Says c.n w s
     says s e = rw e (sort-says c.n w small)
@@ -79,7 +76,7 @@ module _ (c : Control) (j w : ℕ) (recs roots : List ℕ) where
     last-tests : (p q : Bool) → not (is_nil w || is_pointer c.n w) ≡ p → is_pointer c.n w && not (legal c.n (rec_of c.n recs w)) ≡ q
         → cond p 6 (cond q 23 0) ≡ first (set_root_tests c j w recs roots)
     unfolding set_root_tests first short
-    last-tests p q e f = rw (F.0, le-ltb _ _ F.1, le-ltb _ _ F.2, lt-leb _ _ F.3, e, f) refl
+    last-tests p q e f = rw (b, le-ltb _ _ l, le-ltb _ _ m, lt-leb _ _ o, e, f) refl
 
     pub nil-root : Nil ≡ sort_of c.n w → 0 ≡ first (set_root_tests c j w recs roots)
     nil-root e = let z : is_nil w ≡ true = unfold Says in (says Nil e) in last-tests false false (rw z refl) (rw (nil-no-pointer c.n w z) refl)
@@ -95,7 +92,7 @@ module _ (c : Control) (j w : ℕ) (recs roots : List ℕ) where
       object-low = omega (arith, is-object.0, bounds)
 
       pub object-in : x - 1 < length recs
-      object-in = omega (arith, is-object.0, bounds, F.1)
+      object-in = omega (arith, is-object.0, bounds, l)
 
       rec-at : rec_of c.n recs w ≡ get_or recs (x - 1) 0
       rec-at = rec_of-get c.n recs w bounds.0 bounds.1 ∙ ap (λ (y : ℕ). get_or recs (y - 1) 0) (sym is-object.0)
@@ -136,3 +133,6 @@ module _ (c : Control) (j w : ℕ) (recs roots : List ℕ) where
       let a : c.r ≤ length roots = ltb-false _ _ s.1 in
       let d : j < c.r = leb-false _ _ v.0 in
       omega arith
+
+-- the ends of the tests, for the search
+pub ruleset ends = (bad-control, short-records, short-roots, no-root, nil-root, object-low, object-in, legal-root, free-root, immediate-root, illegal-root)

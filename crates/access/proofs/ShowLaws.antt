@@ -1,11 +1,12 @@
 -- What show answers at each of its ends. Assumes nothing.
 use Prim.Native.Nat.{ℕ, ◌+◌, ◌-◌, ◌*◌, ◌≤◌, ◌<◌}
-use mathlib.Core.Path.{◌≡◌, refl, sym, ◌∙◌}
+use mathlib.Core.Path.{◌≡◌, refl, sym, ap, ◌∙◌}
 use mathlib.Core.List.{List, []}
 use mathlib.Core.Logic.{◌≢◌}
 use native.Mathlib.Omega.{arith}
 use lib.ListN.{length, get_or, take, drop}
 use Rattle.layout.specs.declared.answers.Control.{Control}
+use Rattle.layout.specs.declared.answers.Part.{Part}
 use Rattle.records.specs.Record.{width}
 use Rattle.layout.specs.Limits.{object_max, slots_len}
 use Rattle.layout.specs.Refusal.{first}
@@ -36,37 +37,43 @@ module _ (c : Control) (i : ℕ) (recs slots : List ℕ) (m : ℕ) (e : m ≡ fi
         (N.low, omega (arith, N), omega (arith, N, s, f), omega (arith, N, s))
 
 module _ (c : Control) (i : ℕ) (recs slots : List ℕ) where
-  -- the two outcomes
-  pub refused : (m : ℕ) → m ≡ first (show_tests c i recs slots) → m ≢ 0
-      → Show.show c i recs slots ≡ record { answer = record { refusal = m; start = 0; length = 0; control = c }; words = [] }
-  unfolding Show.show
-  refused m e d = outcome-number _ _ (show_tests c i recs slots) m (sym e) d
+  abbrev outcome : Show.Outcome
+  outcome = Show.show c i recs slots
 
-  pub shown : first (show_tests c i recs slots) ≡ 0
-      → Show.show c i recs slots ≡ record {
-        answer = record { refusal = 0; start = 8 * (i - 1); length = width (get_or recs (i - 1) 0); control = c };
-        words = take (width (get_or recs (i - 1) 0)) (drop (8 * (i - 1)) slots);
-      }
-  unfolding Show.show
-  shown z =
-      let N = show-named c i recs slots z in
-      outcome-zero _ _ (show_tests c i recs slots) z
-      ∙ rw (used-part c.n recs slots i N.low N.legal.narrow, N.rec-at) refl
-
-  -- a part: the words, the number and the place. The slots lie at offset o of block b
   abbrev pub Answer : (b o : ℕ) → List ℕ → ℕ → ℕ × ℕ → Type 0
-  Answer b o ws k p =
-      ((ws ≡ (Show.show c i recs slots).words) × (k ≡ (Show.show c i recs slots).answer.refusal))
-      × ((p.0 ≡ b) × (p.1 ≡ (Show.show c i recs slots).answer.start * 4 + o))
+  Answer b o ws k p = ((ws ≡ outcome.words) × (k ≡ outcome.answer.refusal)) × ((p.0 ≡ b) × (p.1 ≡ outcome.answer.start * 4 + o))
 
-  pub part-refused : (b o m : ℕ) → m ≡ first (show_tests c i recs slots) → m ≢ 0 → Answer b o [] m (b, 0 + o)
-  part-refused b o m e d = rw (refused m e d) ((refl, refl), (refl, refl))
+  module _ (m : ℕ) (e : m ≡ first (named_tests c i recs slots object_max)) where
+    refused : m ≢ 0 → outcome ≡ record { answer = record { refusal = m; start = 0; length = 0; control = c }; words = [] }
+    unfolding Show.show
+    refused d = outcome-number _ _ (show_tests c i recs slots) m (sym (tested c i recs slots m e)) d
 
-  pub part-shown : (b o m s w : ℕ) → m ≡ 0 → first (show_tests c i recs slots) ≡ 0 → s ≡ 8 * (i - 1) → w ≡ width (get_or recs (i - 1) 0)
-      → Answer b o (take (s + w - s) (drop s slots)) m (b, s * 4 + o)
-  part-shown b o m s w y z p q =
-      let e : s + w - s ≡ w = omega arith in
-      rw (shown z, e, p, q) ((refl, y), (refl, refl))
+    shown : m ≡ 0 → (s : ℕ) → s ≡ slots_len (i - 1) → (w : ℕ) → w ≡ width (get_or recs (i - 1) 0)
+        → outcome ≡ record { answer = record { refusal = 0; start = s; length = w; control = c }; words = take w (drop s slots) }
+    unfolding Show.show
+    shown d s f w g =
+        let z = passed c i recs slots m e d in
+        let N = show-named c i recs slots z in
+        outcome-zero _ _ (show_tests c i recs slots) z
+        ∙ rw (used-part c.n recs slots i N.low N.legal.narrow, N.rec-at, f, g, start_is (i - 1)) refl
 
--- where the object's record and slots are, for the search
-pub ruleset reach = (in_reach)
+    -- where the part is
+    pub no_part : m ≢ 0 → ◌≡◌ {A = Part} (record { refusal = m; start = 0; length = 0; control = c }) outcome.answer
+    no_part d = sym (ap (λ (o : Show.Outcome). o.answer) (refused d))
+
+    pub the_part : m ≡ 0 → (s : ℕ) → s ≡ slots_len (i - 1) → (w : ℕ) → w ≡ width (get_or recs (i - 1) 0)
+        → ◌≡◌ {A = Part} (record { refusal = 0; start = s; length = w; control = c }) outcome.answer
+    the_part d s f w g = sym (ap (λ (o : Show.Outcome). o.answer) (shown d s f w g))
+
+    -- the part itself: the words, the number and the place. The slots lie at offset o of block b
+    pub part-refused : (b o : ℕ) → m ≢ 0 → Answer b o [] m (b, 0 + o)
+    part-refused b o d = rw (refused d) ((refl, refl), (refl, refl))
+
+    pub part-shown : (b o : ℕ) → m ≡ 0 → (s : ℕ) → s ≡ slots_len (i - 1) → (w : ℕ) → w ≡ width (get_or recs (i - 1) 0)
+        → Answer b o (take (s + w - s) (drop s slots)) m (b, s * 4 + o)
+    part-shown b o d s f w g =
+        let q : s + w - s ≡ w = omega arith in
+        rw (shown d s f w g, q) ((refl, d), (refl, refl))
+
+-- the ends of a show, for the search
+pub ruleset ends = (in_reach, no_part, the_part)

@@ -17,7 +17,7 @@ pub(crate) struct Found {
 }
 
 // All tests in their order, and the word.
-#[tactic(auto, using(crate::proofs::ShowLaws::reach))]
+#[tactic(auto, using(crate::proofs::ReadLaws::ends))]
 fn look_up(c: Control, object: u32, slot: u32, records: &[u32], slots: &[u32]) -> Found
     ensures { answered result c ≡ Read.read c object slot records.now slots.now }
 {
@@ -54,7 +54,7 @@ fn answer(f: Found, c: Control) -> WordRead
 
 // A read that passes is answered here. All others go to `look_up`, which is called twice and so stays a function: then the control
 // record is tested where it is, and copied whole (docs/BENCHMARK.md, "Read").
-#[tactic(auto, using(crate::proofs::ShowLaws::reach))]
+#[tactic(auto, using(crate::proofs::ReadLaws::ends))]
 pub fn read(c: Control, object: u32, slot: u32, records: &[u32], slots: &[u32]) -> WordRead
     ensures { result ≡ Read.read c object slot records.now slots.now }
 {

@@ -9,6 +9,7 @@ use layout::words::{Word, sort_word};
 use records::legal;
 
 // The number of the first test that holds, 0 where none does.
+#[tactic(auto, using(crate::proofs::SetRootLaws::ends))]
 pub(crate) fn root_refusal(c: Control, index: u32, word: u32, records: &[u32], roots: &[u32]) -> u32
     ensures { result ≡ first (SetRoot.set_root_tests c index word records.now roots.now) }
 {

@@ -8,7 +8,7 @@ use records::width_of;
 use table::named::object_refusal;
 
 // The part itself. `refusal` becomes 0, or the number of the refusal of an empty part.
-#[tactic(auto, using(crate::proofs::ShowLaws::reach))]
+#[tactic(auto, using(crate::proofs::ShowLaws::ends))]
 pub fn show<'a>(
     c: Control,
     object: u32,
@@ -32,7 +32,7 @@ pub fn show<'a>(
 }
 
 // Where the part is, for callers that cannot be given a slice.
-#[tactic(auto, using(crate::proofs::ShowLaws::reach))]
+#[tactic(auto, using(crate::proofs::ShowLaws::ends))]
 pub fn show_part(c: Control, object: u32, records: &[u32], slots: &[u32]) -> Part
     ensures { result ≡ (Show.show c object records.now slots.now).answer }
 {
