@@ -40,6 +40,7 @@ module _ (c : Control) (i : ℕ) (recs slots : List ℕ) where
   abbrev outcome : Show.Outcome
   outcome = Show.show c i recs slots
 
+  -- a part: the words, the number and the place. The slots lie at offset o of block b
   abbrev pub Answer : (b o : ℕ) → List ℕ → ℕ → ℕ × ℕ → Type 0
   Answer b o ws k p = ((ws ≡ outcome.words) × (k ≡ outcome.answer.refusal)) × ((p.0 ≡ b) × (p.1 ≡ outcome.answer.start * 4 + o))
 
@@ -65,7 +66,7 @@ module _ (c : Control) (i : ℕ) (recs slots : List ℕ) where
         → ◌≡◌ {A = Part} (record { refusal = 0; start = s; length = w; control = c }) outcome.answer
     the_part d s f w g = sym (ap (λ (o : Show.Outcome). o.answer) (shown d s f w g))
 
-    -- the part itself: the words, the number and the place. The slots lie at offset o of block b
+    -- the part itself
     pub part-refused : (b o : ℕ) → m ≢ 0 → Answer b o [] m (b, 0 + o)
     part-refused b o d = rw (refused d) ((refl, refl), (refl, refl))
 
