@@ -1,8 +1,5 @@
 -- `sinks::place_sink` meets its contract. Assumes nothing.
 use native.Mathlib.Omega.{arith}
-use Prim.Native.Nat.{◌<◌}
-use lib.ListN.{length}
-use Rattle.layout.specs.Limits.{sink_max}
 use Rattle.sinks.proofs.SinkLaws.{placed-there, place-low}
 use Rattle.sinks.proofs.place_sink.Goals as goal
 

@@ -1,7 +1,7 @@
 -- `heap::allocate::allocate` writes the record and clears the slots of the object chosen. Assumes nothing.
 use mathlib.Core.Path.{sym, ◌∙◌}
 use native.Mathlib.Omega.{arith}
-use Rattle.heap.proofs.AllocateLaws.{Given, given-facts, given-slots, refused, accepted}
+use Rattle.heap.proofs.AllocateLaws.{given-facts, given-slots, refused, accepted}
 use Rattle.heap.proofs.allocate.allocate.Goals as goal
 
 pub overflow_sub-records : goal.overflow_sub-records

@@ -1,8 +1,8 @@
 -- `push_pointers` meets its contract. The loop's invariant, `Pushing`: from here down it ends with the same words.
-use Prim.Native.Nat.{◌+◌, ◌-◌, ◌≤◌}
+use Prim.Native.Nat.{◌+◌, ◌-◌}
 use mathlib.Core.Path.{◌≡◌, refl, sym, ◌∙◌}
 use mathlib.Core.Bool.{true}
-use lib.ListN.{length, get_or}
+use lib.ListN.{get_or}
 use Rattle.layout.specs.Limits.{within}
 use Rattle.walk.proofs.PendingLaws.{pushing-here, pushing-passed, pushing-room, pushing-inside, pushing-kept, pushing-done}
 use native.Mathlib.Omega.{arith}

@@ -1,7 +1,5 @@
 -- `writes::write::word_refusal` meets its contract: one end for each sort of word. Assumes nothing.
-use mathlib.Core.Path.{◌≡◌, sym, ◌∙◌}
-use Rattle.layout.specs.declared.words.Word.TheVariants.{Object}
-use Rattle.layout.specs.Word.{sort_of}
+use mathlib.Core.Path.{sym, ◌∙◌}
 use Rattle.writes.proofs.WriteLaws.{word-nil, object-low, object-there, word-object, word_none, word-immediate, word-illegal}
 use Rattle.writes.proofs.write.word_refusal.Goals as goal
 

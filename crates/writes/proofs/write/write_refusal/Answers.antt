@@ -1,6 +1,5 @@
 -- `writes::write::write_refusal` meets its contract. Assumes nothing.
 use native.Mathlib.Omega.{arith}
-use Rattle.table.proofs.NamedLaws.{Named}
 use Rattle.writes.proofs.WriteLaws.{front-object, object-named, front-slot, front-word}
 use Rattle.writes.proofs.write.write_refusal.Goals as goal
 
