@@ -111,6 +111,23 @@ def clauses(text, seen):
         i = j
 
 
+def rewrite(paths, change):
+    """Writes each file anew that the change leaves other than it was."""
+    for p in paths:
+        with open(p, encoding="utf-8") as f:
+            old = f.read()
+        new = change(p, old)
+        if new != old:
+            with open(p, "w", encoding="utf-8") as f:
+                f.write(new)
+
+
+def moved(path, text):
+    """The text with analyse/specs/Contracts under its other name."""
+    text = text.replace("analyse.specs.Contracts", "analyse.specs.Called")
+    return text.replace("pub mod Contracts", "pub mod Called") if path == "crates/analyse/specs/Lib.antt" else text
+
+
 def main():
     names, all_words = {}, set()
     files = [p for kind in ("specs", "proofs") for p in glob.glob(f"crates/*/{kind}/**/*.antt", recursive=True)]
@@ -118,39 +135,13 @@ def main():
     for p in files:
         with open(p, encoding="utf-8") as f:
             all_words |= set(WORD.findall(f.read()))
-    for p in files:
-        with open(p, encoding="utf-8") as f:
-            old = f.read()
-        new = turn(lemmas_apart(p, old), names)
-        if new != old:
-            with open(p, "w", encoding="utf-8") as f:
-                f.write(new)
-    for p in glob.glob("crates/*/src/**/*.rt", recursive=True):
-        with open(p, encoding="utf-8") as f:
-            old = f.read()
-        new = clauses(old, names)
-        if new != old:
-            with open(p, "w", encoding="utf-8") as f:
-                f.write(new)
-    for p in glob.glob("crates/*/must-fail/*.edit"):
-        with open(p, encoding="utf-8") as f:
-            old = f.read()
-        new = turn(old, names)
-        if new != old:
-            with open(p, "w", encoding="utf-8") as f:
-                f.write(new)
+    rewrite(files, lambda p, text: turn(lemmas_apart(p, text), names))
+    rewrite(glob.glob("crates/*/src/**/*.rt", recursive=True), lambda p, text: clauses(text, names))
+    rewrite(glob.glob("crates/*/must-fail/*.edit"), lambda p, text: turn(text, names))
     if os.path.exists("crates/analyse/specs/Contracts.antt"):
         os.rename("crates/analyse/specs/Contracts.antt", "crates/analyse/specs/Called.antt")
-        for p in glob.glob("crates/**/*", recursive=True):
-            if p.endswith((".antt", ".rt", ".edit")):
-                with open(p, encoding="utf-8") as f:
-                    old = f.read()
-                new = old.replace("analyse.specs.Contracts", "analyse.specs.Called")
-                if p == "crates/analyse/specs/Lib.antt":
-                    new = new.replace("pub mod Contracts", "pub mod Called")
-                if new != old:
-                    with open(p, "w", encoding="utf-8") as f:
-                        f.write(new)
+        every = [p for p in glob.glob("crates/**/*", recursive=True) if p.endswith((".antt", ".rt", ".edit")) and "/out/" not in p]
+        rewrite(every, moved)
     back = {}
     for a, b in sorted(names.items()):
         back.setdefault(b, []).append(a)

@@ -496,6 +496,11 @@ module _ (c : Control) (recs slots roots list cluster_sets out : List ℕ) where
           listed = p;
         }
 
+    -- the length of the image is a number of 32 bits
+    pub image-most : (len m : ℕ) → len ≡ objects_len c.n recs c.n → m ≡ length (pointers (take sink_max list))
+        → 26 + len + 4 * c.r + sinks_len m ≤ 26 + 64 * object_max + 4 * root_max + 134
+    image-most len m q p = image-small c len m recs slots roots list (savable len m q p)
+
     module _ (len m : ℕ) (q : len ≡ objects_len c.n recs c.n) (p : m ≡ length (pointers (take sink_max list))) where
       pub too_small : length out < 26 + len + 4 * c.r + sinks_len m → gives (record { refusal = 2; length = 0; control = c }) out ≡ save c recs slots roots list cluster_sets out
       unfolding save short

@@ -243,5 +243,5 @@ module _ (n : ℕ) (slots recs work : List ℕ) (top : ℕ) where
 
   pub moved_as : (f g : Walk → Walk) (recs' work' : List ℕ) (top' : ℕ) → ((todo : List ℕ) → g (walk_at n recs todo) ≡ f (walk_at n recs todo))
       → Moved n slots recs work top f recs' work' top' → Moved n slots recs work top g recs' work' top'
-  moved_as f g recs' work' top' e v =
+  moved_as f g _ _ _ e v =
       record { same = λ more. e (pending n work top ++ more) ∙ v.same more; state = v.state; kept = v.kept; links = v.links }

@@ -298,7 +298,7 @@ written-set n i k recs slots s v e = ap (set recs (i - 1)) (e ∙ ap (with_writt
 
 pub word-stored : (i k w : ℕ) (slots : List ℕ) (at : ℕ) → at ≡ slots_len (i - 1) → set slots (at + k) w ≡ set slots (8 * (i - 1) + k) w
 unfolding slots_len
-word-stored i k w slots at e = ap (λ (p : ℕ). set slots (p + k) w) e
+word-stored i k w slots _ e = ap (λ (p : ℕ). set slots (p + k) w) e
 
 module _ (n i k w : ℕ) (recs slots : List ℕ) (s : Slot n i k recs slots) where
   abbrev new : List ℕ

@@ -1,16 +1,13 @@
 -- `sinks::place_sink` meets its contract. Assumes nothing.
 use native.Mathlib.Omega.{arith}
-use Prim.Native.Nat.{◌<◌}
-use lib.ListN.{length}
-use Rattle.layout.specs.Limits.{sink_max}
 use Rattle.sinks.proofs.SinkLaws.{placed-there, place-low}
 use Rattle.sinks.proofs.place_sink.Goals as goal
 
 pub offset_bounds-sinks-k : goal.offset_bounds-sinks-k
-offset_bounds-sinks-k c = omega (arith, (let it : ((c.first_empty-k.result < sink_max) × (c.first_empty-k.result < length c.args.sinks.now)) = place-low c.args.sinks.now c.requires.1 _ c.first_empty-k.ensures in it).0)
+offset_bounds-sinks-k c = omega (arith, (place-low c.args.sinks.now c.requires.1 _ c.first_empty-k.ensures).0)
 
 pub bounds-sinks-k : goal.bounds-sinks-k
-bounds-sinks-k c = (let it : ((c.first_empty-k.result < sink_max) × (c.first_empty-k.result < length c.args.sinks.now)) = place-low c.args.sinks.now c.requires.1 _ c.first_empty-k.ensures in it).1
+bounds-sinks-k c = (place-low c.args.sinks.now c.requires.1 _ c.first_empty-k.ensures).1
 
 pub returns : goal.returns
 returns c =

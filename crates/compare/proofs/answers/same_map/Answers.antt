@@ -13,10 +13,14 @@ pub loop-i-init : goal.loop-i-init
 loop-i-init c = refl
 
 pub returns-then-x-i : goal.returns-then-x-i
-returns-then-x-i c = sym (same-differ _ _ _ c.loop-i-test.true (let it : (c.loop-i.i < length c.args.y.now) = omega arith in it) c.if-x-i.true) ∙ c.loop-i.invariant
+returns-then-x-i c =
+    let l : c.loop-i.i < length c.args.y.now = omega arith in
+    sym (same-differ _ _ _ c.loop-i-test.true l c.if-x-i.true) ∙ c.loop-i.invariant
 
 pub loop-i-preserved : goal.loop-i-preserved
-loop-i-preserved c = sym (same_step _ _ _ c.loop-i-test.true (let it : (c.loop-i.i < length c.args.y.now) = omega arith in it) c.if-x-i.false) ∙ c.loop-i.invariant
+loop-i-preserved c =
+    let l : c.loop-i.i < length c.args.y.now = omega arith in
+    sym (same_step _ _ _ c.loop-i-test.true l c.if-x-i.false) ∙ c.loop-i.invariant
 
 pub returns : goal.returns
 returns c = sym (same_out _ _ _ c.loop-i-test.false (omega arith)) ∙ c.loop-i.invariant

@@ -1,8 +1,8 @@
 -- `push_pointers` meets its contract. The loop's invariant, `Pushing`: from here down it ends with the same words.
-use Prim.Native.Nat.{◌+◌, ◌-◌, ◌≤◌}
+use Prim.Native.Nat.{◌+◌, ◌-◌}
 use mathlib.Core.Path.{◌≡◌, refl, sym, ◌∙◌}
 use mathlib.Core.Bool.{true}
-use lib.ListN.{length, get_or}
+use lib.ListN.{get_or}
 use Rattle.layout.specs.Limits.{within}
 use Rattle.walk.proofs.PendingLaws.{pushing-here, pushing-passed, pushing-room, pushing-inside, pushing-kept, pushing-done}
 use native.Mathlib.Omega.{arith}
@@ -25,27 +25,21 @@ pub bounds-slots-from : goal.bounds-slots-from
 bounds-slots-from c = omega arith
 
 pub overflow_sub-at : goal.overflow_sub-at
-overflow_sub-at c = omega (
-  arith,
-  (let it : ((1 ≤ c.loop-j.at) × (c.loop-j.at ≤ length c.loop-j.work)) = let a = c.args in
-      let l = c.loop-j in
-      let t = c.loop-j-test.true in
-      let e : within 1 a.n (get_or a.slots.now (a.from + (l.j - 1)) 0) ≡ true = sym c.within.ensures ∙ c.if-within.true in
-      (pushing-room _ _ _ _ _ _ c.requires _ _ _ l.invariant t _ refl e, pushing-inside _ _ _ _ _ _ c.requires _ _ _ l.invariant t _ refl e) in it),
-)
+overflow_sub-at c =
+    let e : within 1 c.args.n (get_or c.args.slots.now (c.args.from + (c.loop-j.j - 1)) 0) ≡ true = sym c.within.ensures ∙ c.if-within.true in
+    omega (arith, pushing-room _ _ _ _ _ _ c.requires _ _ _ c.loop-j.invariant c.loop-j-test.true _ refl e)
 
 pub offset_bounds-work-at : goal.offset_bounds-work-at
 offset_bounds-work-at c = omega arith
 
 pub bounds-work-at : goal.bounds-work-at
-bounds-work-at c = omega (
-  arith,
-  (let it : ((1 ≤ c.loop-j.at) × (c.loop-j.at ≤ length c.loop-j.work)) = let a = c.args in
-      let l = c.loop-j in
-      let t = c.loop-j-test.true in
-      let e : within 1 a.n (get_or a.slots.now (a.from + (l.j - 1)) 0) ≡ true = sym c.within.ensures ∙ c.if-within.true in
-      (pushing-room _ _ _ _ _ _ c.requires _ _ _ l.invariant t _ refl e, pushing-inside _ _ _ _ _ _ c.requires _ _ _ l.invariant t _ refl e) in it),
-)
+bounds-work-at c =
+    let e : within 1 c.args.n (get_or c.args.slots.now (c.args.from + (c.loop-j.j - 1)) 0) ≡ true = sym c.within.ensures ∙ c.if-within.true in
+    omega (
+      arith,
+      pushing-room _ _ _ _ _ _ c.requires _ _ _ c.loop-j.invariant c.loop-j-test.true _ refl e,
+      pushing-inside _ _ _ _ _ _ c.requires _ _ _ c.loop-j.invariant c.loop-j-test.true _ refl e,
+    )
 
 pub loop-j-smaller-then-within : goal.loop-j-smaller-then-within
 loop-j-smaller-then-within c = omega arith
