@@ -26,9 +26,6 @@ loop-at-init c = checked-start _ _
 pub head_byte-width-requires : goal.head_byte-width-requires
 head_byte-width-requires c = ((fit c.loop-at.invariant c.requires.1 c.loop-at-test.true).head, omega arith)
 
-pub overflow_add-at : goal.overflow_add-at
-overflow_add-at c = omega (arith, (fit c.loop-at.invariant c.requires.1 c.loop-at-test.true).head)
-
 pub words_end-at-requires : goal.words_end-at-requires
 words_end-at-requires c = (c.requires.0, omega (arith, (fit c.loop-at.invariant c.requires.1 c.loop-at-test.true).whole, c.head_byte-width.ensures))
 
