@@ -15,15 +15,9 @@ as_read i n words is same e = ap (passes i n words) (sym same) ∙ sym is ∙ e
 pub loop-left-init : goal.loop-left-init
 loop-left-init c = testing-start _ _ _ _
 
-pub word_at-requires : goal.word_at-requires
-word_at-requires c = let s = c.loop-left.invariant in omega (arith, s.place, s.few, c.requires.1)
-
 pub returns-then-not-word_passes : goal.returns-then-not-word_passes
 returns-then-not-word_passes c =
     testing-stop _ _ _ _ _ _ c.loop-left.invariant c.loop-left-test.true (as_read _ _ _ c.word_passes.ensures c.word_at.ensures c.if-not-word_passes.true)
-
-pub overflow_add-at : goal.overflow_add-at
-overflow_add-at c = let s = c.loop-left.invariant in omega (arith, s.place, s.few, c.requires.1)
 
 pub loop-left-preserved : goal.loop-left-preserved
 loop-left-preserved c =
