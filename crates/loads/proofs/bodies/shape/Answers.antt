@@ -2,7 +2,6 @@
 use mathlib.Core.Bool.{false≢true, true≢false}
 use mathlib.Core.Path.{sym, ◌∙◌}
 use Rattle.loads.proofs.SetLaws.{shaping-start, shaping-turn, shaping-stop, shaping-ok, shaping-listed, shaping-sunk}
-use native.Mathlib.Omega.{arith}
 use Rattle.loads.proofs.bodies.shape.Goals as goal
 
 pub loop-at-init : goal.loop-at-init

@@ -1,12 +1,11 @@
 -- `loads::bodies::words_ok` tests the words of object after object. Assumes nothing.
-use Prim.Native.Nat.{ℕ, ◌+◌, ◌<◌}
+use Prim.Native.Nat.{ℕ, ◌<◌}
 use mathlib.Core.Path.{◌≡◌}
-use mathlib.Core.Bool.{Bool, true}
+use mathlib.Core.Bool.{true}
 use mathlib.Core.List.{List}
 use lib.ListN.{length}
 use Rattle.rules.specs.Buffers.{all_of}
-use Rattle.rules.specs.Image.{head_len}
-use Rattle.loads.specs.Bodies.{Fit, shape_ok, width_at, entry_end, passes, words_at, WordsEnd, Checked}
+use Rattle.loads.specs.Bodies.{Fit, shape_ok, entry_end, passes, words_at, WordsEnd, Checked}
 use Rattle.loads.proofs.WordLaws.{checked-start, checked-fit, checked-turn, checked-stop, checked-end, end-passed, end-stopped}
 use native.Mathlib.Omega.{arith}
 use Rattle.loads.proofs.bodies.words_ok.Goals as goal

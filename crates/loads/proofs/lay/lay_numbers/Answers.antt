@@ -4,7 +4,7 @@ use Prim.Native.Nat.{ℕ, ◌<◌}
 use lib.ListN.{length}
 use Rattle.loads.specs.Bodies.{Fit}
 use Rattle.loads.specs.Laid.{Listable}
-use Rattle.loads.proofs.SinkPlaces.{Numbering, numbering_start, numbering-length, numbering-fit, numbering-room, numbering-turn, numbering-end}
+use Rattle.loads.proofs.SinkPlaces.{Numbering, numbering_start, numbering-fit, numbering-room, numbering-turn, numbering-end}
 use native.Mathlib.Omega.{arith}
 use Rattle.loads.proofs.lay.lay_numbers.Goals as goal
 
