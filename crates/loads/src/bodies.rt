@@ -99,6 +99,7 @@ pub(crate) fn word_passes(immediates: bool, n: u32, word: u32, words: &[u64]) ->
 }
 
 // Whether the four words from a place on pass.
+#[tactic(auto, unfolding(crate::specs::Bodies::four_pass))]
 pub(crate) fn four_pass(immediates: bool, n: u32, body: &[u8], at: usize, words: &[u64]) -> bool
     requires { (n ≤ object_max) × (at + 16 ≤ length body.now) }
     ensures { result ≡ four_pass (passes immediates n words.now) at body.now }
