@@ -5,7 +5,34 @@ use mathlib.Core.Bool.{Bool, true, false, cond}
 use mathlib.Core.List.{List, [], ◌∷◌, ◌++◌}
 use mathlib.Core.Logic.{◌≢◌}
 use native.Mathlib.Omega.{arith}
-use Rattle.layout.specs.Refusal.{Test, first, by, outcome}
+use lib.Dec.{lit<}
+use Rattle.layout.specs.declared.refusals.Refusal.{Refusal}
+use Rattle.layout.specs.declared.refusals.Refusal.TheVariants.{BadSizes, TooShort, TooWide, NoObject, NoSlot, BadWord, NoRoot, BadControl, Damaged, IsFree, NamesNone, Full, LossFull, ImageCut, BadImage, UnknownKind, SinksFull, BadTuning}
+use Rattle.layout.specs.Refusal.{Test, number, first, by, outcome}
+
+-- no refusal has the number 0
+pub number-above : (e : Refusal) → 0 < number e
+number-above BadSizes = lit< tt
+number-above TooShort = lit< tt
+number-above TooWide = lit< tt
+number-above NoObject = lit< tt
+number-above NoSlot = lit< tt
+number-above BadWord = lit< tt
+number-above NoRoot = lit< tt
+number-above BadControl = lit< tt
+number-above Damaged = lit< tt
+number-above IsFree = lit< tt
+number-above NamesNone = lit< tt
+number-above Full = lit< tt
+number-above LossFull = lit< tt
+number-above ImageCut = lit< tt
+number-above BadImage = lit< tt
+number-above UnknownKind = lit< tt
+number-above SinksFull = lit< tt
+number-above BadTuning = lit< tt
+
+pub numbered : (e : Refusal) → number e ≢ 0
+numbered e z = let h = number-above e in omega arith
 
 -- none of the tests holds
 pub data None : List Test → Type 0 where

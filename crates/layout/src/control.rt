@@ -1,6 +1,6 @@
 // The control record made and changed. No other source spells out its fields.
 ghost use Rattle.std.specs.Prelude.{◌≡◌};
-ghost use Rattle.layout.specs.ControlRecord.{tuning_of, usual_tuning, new_control, no_control, control_with, with_last, with_write_loss, with_analysis};
+ghost use Rattle.layout.specs.ControlRecord.{tuning_of, usual_tuning, new_control, no_control, with_last, with_write_loss, with_analysis};
 
 use crate::answers::{Control, Tuning};
 
@@ -23,12 +23,13 @@ pub fn usual_tuning() -> Tuning
 }
 
 // The control record of a heap just created.
+#[tactic(auto, unfolding(crate::specs::ControlRecord::new_control))]
 pub fn new_control(n: u32, r: u32, t: Tuning) -> Control
     ensures { result ≡ new_control n r t }
 {
     Control {
-        n: n,
-        r: r,
+        n,
+        r,
         last: 0,
         limit: 0,
         write_loss: 0,
@@ -44,24 +45,9 @@ pub fn no_control() -> Control
     new_control(0, 0, tuning(0, 0, 0))
 }
 
-// The control record with these for its last number given, its limit and its losses.
-fn control_with(c: Control, last: u32, limit: u32, writes: u32, outs: u32) -> Control
-    ensures { result ≡ control_with last limit writes outs c }
-{
-    let t = c.tuning;
-    Control {
-        n: c.n,
-        r: c.r,
-        last: last,
-        limit: limit,
-        write_loss: writes,
-        out_loss: outs,
-        tuning: t,
-    }
-}
-
-// The control record after object x is given. One number is set in a copy: built anew, as by `control_with`, the record of an
-// allocation by value is ready later (docs/DECISIONS.md, "Time").
+// The control record after object x is given. One number is set in a copy: built anew, the record of
+// an allocation by value is ready later (docs/DECISIONS.md, "Time").
+#[tactic(auto, unfolding(crate::specs::ControlRecord::with_last))]
 pub fn with_last(c: Control, x: u32) -> Control
     ensures { result ≡ with_last x c }
 {
@@ -71,15 +57,25 @@ pub fn with_last(c: Control, x: u32) -> Control
 }
 
 // The control record with another write loss.
+#[tactic(auto, unfolding(crate::specs::ControlRecord::with_write_loss))]
 pub fn with_write_loss(c: Control, loss: u32) -> Control
     ensures { result ≡ with_write_loss loss c }
 {
-    control_with(c, c.last, c.limit, loss, c.out_loss)
+    Control {
+        write_loss: loss,
+        ..c
+    }
 }
 
 // The control record after an analysis by this size limit that finds this out loss.
+#[tactic(auto, unfolding(crate::specs::ControlRecord::with_analysis))]
 pub fn with_analysis(c: Control, limit: u32, loss: u32) -> Control
     ensures { result ≡ with_analysis limit loss c }
 {
-    control_with(c, c.last, limit, 0, loss)
+    Control {
+        limit,
+        write_loss: 0,
+        out_loss: loss,
+        ..c
+    }
 }

@@ -16,18 +16,21 @@ pub const OUTS_MAX: u32 = 80;
 
 pub const LIMIT_MAX: u32 = 4095;
 
+#[tactic(auto, unfolding(crate::specs::Limits::slots_len))]
 pub fn slots_len(n: u32) -> usize
     ensures { result ≡ slots_len n }
 {
     (WIDTH_MAX as usize) * (n as usize)
 }
 
+#[tactic(auto, unfolding(crate::specs::Limits::work_len))]
 pub fn work_len(n: u32) -> usize
     ensures { result ≡ work_len n }
 {
     10 * (n as usize) + ROOT_MAX as usize
 }
 
+#[tactic(auto, unfolding(crate::specs::Limits::map_len))]
 pub fn map_len(n: u32) -> usize
     ensures { result ≡ map_len n }
 {
@@ -35,8 +38,9 @@ pub fn map_len(n: u32) -> usize
 }
 
 // Whether a ≤ x ≤ b.
+#[tactic(auto, unfolding(crate::specs::Limits::within))]
 pub fn within(a: u32, b: u32, x: u32) -> bool
     ensures { result ≡ inside a b x }
 {
-    a <= x && x <= b
+    (a..=b).contains(&x)
 }
