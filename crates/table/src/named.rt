@@ -1,12 +1,12 @@
 // The tests that every call on a named object begins with.
 ghost use Rattle.std.specs.Prelude.{◌≡◌, length};
-ghost use Rattle.layout.specs.Refusal.{first};
+ghost use Rattle.layout.specs.Refusal.{first, refusal_of};
 ghost use Rattle.table.specs.Named.{named_tests};
 ghost use Rattle.table.specs.Room.{least as smaller, object_room, room_of};
 
 use layout::answers::Control;
 use layout::limits::{WIDTH_MAX, within};
-use layout::refusals::{BAD_CONTROL, DAMAGED, IS_FREE, NO_OBJECT, TOO_SHORT, bad_control};
+use layout::refusals::{Refusal, bad_control};
 use records::legal;
 
 // The smaller of two numbers.
@@ -30,23 +30,33 @@ fn room(records: &[u32], slots: &[u32], others: usize) -> usize
     least(object_room(records, slots), others)
 }
 
-// The number of the first of those tests that holds, 0 where none does. The slices that only the caller knows have room for
+// The first of those tests that holds refuses. The slices that only the caller knows have room for
 // `others` objects.
-pub fn object_refusal(c: Control, object: u32, records: &[u32], slots: &[u32], others: usize) -> u32
-    ensures { result ≡ first (named_tests c object records.now slots.now others) }
+pub fn object_refusal(
+    c: Control,
+    object: u32,
+    records: &[u32],
+    slots: &[u32],
+    others: usize,
+) -> Result<(), Refusal>
+    ensures { refusal_of result ≡ first (named_tests c object records.now slots.now others) }
 {
     if bad_control(c) {
-        return BAD_CONTROL;
+        return Err(Refusal::BadControl);
     }
     if room(records, slots, others) < c.n as usize {
-        return TOO_SHORT;
+        return Err(Refusal::TooShort);
     }
     if !within(1, c.n, object) {
-        return NO_OBJECT;
+        return Err(Refusal::NoObject);
     }
     let r = records[(object - 1) as usize];
     if legal(c.n, r) {
-        return 0;
+        return Ok(());
     }
-    if r == 0 { IS_FREE } else { DAMAGED }
+    if r == 0 {
+        Err(Refusal::IsFree)
+    } else {
+        Err(Refusal::Damaged)
+    }
 }
