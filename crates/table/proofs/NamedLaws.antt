@@ -1,13 +1,13 @@
 -- What the tests of a named object answer at each end of `table::named::object_refusal`, and what 0 says. Assumes nothing.
-use Prim.Native.Nat.{ℕ, ◌-◌, ◌*◌, ◌/◌, ◌≤◌, ◌<◌}
+use Prim.Native.Nat.{ℕ, ◌-◌, ◌*◌, ◌≤◌, ◌<◌}
 use mathlib.Core.Path.{◌≡◌, refl, sym, ◌∙◌}
-use mathlib.Core.Bool.{Bool, true, false, ◌||◌, cond, or-false}
+use mathlib.Core.Bool.{Bool, true, false, ◌||◌, or-false}
 use mathlib.Core.List.{List, ◌++◌}
 use mathlib.Core.Logic.{◌≢◌}
 use lib.Dec.{ltb}
 use lib.ListN.{length, get_or}
 use native.Mathlib.Omega.{arith}
-use borrow.Author.Tests.{le-ltb, ltb-true, ltb-false, not-false}
+use borrow.Author.Tests.{le-ltb, ltb-false, not-false}
 use Rattle.layout.specs.declared.answers.Control.{Control}
 use Rattle.layout.specs.Limits.{object_max, slots_len, within}
 use Rattle.records.specs.Record.{width, legal, damaged}
@@ -20,7 +20,7 @@ use Rattle.layout.proofs.LimitLaws.{within-true}
 use Rattle.layout.proofs.RefusalLaws.{first-passed, first_holds, first-fails}
 use Rattle.rules.specs.Buffers.{short, rec_of}
 use Rattle.rules.specs.Show.{show_tests}
-use Rattle.table.specs.Room.{least, object_room, room_of}
+use Rattle.table.specs.Room.{object_room, room_of}
 use Rattle.table.specs.Named.{named_tests}
 use Rattle.rules.proofs.BoolLaws.{or_split}
 use Rattle.rules.proofs.BufferLaws.{rec_of-get}
@@ -32,30 +32,13 @@ start_is k = refl
 
 -- n objects fit where every slice is long enough, and nowhere else
 module _ (a b n : ℕ) where
-  least-both : n ≤ a → n ≤ b → n ≤ least a b
-  unfolding least
-  least-both p q = go (ltb a b)
-    where
-      go : (t : Bool) → n ≤ cond t a b
-      go true = p
-      go false = q
-
-  least-each : n ≤ least a b → (n ≤ a) × (n ≤ b)
-  unfolding least
-  least-each h = go (ltb a b) refl h
-    where
-      go : (t : Bool) → ltb a b ≡ t → n ≤ cond t a b → (n ≤ a) × (n ≤ b)
-      go true e q = (q, omega (arith, ltb-true a b e, q))
-      go false e q = (omega (arith, ltb-false a b e, q), q)
-
-module _ (a b n : ℕ) where
   pub object-room-fits : n ≤ object_room a b → (n ≤ a) × (slots_len n ≤ b)
   unfolding object_room slots_len
-  object-room-fits h = let q = least-each a (b / 8) n h in (q.0, omega (arith, q.1))
+  object-room-fits h = (omega arith, omega arith)
 
   fits-object-room : n ≤ a → slots_len n ≤ b → n ≤ object_room a b
   unfolding object_room slots_len
-  fits-object-room p q = least-both a (b / 8) n p (omega (arith, q))
+  fits-object-room p q = omega arith
 
   pub object-room-short : object_room a b < n → ltb a n || ltb b (slots_len n) ≡ true
   object-room-short h = go (ltb a n) refl (ltb b (slots_len n)) refl
@@ -69,9 +52,8 @@ module _ (a b o n : ℕ) where
   pub room_fits : n ≤ room_of a b o → (n ≤ a) × (slots_len n ≤ b) × (n ≤ o)
   unfolding room_of object_room
   room_fits h =
-      let p = least-each (object_room a b) o n h in
-      let q = object-room-fits a b n p.0 in
-      (q.0, q.1, p.1)
+      let q = object-room-fits a b n (omega arith) in
+      (q.0, q.1, omega arith)
 
   pub room-short : room_of a b o < n → ltb a n || ltb b (slots_len n) || ltb o n ≡ true
   unfolding room_of object_room
@@ -83,7 +65,7 @@ module _ (a b o n : ℕ) where
       go false e false f true g = refl
       go false e false f false g =
           let p = fits-object-room a b n (ltb-false a n e) (ltb-false b (slots_len n) f) in
-          absurd (omega (arith, least-both (object_room a b) o n p (ltb-false o n g), h))
+          absurd (omega (arith, p, ltb-false o n g, h))
 
 -- what is known of the object once its tests are passed
 pub record Named (c : Control) (i : ℕ) (recs slots : List ℕ) : Type 0 where

@@ -1,5 +1,5 @@
 -- The lent words suffice for n objects.
-use Rattle.std.specs.Prelude.{ℕ, ◌+◌, ◌*◌, ◌/◌, ◌≤◌, ◌≡◌, true, false, cond, ltb, List, length}
+use Rattle.std.specs.Prelude.{ℕ, ◌+◌, ◌*◌, ◌/◌, ◌≤◌, ◌≡◌, true, false, min, List, length}
 use Rattle.layout.specs.Limits.{object_max, root_max, width_max, sink_max}
 use Rattle.layout.specs.ControlRecord.{bad_control}
 use Rattle.layout.specs.declared.answers.Control.{Control}
@@ -7,17 +7,13 @@ use Rattle.records.specs.Record.{width}
 use Rattle.rules.specs.Buffers.{rec_of}
 use Rattle.rules.specs.WellFormed.{well_formed}
 
--- the smaller of two numbers
-unfoldable pub least : ℕ → ℕ → ℕ
-least a b = cond (ltb a b) a b
-
 -- for how many objects a words of records and b of slots suffice ("The heap")
 unfoldable pub object_room : ℕ → ℕ → ℕ
-object_room a b = least a (b / width_max)
+object_room a b = min a (b / width_max)
 
 -- and these with the other lent slices
 unfoldable pub room_of : ℕ → ℕ → ℕ → ℕ
-room_of a b others = least (least a (b / width_max)) others
+room_of a b others = min (object_room a b) others
 
 -- there are records and slots for n objects
 pub record Room (n : ℕ) (recs slots : List ℕ) : Type 0 where

@@ -2,32 +2,27 @@
 ghost use Rattle.std.specs.Prelude.{◌≡◌, length};
 ghost use Rattle.layout.specs.Refusal.{first, refusal_of};
 ghost use Rattle.table.specs.Named.{named_tests};
-ghost use Rattle.table.specs.Room.{least as smaller, object_room, room_of};
+ghost use Rattle.table.specs.Room.{object_room, room_of};
 
 use layout::answers::Control;
 use layout::limits::{WIDTH_MAX, within};
 use layout::refusals::{Refusal, bad_control};
 use records::legal;
 
-// The smaller of two numbers.
-fn least(a: usize, b: usize) -> usize
-    ensures { result ≡ smaller a b }
-{
-    if a < b { a } else { b }
-}
-
 // How many objects records and slots have room for. A test of it is one branch (docs/BENCHMARK.md, "Read").
+#[tactic(auto, unfolding(crate::specs::Room::object_room))]
 pub fn object_room(records: &[u32], slots: &[u32]) -> usize
     ensures { result ≡ object_room (length records.now) (length slots.now) }
 {
-    least(records.len(), slots.len() / WIDTH_MAX as usize)
+    records.len().min(slots.len() / WIDTH_MAX as usize)
 }
 
 // How many objects all slices have room for.
+#[tactic(auto, unfolding(crate::specs::Room::room_of))]
 fn room(records: &[u32], slots: &[u32], others: usize) -> usize
     ensures { result ≡ room_of (length records.now) (length slots.now) others }
 {
-    least(object_room(records, slots), others)
+    object_room(records, slots).min(others)
 }
 
 // The first of those tests that holds refuses. The slices that only the caller knows have room for
