@@ -3,14 +3,14 @@
 
 ghost use Rattle.std.specs.Prelude.{◌≡◌, ◌≤◌, length};
 ghost use Rattle.layout.specs.Limits.{object_max};
-ghost use Rattle.layout.specs.Refusal.{first};
+ghost use Rattle.layout.specs.Refusal.{first, refusal_of};
 ghost use Rattle.rules.specs.WellFormed.{roots_named, formed, checked};
 ghost use Rattle.table.specs.Room.{Room};
 ghost use Rattle.wellformed.specs.Check.{record_ok, head_ok, slot_ok, member_leaves, out_ok, objects_ok, heap_tests};
 
 use layout::answers::Control;
 use layout::limits::{OBJECT_MAX, WIDTH_MAX};
-use layout::refusals::{BAD_CONTROL, DAMAGED, TOO_SHORT, bad_control};
+use layout::refusals::{Refusal, bad_control};
 use layout::words::{Word, sort_word};
 use places::{list_ok, sets_ok};
 use records::{cluster_of, in_use, is_out, legal, width_of};
@@ -155,7 +155,7 @@ pub fn well_formed(
     sets_ok(c.n, records, slots, sinks, sets)
 }
 
-// The number of the first test of a call that walks the whole heap, 0 where none holds; `rest` says that a slice besides is too short.
+// The first test of a call that walks the whole heap that holds refuses; `rest` says that a slice besides is too short.
 pub fn heap_refusal(
     c: Control,
     records: &[u32],
@@ -164,18 +164,18 @@ pub fn heap_refusal(
     sinks: &[u32],
     sets: &[u64],
     rest: bool,
-) -> u32
-    ensures { result ≡ first (heap_tests c records.now slots.now roots.now sinks.now sets.now rest) }
+) -> Result<(), Refusal>
+    ensures { refusal_of result ≡ first (heap_tests c records.now slots.now roots.now sinks.now sets.now rest) }
 {
     if bad_control(c) {
-        return BAD_CONTROL;
+        return Err(Refusal::BadControl);
     }
     if short_heap(c.n, c.r, records, slots, roots, sinks, sets) | rest {
-        return TOO_SHORT;
+        return Err(Refusal::TooShort);
     }
     if well_formed(c, records, slots, roots, sinks, sets) {
-        0
+        Ok(())
     } else {
-        DAMAGED
+        Err(Refusal::Damaged)
     }
 }
