@@ -8,7 +8,7 @@ use native.Mathlib.Omega.{arith}
 use lib.ListN.{length, get_or, take, drop, set, take-append-drop, drop_of_length-le}
 use Rattle.rules.specs.Buffers.{each_from}
 use Rattle.rules.proofs.ListLaws.{length-each, take-each, drop_past}
-use Rattle.rules.proofs.PassLaws.{pass_from, pass-begin, pass-turn, pass-skip, pass-past}
+use Rattle.rules.proofs.PassLaws.{pass_from, pass-begin, pass-turn, pass-past}
 
 module _ {A : Type 0} (base : ℕ) (f : ℕ → A → A) where
   -- what is left to do from place i on in a part of e words
@@ -18,18 +18,12 @@ module _ {A : Type 0} (base : ℕ) (f : ℕ → A → A) where
   pub part-begin : (e : ℕ) (part : List A) → left_of e 0 part ≡ each_from base e f part
   part-begin e part = let s : e - 0 ≡ e = omega arith in rw s (pass-begin base e f part)
 
-  module _ (e i : ℕ) (part : List A) (p : i < e) (q : i < length part) where
-    pub part-turn : (v d : A) → v ≡ f (base + i) (get_or part i d) → left_of e (i + 1) (set part i v) ≡ left_of e i part
-    part-turn v d h =
-        let s : i + 1 ≡ suc i = omega arith in
-        let t : e - i ≡ suc (e - suc i) = omega arith in
-        rw (h, s, t) (pass-turn base i (e - suc i) f part d q)
-
-    pub part-skip : (d : A) → f (base + i) (get_or part i d) ≡ get_or part i d → left_of e (i + 1) part ≡ left_of e i part
-    part-skip d h =
-        let s : i + 1 ≡ suc i = omega arith in
-        let t : e - i ≡ suc (e - suc i) = omega arith in
-        rw (s, t) (pass-skip base i (e - suc i) f part d q h)
+  pub part-turn : (e i : ℕ) (part : List A) (v d : A) → i < e → i < length part → v ≡ f (base + i) (get_or part i d)
+      → left_of e (i + 1) (set part i v) ≡ left_of e i part
+  part-turn e i part v d p q h =
+      let s : i + 1 ≡ suc i = omega arith in
+      let t : e - i ≡ suc (e - suc i) = omega arith in
+      rw (h, s, t) (pass-turn base i (e - suc i) f part d q)
 
   module _ (k e : ℕ) (l : List A) (h : e ≡ min k (length l)) where
     -- past the part all is as it was

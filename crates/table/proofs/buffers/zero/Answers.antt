@@ -12,7 +12,7 @@ pub loop-w-preserved : goal.loop-w-preserved
 loop-w-preserved g c =
     let l = c.loop-w in
     let n = length-take c.min-end.result c.args.words.now in
-    part-turn 0 (λ i w. g.T.Word.ZERO) _ l.w-index _ (omega arith) (omega arith) _ c.ZERO.result c.ZERO.ensures ∙ l.invariant
+    part-turn 0 (λ i w. g.T.Word.ZERO) _ l.w-index _ _ c.ZERO.result (omega arith) (omega arith) c.ZERO.ensures ∙ l.invariant
 
 pub returns : goal.returns
 returns g c =
