@@ -6,16 +6,18 @@ mod scan;
 mod trace;
 mod visit;
 
+ghost use Rattle.layout.specs.Refusal.{refusal_of};
 ghost use Rattle.walk.specs.Walk.{AfterWalk};
 
 use crate::trace::trace;
 use layout::answers::Control;
 use layout::limits::work_len;
+use layout::refusals::Refusal;
 use table::buffers::zero;
 use wellformed::heap_refusal;
 
-// Tests the heap and walks it from its roots; answers the number of the first test that holds, 0 where none does. After an accepted walk the
-// flags are in the records, and the work words are 0. `rest` says that a slice besides is too short.
+// Tests the heap and walks it from its roots; the first test that holds refuses. After an accepted walk the flags are in the records, and
+// the work words are 0. `rest` says that a slice besides is too short.
 pub fn walk(
     by: bool,
     c: Control,
@@ -26,12 +28,12 @@ pub fn walk(
     sets: &[u64],
     work: &mut [u32],
     rest: bool,
-) -> u32
+) -> Result<(), Refusal>
     ensures { AfterWalk by c records.old slots.now roots.now sinks.now sets.now work.old rest
-        result records.new work.new }
+        (refusal_of result) records.new work.new }
 {
     let m = work_len(c.n);
-    let k = heap_refusal(
+    heap_refusal(
         c,
         records,
         slots,
@@ -39,10 +41,7 @@ pub fn walk(
         sinks,
         sets,
         (work.len() < m) | rest,
-    );
-    if k != 0 {
-        return k;
-    }
+    )?;
     trace(
         by,
         c.n,
@@ -55,5 +54,5 @@ pub fn walk(
         &mut work[0..m],
     );
     zero(work, m);
-    0
+    Ok(())
 }
