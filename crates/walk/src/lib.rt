@@ -1,6 +1,7 @@
 // The walk of a collection, over the heap as it is or by its clusters. `by` tells whether clusters are walked.
 #![tactic(auto)]
 
+mod heap;
 mod marks;
 mod scan;
 mod trace;
@@ -9,6 +10,7 @@ mod visit;
 ghost use Rattle.layout.specs.Refusal.{refusal_of};
 ghost use Rattle.walk.specs.Walk.{AfterWalk};
 
+use crate::heap::Heap;
 use crate::trace::trace;
 use layout::answers::Control;
 use layout::limits::work_len;
@@ -42,17 +44,14 @@ pub fn walk(
         sets,
         (work.len() < m) | rest,
     )?;
-    trace(
+    let heap = Heap {
         by,
-        c.n,
-        c.r,
-        records,
+        n: c.n,
         slots,
-        roots,
         sinks,
         sets,
-        &mut work[0..m],
-    );
+    };
+    trace(&heap, c.r, roots, records, &mut work[0..m]);
     zero(work, m);
     Ok(())
 }

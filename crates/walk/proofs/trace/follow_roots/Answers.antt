@@ -2,7 +2,7 @@
 use mathlib.Core.Path.{refl, ◌∙◌}
 use lib.ListN.{take}
 use Rattle.graph.specs.Heap.{pointers}
-use Rattle.walk.specs.State.{way}
+use Rattle.walk.specs.State.{way_of}
 use Rattle.walk.proofs.TraceLaws.{roots-begin, root-object, root-followed, root-passed, followed-at}
 use native.Mathlib.Omega.{arith}
 use Rattle.walk.proofs.trace.follow_roots.Goals as goal
@@ -27,7 +27,7 @@ follow-requires c =
     let a = c.args in
     record {
       ready = l.invariant.1.ready;
-      obj = root-object (way a.by a.sinks.now a.sets.now) a.n a.slots.now a.records.now a.roots.now a.r l.i test.true c.requires.r_in_bounds.0 c.requires.r_in_bounds.1 c.if-w-ne0.true;
+      obj = root-object (way_of a.heap.now) a.heap.now.n a.heap.now.slots.now a.records.now a.roots.now a.r l.i test.true c.requires.r_in_bounds.0 c.requires.r_in_bounds.1 c.if-w-ne0.true;
     }
 
 pub loop-i-smaller-then-w-ne0 : goal.loop-i-smaller-then-w-ne0
@@ -39,7 +39,7 @@ loop-i-preserved-then-w-ne0 c =
     let l = c.loop-i in
     let a = c.args in (
       omega arith,
-      root-followed (way a.by a.sinks.now a.sets.now) a.n a.slots.now a.records.now a.roots.now a.r l.i test.true c.requires.r_in_bounds.0 c.requires.r_in_bounds.1 c.if-w-ne0.true
+      root-followed (way_of a.heap.now) a.heap.now.n a.heap.now.slots.now a.records.now a.roots.now a.r l.i test.true c.requires.r_in_bounds.0 c.requires.r_in_bounds.1 c.if-w-ne0.true
           l.records l.work _ _ l.invariant.1 c.follow.ensures,
       c.follow.auto.records ∙ l.invariant.2,
       c.follow.auto.work ∙ l.invariant.3,
@@ -54,7 +54,7 @@ loop-i-preserved c =
     let l = c.loop-i in
     let a = c.args in (
       omega arith,
-      root-passed (way a.by a.sinks.now a.sets.now) a.n a.slots.now a.records.now a.roots.now a.r l.i test.true c.requires.r_in_bounds.0 c.requires.r_in_bounds.1 c.if-w-ne0.false
+      root-passed (way_of a.heap.now) a.heap.now.n a.heap.now.slots.now a.records.now a.roots.now a.r l.i test.true c.requires.r_in_bounds.0 c.requires.r_in_bounds.1 c.if-w-ne0.false
           l.records l.work l.invariant.1,
       l.invariant.2,
       l.invariant.3,
