@@ -28,9 +28,7 @@ fn push_pointers(
     ensures { Pushed (pointers_in n (take k (drop from slots.now))) work.old top work.new result }
 {
     let mut at = top;
-    let mut j = k;
-    while 0 < j {
-        j -= 1;
+    for j in (0..k).rev() {
         let w = slots[from + j];
         if within(1, n, w) {
             at -= 1;

@@ -44,10 +44,8 @@ fn follow_roots(heap: &Heap, r: u32, roots: &[u32], records: &mut [u32], work: &
     ensures { Followed (way_of heap.now) heap.now.n heap.now.slots.now records.old (pointers (take r roots.now))
         records.new work.new }
 {
-    let mut i: usize = 0;
-    while i < r as usize {
+    for i in 0..r as usize {
         let w = roots[i];
-        i += 1;
         if w != 0 {
             follow(heap, records, work, w);
         }

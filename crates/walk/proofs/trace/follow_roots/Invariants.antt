@@ -8,7 +8,4 @@ use Rattle.walk.proofs.trace.follow_roots.Given as goal
 
 abbrev pub invariant-loop-i : goal.invariant-loop-i
 invariant-loop-i l =
-    (l.i ≤ l.r) × Followed (way_of l.heap) l.heap.n l.heap.slots.now l.initial.records (pointers (take l.i l.roots)) l.records l.work × (length l.records ≡ length l.initial.records) × (length l.work ≡ length l.initial.work)
-
-abbrev pub decreases-loop-i : goal.decreases-loop-i
-decreases-loop-i l = l.r - l.i
+    Followed (way_of l.heap) l.heap.n l.heap.slots.now l.initial.records (pointers (take l.i l.roots)) l.records l.work × (length l.records ≡ length l.initial.records) × (length l.work ≡ length l.initial.work)
