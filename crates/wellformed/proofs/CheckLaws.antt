@@ -12,11 +12,14 @@ use lib.ListN.{length, get_or, take, drop, length-take, drop_of_length-le}
 use lib.Seq.{drop-cons, get_or-take, get_or-drop, take-nil, length-take-le}
 use borrow.Author.Tests.{le-leb, lt-leb, eqb-true, eq-eqb, ne_eqb, not-false}
 use borrow.Rule.Slice.PartMut.{mid_of, mid_len}
+use Rattle.std.specs.Prelude.{IsTrue, ◌↔◌}
+use Rattle.std.specs.List.{AllPass}
+use Rattle.std.proofs.lemmas.List.Elements.{All-nil, All-cons, All-head, All-tail}
 use Rattle.layout.specs.declared.answers.Control.{Control}
 use Rattle.layout.specs.ControlRecord.{bad_control}
 use Rattle.layout.specs.Limits.{object_max, sink_max, work_len}
 use Rattle.layout.specs.Refusal.{first}
-use Rattle.layout.proofs.BoolLaws.{or_split}
+use Rattle.layout.proofs.BoolLaws.{and_split, or_split}
 use Rattle.layout.proofs.ControlLaws.{control-facts}
 use Rattle.layout.proofs.RefusalLaws.{first-passed}
 use Rattle.records.specs.Record.{in_use, is_sink, is_out, width, cluster, free, legal}
@@ -334,42 +337,37 @@ module _ (n : ℕ) (recs : List ℕ) (w k v : ℕ) where
   pub slot-end : n ≤ object_max → k < w → (s : Word) → s ≡ sort_of n v → allowed s ≡ slot_ok n recs w k v
   slot-end h l s e = ap allowed e ∙ slot-sorted h l
 
--- ---- the roots, one after the other
+-- ---- the roots
 
-module _ (n r : ℕ) (recs roots : List ℕ) where
-  abbrev root_ok : ℕ → Bool
-  root_ok v = is_nil v || in_use (rec_of n recs v)
+-- an answer that says of a list what the test says of each word
+module _ (t : ℕ → Bool) where
+  pass : (w : ℕ) (l : List ℕ) → AllPass t (w ∷ l) → (t w ≡ true) × AllPass t l
+  pass w l h = (All-head (λ x. t x ≡ true) w l h, All-tail (λ x. t x ≡ true) w l h)
 
-  -- those from place j on
-  unfoldable pub roots_from : ℕ → Bool
-  roots_from j = all_of root_ok (drop j (take r roots))
+  all_of-passed : (l : List ℕ) → AllPass t l → all_of t l ≡ true
+  unfolding all_of
+  all_of-passed [] h = refl
+  all_of-passed (w ∷ l) h = let p = pass w l h in rw p.0 (all_of-passed l p.1)
 
-  pub roots-begin : roots_from 0 ≡ roots_named n r recs roots
-  unfolding roots_from roots_named names
-  roots-begin =
-      ap (λ (t : ℕ → Bool). all_of t (take r roots)) (fun_ext {A = ℕ} {B = λ _. Bool} (λ v. ap (λ (b : Bool). is_nil v || b) (sym (unfold names in (names-used n recs v)))))
+  passed-all_of : (l : List ℕ) → all_of t l ≡ true → AllPass t l
+  unfolding all_of
+  passed-all_of [] h = All-nil (λ x. t x ≡ true)
+  passed-all_of (w ∷ l) h = let p = and_split (t w) (all_of t l) h in All-cons (λ x. t x ≡ true) w l p.0 (passed-all_of l p.1)
 
-  pub roots-end : (j : ℕ) → r ≤ j → roots_from j ≡ true
-  unfolding roots_from all_of
-  roots-end j p = rw (drop_of_length-le (take r roots) {i = j} (let a = length-take r roots in omega arith)) refl
+  all-answered : (l : List ℕ) (b : Bool) → (IsTrue b ↔ AllPass t l) → b ≡ all_of t l
+  all-answered l true h = sym (all_of-passed l (h.0 refl))
+  all-answered l false h = sym (not-true' (all_of t l) (λ e. true≢false (sym (h.1 (passed-all_of l e)))))
+    where
+      not-true' : (b : Bool) → b ≢ true → b ≡ false
+      not-true' true f = absurd (f refl)
+      not-true' false f = refl
 
-  module _ (j v : ℕ) (p : j < r) (l : r ≤ length roots) (e : v ≡ get_or roots j 0) where
-    turn : roots_from j ≡ (root_ok v && roots_from (suc j))
-    unfolding roots_from all_of
-    turn =
-        ap (all_of root_ok) (drop-cons (take r roots) j 0 (let a = length-take-le r roots l in omega arith))
-        ∙ ap (λ (y : ℕ). root_ok y && all_of root_ok (drop (suc j) (take r roots))) (get_or-take r roots j 0 p ∙ sym e)
-
-    pub root-nil : v ≡ 0 → roots_from (j + 1) ≡ roots_from j
-    unfolding is_nil
-    root-nil z = rw (add-one j) (sym (turn ∙ rw (eq-eqb v 0 z) refl))
-
-    pub root-used : in_use (rec_of n recs v) ≡ true → roots_from (j + 1) ≡ roots_from j
-    root-used u = rw (add-one j) (sym (turn ∙ rw (u, or-true) refl))
-
-    pub root-bad : v ≢ 0 → in_use (rec_of n recs v) ≡ false → roots_from j ≡ false
-    unfolding is_nil
-    root-bad z u = turn ∙ rw (ne_eqb v 0 z, u) refl
+pub roots-answered : (n r : ℕ) (recs roots : List ℕ) (b : Bool) → (IsTrue b ↔ AllPass (λ w. eqb w 0 || in_use (rec_of n recs w)) (take r roots))
+    → b ≡ roots_named n r recs roots
+unfolding roots_named is_nil
+roots-answered n r recs roots b h =
+    all-answered _ (take r roots) b h
+    ∙ ap (λ (t : ℕ → Bool). all_of t (take r roots)) (fun_ext {A = ℕ} {B = λ _. Bool} (λ v. ap (λ (b : Bool). eqb v 0 || b) (sym (names-used n recs v))))
 
 -- ---- the ends of the whole check
 

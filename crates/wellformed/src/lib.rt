@@ -75,8 +75,7 @@ fn objects_ok(n: u32, records: &[u32], slots: &[u32]) -> bool
     ensures { result ≡ objects_ok n records.now slots.now }
 {
     let mut ok = true;
-    let mut i: usize = 0;
-    'check: while i < n as usize {
+    'check: for i in 0..n as usize {
         let r = records[i];
         if !record_ok(n, r) || !head_ok(n, r, records) {
             ok = false;
@@ -85,21 +84,18 @@ fn objects_ok(n: u32, records: &[u32], slots: &[u32]) -> bool
         let width = width_of(r);
         let c = cluster_of(r);
         let mut leaving = false;
-        let mut k: usize = 0;
-        while k < WIDTH_MAX as usize {
+        for k in 0..WIDTH_MAX as usize {
             let w = slots[WIDTH_MAX as usize * i + k];
             if !slot_ok(n, width, k, w, records) {
                 ok = false;
                 break 'check;
             }
-            leaving = leaving | member_leaves(n, c, w, records);
-            k += 1;
+            leaving |= member_leaves(n, c, w, records);
         }
         if !out_ok(r, leaving) {
             ok = false;
             break 'check;
         }
-        i += 1;
     }
     ok
 }
@@ -109,15 +105,7 @@ fn roots_ok(n: u32, r: u32, records: &[u32], roots: &[u32]) -> bool
     requires { r ≤ length roots.now }
     ensures { result ≡ roots_named n r records.now roots.now }
 {
-    let mut j: usize = 0;
-    while j < r as usize {
-        let w = roots[j];
-        if w != 0 && !in_use(record_of(n, w, records)) {
-            return false;
-        }
-        j += 1;
-    }
-    true
+    roots[..r as usize].iter().all(|w| *w == 0 || in_use(record_of(n, *w, records)))
 }
 
 // Every object and every root keeps the rules.
