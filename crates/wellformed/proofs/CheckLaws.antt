@@ -10,7 +10,7 @@ use native.Mathlib.Numerals.{add-one}
 use lib.Dec.{eqb, leb}
 use lib.ListN.{length, get_or, take, drop, length-take, drop_of_length-le}
 use lib.Seq.{drop-cons, get_or-take, get_or-drop, take-nil, length-take-le}
-use borrow.Author.Tests.{le-leb, lt-leb, eqb-true, eq-eqb, ne_eqb, not-false}
+use borrow.Author.Tests.{leb-true, not-true, le-leb, lt-leb, eqb-true, eq-eqb, ne_eqb, not-false}
 use borrow.Rule.Slice.PartMut.{mid_of, mid_len}
 use Rattle.std.specs.Prelude.{IsTrue, ◌↔◌}
 use Rattle.std.specs.List.{AllPass}
@@ -28,7 +28,7 @@ use Rattle.layout.specs.declared.words.Word.{Word}
 use Rattle.layout.specs.declared.words.Word.TheVariants.{Nil, Object, Immediate, Illegal}
 use Rattle.layout.proofs.WordLaws.{sort-nil, sort-pointer, sort-immediate, sort-illegal, pointer-not-immediate}
 use Rattle.graph.specs.Clusters.{out_count, out_bit}
-use Rattle.rules.specs.Buffers.{short_heap, rec_of, eight, used_words, other_words, all_of, all_to}
+use Rattle.rules.specs.Buffers.{short, short_heap, rec_of, eight, used_words, other_words, all_of, all_to}
 use Rattle.rules.specs.View.{view, exact_out}
 use Rattle.rules.specs.WellFormed.{names, legal_at, empty_at, words_at, head_at, out_at, roots_named, once, list_ok, sets_ok, formed, well_formed, checked}
 use Rattle.rules.proofs.ListLaws.{length-eight}
@@ -39,6 +39,8 @@ use Rattle.rules.proofs.SaneLaws.{sane-width}
 use Rattle.table.specs.Room.{Room, Sized, Accepted}
 use Rattle.wellformed.specs.Check.{record_ok, head_ok, slot_ok, member_leaves, out_ok, object_ok, objects_ok, heap_tests}
 use Rattle.table.specs.Clusters.{word_leaves, any_leaves}
+use Rattle.places.specs.Places.{last_places}
+use Rattle.places.proofs.LatestLaws.{sets-exact}
 use Rattle.table.proofs.RoomLaws.{heap-long}
 use Rattle.table.proofs.ClusterLaws.{any-cons, nil-stays}
 
@@ -379,41 +381,54 @@ module _ (n r : ℕ) (recs slots roots : List ℕ) (b : Bool) (f : b ≡ objects
   by-roots d t g = g ∙ sym (formed-parts n r recs slots roots ∙ ap (λ (x : Bool). x && roots_named n r recs roots) (sym f ∙ t))
 
 module _ (c : Control) (recs slots roots list sets : List ℕ) where
-  pub no_size : object_max < c.n → false ≡ checked c recs slots roots list sets
+  pub checked-is : c.n ≤ object_max → (h : Bool) → h ≡ short_heap c.n c.r recs slots roots list sets → h ≡ false
+      → checked c recs slots roots list sets ≡ well_formed c recs slots roots list sets
   unfolding checked
-  no_size l = rw (lt-leb c.n object_max l) refl
+  checked-is l h eh t = rw (le-leb c.n object_max l, sym eh ∙ t) refl
 
-  module _ (l : c.n ≤ object_max) (h : Bool) (eh : h ≡ short_heap c.n c.r recs slots roots list sets) where
-    pub too_short : h ≡ true → false ≡ checked c recs slots roots list sets
-    unfolding checked
-    too_short t = rw (le-leb c.n object_max l, sym eh ∙ t) refl
+  -- n is a size, and no slice is too short
+  abbrev pub sized : Bool
+  sized = leb c.n object_max && not (short_heap c.n c.r recs slots roots list sets)
 
-    module _ (t : h ≡ false) where
-      pub checked-is : checked c recs slots roots list sets ≡ well_formed c recs slots roots list sets
-      unfolding checked
-      checked-is = rw (le-leb c.n object_max l, sym eh ∙ t) refl
+  pub in-size : (v : Bool) → v ≡ sized → v ≡ true → (c.n ≤ object_max) × (short_heap c.n c.r recs slots roots list sets ≡ false)
+  in-size v e t =
+      let p = and_split _ _ (sym e ∙ t) in
+      (leb-true _ _ p.0, not-true _ p.1)
 
-      module _ (a : Bool) (f : a ≡ formed c.n c.r recs slots roots) where
-        pub bad-formed : a ≡ false → false ≡ checked c recs slots roots list sets
-        unfolding well_formed
-        bad-formed g = sym (checked-is ∙ rw (← f, g) refl)
+  -- what is known after each of the first tests: v of the sizes, w of the objects and roots besides, x of the list besides
+  module _ (v w x : Bool) (ev : v ≡ sized) (ew : w ≡ (v && formed c.n c.r recs slots roots)) (ex : x ≡ (w && (leb c.n object_max && list_ok c.n recs list))) where
+    tests : x ≡ ((sized && formed c.n c.r recs slots roots) && (leb c.n object_max && list_ok c.n recs list))
+    tests = cc
 
-        module _ (s : a ≡ true) (b : Bool) (g : b ≡ leb c.n object_max && list_ok c.n recs list) where
-          list-is : b ≡ list_ok c.n recs list
-          list-is = g ∙ rw (le-leb c.n object_max l) refl
+    pub broken : x ≡ false → x ≡ checked c recs slots roots list sets
+    unfolding checked well_formed
+    broken e = e ∙ sym (go (leb c.n object_max) (not (short_heap c.n c.r recs slots roots list sets)) (formed c.n c.r recs slots roots) (list_ok c.n recs list) _ (sym tests ∙ e))
+      where
+        go : (a b f l s : Bool) → ((a && b) && f) && (a && l) ≡ false → a && b && (f && l && s) ≡ false
+        go true true true true s e = absurd (true≢false e)
+        go true true true false s e = refl
+        go true true false l s e = refl
+        go true false f l s e = refl
+        go false b f l s e = refl
 
-          pub bad-list : b ≡ false → false ≡ checked c recs slots roots list sets
-          unfolding well_formed
-          bad-list e = sym (checked-is ∙ rw (← f, s, ← list-is, e) refl)
+    module _ (e : x ≡ true) where
+      passed : (sized ≡ true) × (formed c.n c.r recs slots roots ≡ true) × (list_ok c.n recs list ≡ true)
+      passed =
+          let p = and_split _ _ (sym tests ∙ e) in
+          let q = and_split _ _ p.0 in
+          (q.0, q.1, (and_split _ _ p.1).1)
 
-          -- no number is in a list that is right twice
-          pub list-once : b ≡ true → once (take sink_max list) ≡ true
-          unfolding list_ok
-          list-once e = (lists-facts c.n (λ x. is_sink (rec_of c.n recs x)) (take sink_max list) (sym list-is ∙ e)).single
+      -- no number is in a list that is right twice
+      once-listed : once (take sink_max list) ≡ true
+      unfolding list_ok
+      once-listed = (lists-facts c.n (λ y. is_sink (rec_of c.n recs y)) (take sink_max list) passed.2).single
 
-          pub by-sets : (d : Bool) → b ≡ true → d ≡ sets_ok c.n recs slots list sets → d ≡ checked c recs slots roots list sets
-          unfolding well_formed
-          by-sets d e k = k ∙ sym (checked-is ∙ rw (← f, s, ← list-is, e) refl)
+      pub by-sets : (d : Bool) → d ≡ leb c.n object_max && (not (short c.n sets) && sets_ok c.n recs slots (last_places list) sets) → d ≡ checked c recs slots roots list sets
+      unfolding well_formed
+      by-sets d k =
+          let s = in-size sized refl passed.0 in
+          sets-exact c.n recs slots list sets d k s.0 (heap-long c.n c.r recs slots roots list sets s.1).sets-long once-listed
+          ∙ sym (checked-is s.0 false (sym s.1) refl ∙ rw (passed.1, passed.2) refl)
 
 -- ---- the tests of a call that walks the whole heap
 

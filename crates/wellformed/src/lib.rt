@@ -128,19 +128,11 @@ pub fn well_formed(
 ) -> bool
     ensures { result ≡ checked c records.now slots.now roots.now sinks.now sets.now }
 {
-    if OBJECT_MAX < c.n {
-        return false;
-    }
-    if short_heap(c.n, c.r, records, slots, roots, sinks, sets) {
-        return false;
-    }
-    if !formed_ok(c.n, c.r, records, slots, roots) {
-        return false;
-    }
-    if !list_ok(c.n, records, sinks) {
-        return false;
-    }
-    sets_ok(c.n, records, slots, sinks, sets)
+    c.n <= OBJECT_MAX
+        && !short_heap(c.n, c.r, records, slots, roots, sinks, sets)
+        && formed_ok(c.n, c.r, records, slots, roots)
+        && list_ok(c.n, records, sinks)
+        && sets_ok(c.n, records, slots, sinks, sets)
 }
 
 // The first test of a call that walks the whole heap that holds refuses; `rest` says that a slice besides is too short.
