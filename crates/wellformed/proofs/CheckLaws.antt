@@ -1,15 +1,15 @@
 -- The check: what it has seen of an object after some of its slots, and what its answer is then. Assumes nothing.
 use Prim.Native.Nat.{ℕ, zero, suc, ◌+◌, ◌-◌, ◌*◌, ◌≤◌, ◌<◌}
 use mathlib.Core.Path.{◌≡◌, refl, sym, ap, ◌∙◌, fun_ext}
-use mathlib.Core.Bool.{Bool, true, false, not, cond, ◌&&◌, ◌||◌, beq, true≢false, and-false, and_assoc, or-false, or_assoc, or-true}
+use mathlib.Core.Bool.{Bool, true, false, not, cond, ◌&&◌, ◌||◌, true≢false, and-false, and_assoc, or-false, or_assoc}
 use mathlib.Core.Logic.{◌≢◌}
 use mathlib.Core.List.{List, [], ◌∷◌}
 use native.Mathlib.Decide.{dec_le}
 use native.Mathlib.Omega.{arith}
 use native.Mathlib.Numerals.{add-one}
 use lib.Dec.{eqb, leb}
-use lib.ListN.{length, get_or, take, drop, length-take, drop_of_length-le}
-use lib.Seq.{drop-cons, get_or-take, get_or-drop, take-nil, length-take-le}
+use lib.ListN.{length, get_or, take, drop, drop_of_length-le}
+use lib.Seq.{drop-cons, get_or-take, get_or-drop, take-nil}
 use borrow.Author.Tests.{leb-true, not-true, le-leb, lt-leb, eqb-true, eq-eqb, ne_eqb, not-false}
 use borrow.Rule.Slice.PartMut.{mid_of, mid_len}
 use Rattle.std.specs.Prelude.{IsTrue, ◌↔◌}
@@ -22,7 +22,7 @@ use Rattle.layout.specs.Refusal.{first}
 use Rattle.layout.proofs.BoolLaws.{and_split, or_split}
 use Rattle.layout.proofs.ControlLaws.{control-facts}
 use Rattle.layout.proofs.RefusalLaws.{first-passed}
-use Rattle.records.specs.Record.{in_use, is_sink, is_out, width, cluster, free, legal}
+use Rattle.records.specs.Record.{in_use, is_sink, width, cluster}
 use Rattle.layout.specs.Word.{is_nil, is_pointer, is_immediate, legal_word, sort_of}
 use Rattle.layout.specs.declared.words.Word.{Word}
 use Rattle.layout.specs.declared.words.Word.TheVariants.{Nil, Object, Immediate, Illegal}
@@ -31,6 +31,7 @@ use Rattle.graph.specs.Clusters.{out_count, out_bit}
 use Rattle.rules.specs.Buffers.{short, short_heap, rec_of, eight, used_words, other_words, all_of, all_to}
 use Rattle.rules.specs.View.{view, exact_out}
 use Rattle.rules.specs.WellFormed.{names, legal_at, empty_at, words_at, head_at, out_at, roots_named, once, list_ok, sets_ok, formed, well_formed, checked}
+use Rattle.rules.proofs.BoolLaws.{is_false}
 use Rattle.rules.proofs.ListLaws.{length-eight}
 use Rattle.rules.proofs.BufferLaws.{rec_of-get}
 use Rattle.rules.proofs.ListedLaws.{lists-facts}
@@ -282,37 +283,6 @@ formed-parts n r recs slots roots =
 
 -- ---- the small tests
 
-module _ (n r : ℕ) where
-  pub record-zero : r ≡ 0 → eqb r 0 ≡ record_ok n r
-  unfolding record_ok free
-  record-zero e = rw (eq-eqb r 0 e) refl
-
-  pub record-other : r ≢ 0 → legal n r ≡ record_ok n r
-  unfolding record_ok free
-  record-other e = rw (ne_eqb r 0 e) refl
-
-  module _ (recs : List ℕ) (c : ℕ) (e : c ≡ cluster r) where
-    pub head-none : c ≡ 0 → eqb c 0 ≡ head_ok n recs r
-    unfolding head_ok
-    head-none z = rw (← e, eq-eqb c 0 z) refl
-
-    pub head-some : c ≢ 0 → (h d : ℕ) → h ≡ rec_of n recs c → d ≡ cluster h → eqb d c ≡ head_ok n recs r
-    unfolding head_ok
-    head-some z h d eh ed = rw (← e, ne_eqb c 0 z, ed, eh) refl
-
-module _ (r c : ℕ) (leaving : Bool) (e : c ≡ cluster r) where
-  pub out_none : c ≡ 0 → not (is_out r) ≡ out_ok r leaving
-  unfolding out_ok
-  out_none z = rw (← e, eq-eqb c 0 z) (neither (is_out r))
-    where
-      neither : (a : Bool) → not a ≡ beq a false
-      neither true = refl
-      neither false = refl
-
-  pub out_some : c ≢ 0 → beq (is_out r) leaving ≡ out_ok r leaving
-  unfolding out_ok
-  out_some z = rw (← e, ne_eqb c 0 z) refl
-
 module _ (n : ℕ) (recs : List ℕ) (w k v : ℕ) where
   pub slot-unused : w ≤ k → eqb v 0 ≡ slot_ok n recs w k v
   unfolding slot_ok is_nil
@@ -358,11 +328,7 @@ module _ (t : ℕ → Bool) where
 
   all-answered : (l : List ℕ) (b : Bool) → (IsTrue b ↔ AllPass t l) → b ≡ all_of t l
   all-answered l true h = sym (all_of-passed l (h.0 refl))
-  all-answered l false h = sym (not-true' (all_of t l) (λ e. true≢false (sym (h.1 (passed-all_of l e)))))
-    where
-      not-true' : (b : Bool) → b ≢ true → b ≡ false
-      not-true' true f = absurd (f refl)
-      not-true' false f = refl
+  all-answered l false h = sym (is_false (all_of t l) (λ e. true≢false (sym (h.1 (passed-all_of l e)))))
 
 pub roots-answered : (n r : ℕ) (recs roots : List ℕ) (b : Bool) → (IsTrue b ↔ AllPass (λ w. eqb w 0 || in_use (rec_of n recs w)) (take r roots))
     → b ≡ roots_named n r recs roots

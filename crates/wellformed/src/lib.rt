@@ -18,6 +18,7 @@ use table::clusters::{leaves, record_of};
 use table::room::short_heap;
 
 // The record is 0 or legal.
+#[tactic(auto, unfolding(crate::specs::Check::record_ok, records::specs::Record::free))]
 fn record_ok(n: u32, r: u32) -> bool
     ensures { result ≡ record_ok n r }
 {
@@ -25,6 +26,7 @@ fn record_ok(n: u32, r: u32) -> bool
 }
 
 // The object that the record's cluster number names carries that number too.
+#[tactic(auto, unfolding(crate::specs::Check::head_ok))]
 fn head_ok(n: u32, r: u32, records: &[u32]) -> bool
     ensures { result ≡ head_ok n records.now r }
 {
@@ -52,13 +54,11 @@ fn slot_ok(n: u32, width: u32, k: usize, w: u32, records: &[u32]) -> bool
 fn member_leaves(n: u32, c: u32, w: u32, records: &[u32]) -> bool
     ensures { result ≡ member_leaves n records.now c w }
 {
-    if c == 0 || w == 0 {
-        return false;
-    }
-    leaves(n, c, w, records)
+    c != 0 && w != 0 && leaves(n, c, w, records)
 }
 
 // The out bit is set exactly where the object is a member and a used word of it leaves the cluster.
+#[tactic(auto, unfolding(crate::specs::Check::out_ok))]
 fn out_ok(r: u32, leaving: bool) -> bool
     ensures { result ≡ out_ok r leaving }
 {
@@ -105,7 +105,9 @@ fn roots_ok(n: u32, r: u32, records: &[u32], roots: &[u32]) -> bool
     requires { r ≤ length roots.now }
     ensures { result ≡ roots_named n r records.now roots.now }
 {
-    roots[..r as usize].iter().all(|w| *w == 0 || in_use(record_of(n, *w, records)))
+    roots[..r as usize]
+        .iter()
+        .all(|w| *w == 0 || in_use(record_of(n, *w, records)))
 }
 
 // Every object and every root keeps the rules.
