@@ -18,6 +18,7 @@ use table::clusters::{leaves, record_of};
 use table::room::short_heap;
 
 // The record is 0 or legal.
+#[tactic(auto, unfolding(crate::specs::Check::record_ok, records::specs::Record::free))]
 fn record_ok(n: u32, r: u32) -> bool
     ensures { result ≡ record_ok n r }
 {
@@ -25,6 +26,7 @@ fn record_ok(n: u32, r: u32) -> bool
 }
 
 // The object that the record's cluster number names carries that number too.
+#[tactic(auto, unfolding(crate::specs::Check::head_ok))]
 fn head_ok(n: u32, r: u32, records: &[u32]) -> bool
     ensures { result ≡ head_ok n records.now r }
 {
@@ -52,13 +54,11 @@ fn slot_ok(n: u32, width: u32, k: usize, w: u32, records: &[u32]) -> bool
 fn member_leaves(n: u32, c: u32, w: u32, records: &[u32]) -> bool
     ensures { result ≡ member_leaves n records.now c w }
 {
-    if c == 0 || w == 0 {
-        return false;
-    }
-    leaves(n, c, w, records)
+    c != 0 && w != 0 && leaves(n, c, w, records)
 }
 
 // The out bit is set exactly where the object is a member and a used word of it leaves the cluster.
+#[tactic(auto, unfolding(crate::specs::Check::out_ok))]
 fn out_ok(r: u32, leaving: bool) -> bool
     ensures { result ≡ out_ok r leaving }
 {
@@ -75,8 +75,7 @@ fn objects_ok(n: u32, records: &[u32], slots: &[u32]) -> bool
     ensures { result ≡ objects_ok n records.now slots.now }
 {
     let mut ok = true;
-    let mut i: usize = 0;
-    'check: while i < n as usize {
+    'check: for i in 0..n as usize {
         let r = records[i];
         if !record_ok(n, r) || !head_ok(n, r, records) {
             ok = false;
@@ -85,21 +84,18 @@ fn objects_ok(n: u32, records: &[u32], slots: &[u32]) -> bool
         let width = width_of(r);
         let c = cluster_of(r);
         let mut leaving = false;
-        let mut k: usize = 0;
-        while k < WIDTH_MAX as usize {
+        for k in 0..WIDTH_MAX as usize {
             let w = slots[WIDTH_MAX as usize * i + k];
             if !slot_ok(n, width, k, w, records) {
                 ok = false;
                 break 'check;
             }
-            leaving = leaving | member_leaves(n, c, w, records);
-            k += 1;
+            leaving |= member_leaves(n, c, w, records);
         }
         if !out_ok(r, leaving) {
             ok = false;
             break 'check;
         }
-        i += 1;
     }
     ok
 }
@@ -109,15 +105,9 @@ fn roots_ok(n: u32, r: u32, records: &[u32], roots: &[u32]) -> bool
     requires { r ≤ length roots.now }
     ensures { result ≡ roots_named n r records.now roots.now }
 {
-    let mut j: usize = 0;
-    while j < r as usize {
-        let w = roots[j];
-        if w != 0 && !in_use(record_of(n, w, records)) {
-            return false;
-        }
-        j += 1;
-    }
-    true
+    roots[..r as usize]
+        .iter()
+        .all(|w| *w == 0 || in_use(record_of(n, *w, records)))
 }
 
 // Every object and every root keeps the rules.
@@ -140,19 +130,11 @@ pub fn well_formed(
 ) -> bool
     ensures { result ≡ checked c records.now slots.now roots.now sinks.now sets.now }
 {
-    if OBJECT_MAX < c.n {
-        return false;
-    }
-    if short_heap(c.n, c.r, records, slots, roots, sinks, sets) {
-        return false;
-    }
-    if !formed_ok(c.n, c.r, records, slots, roots) {
-        return false;
-    }
-    if !list_ok(c.n, records, sinks) {
-        return false;
-    }
-    sets_ok(c.n, records, slots, sinks, sets)
+    c.n <= OBJECT_MAX
+        && !short_heap(c.n, c.r, records, slots, roots, sinks, sets)
+        && formed_ok(c.n, c.r, records, slots, roots)
+        && list_ok(c.n, records, sinks)
+        && sets_ok(c.n, records, slots, sinks, sets)
 }
 
 // The first test of a call that walks the whole heap that holds refuses; `rest` says that a slice besides is too short.
