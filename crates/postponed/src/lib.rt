@@ -2,8 +2,7 @@
 // a bit for each of them that is not 0.
 #![tactic(auto)]
 
-ghost use Rattle.std.specs.Prelude.{◌≡◌, ◌%◌, ◌≤◌, get_or, set};
-ghost use Rattle.std.specs.Int.Count.{count_trailing_zeros};
+ghost use Rattle.std.specs.Prelude.{◌≡◌, ◌%◌, get_or, set};
 ghost use Rattle.layout.specs.Field.{put_flag};
 ghost use Rattle.postponed.specs.Postponed as P;
 
