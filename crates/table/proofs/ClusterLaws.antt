@@ -71,7 +71,7 @@ module _ (n c : ℕ) (recs : List ℕ) where
 -- ---- the used words of an object
 
 -- the words that are there
-take-min : (u k : ℕ) (l : List ℕ) → k ≡ min (length l) u → take u l ≡ take k l
+pub take-min : (u k : ℕ) (l : List ℕ) → k ≡ min (length l) u → take u l ≡ take k l
 take-min u k l e = go (dec_le u (length l))
   where
     go : Dec (u ≤ length l) → take u l ≡ take k l
