@@ -26,8 +26,7 @@ const SINKS: u32 = 0x8001;
 
 // The bytes that an object takes, by its record.
 fn record_len(r: u32) -> u32
-    ensures value { result ≡ record_len r }
-    ensures few { result ≤ 64 }
+    ensures { result ≡ record_len r }
 {
     if in_use(r) { 4 + 4 * width_of(r) } else { 0 }
 }
@@ -45,7 +44,10 @@ fn sinks_count(sinks: &[u32]) -> u32
     requires { sink_max ≤ length sinks.now }
     ensures { result ≡ length (pointers (take sink_max sinks.now)) }
 {
-    sinks[..SINK_MAX as usize].iter().filter(|y| **y != 0).count() as u32
+    sinks[..SINK_MAX as usize]
+        .iter()
+        .filter(|y| **y != 0)
+        .count() as u32
 }
 
 // The bytes of the chunk that lists k sinks.
@@ -263,13 +265,16 @@ pub fn save(
     ensures { Save.gives result image.new
         ≡ Save.save c records.now slots.now roots.now sinks.now sets.now image.old }
 {
-    let (refusal, length) = match write_image(c, records, slots, roots, sinks, sets, image) {
-        Ok(length) => (0, length),
-        Err(e) => (u32::from(e), 0),
-    };
-    Saved {
-        refusal,
-        length,
-        control: c,
+    match write_image(c, records, slots, roots, sinks, sets, image) {
+        Ok(length) => Saved {
+            refusal: 0,
+            length,
+            control: c,
+        },
+        Err(e) => Saved {
+            refusal: u32::from(e),
+            length: 0,
+            control: c,
+        },
     }
 }

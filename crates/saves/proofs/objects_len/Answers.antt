@@ -7,14 +7,14 @@ use Prim.Native.Nat.{ℕ}
 use Rattle.std.specs.List.{sum_by}
 use lib.ListN.{take, length-take}
 use Rattle.saves.specs.Saves.{record_len}
-use Rattle.saves.proofs.SaveLaws.{len-sum}
+use Rattle.saves.proofs.SaveLaws.{len-sum, len-bound}
 use native.Mathlib.Omega.{arith}
 use Rattle.saves.proofs.objects_len.Goals as goal
 
 pub sum-requires-clause-fits : goal.sum-requires-clause-fits
 sum-requires-clause-fits c =
     fits_from_length _ _ 4095 _ (at_most_from_yields_List (YieldsList-from_slice (take c.args.n c.args.records.now) cc) (omega (arith, length-take {A = ℕ}))) c.map.ensures.closure (omega arith)
-    (λ x r q k. search rules)
+    (λ x r q k. search (rules, len-bound))
 
 pub returns : goal.returns
 returns c =

@@ -11,11 +11,8 @@ overflow_mul-result c = omega (arith, width-bound c.args.r)
 pub overflow_add-result : goal.overflow_add-result
 overflow_add-result c = omega (arith, width-bound c.args.r)
 
-pub returns-then-in_use-clause-value : goal.returns-then-in_use-clause-value
-returns-then-in_use-clause-value c = ap (λ (m : ℕ). 4 + 4 * m) c.width_of.ensures ∙ len-used _ (sym c.in_use.ensures ∙ c.if-in_use.true)
+pub returns-then-in_use : goal.returns-then-in_use
+returns-then-in_use c = ap (λ (m : ℕ). 4 + 4 * m) c.width_of.ensures ∙ len-used _ (sym c.in_use.ensures ∙ c.if-in_use.true)
 
-pub returns-else-in_use-clause-value : goal.returns-else-in_use-clause-value
-returns-else-in_use-clause-value c = len-free _ (sym c.in_use.ensures ∙ c.if-in_use.false)
-
-pub returns-then-in_use-clause-few : goal.returns-then-in_use-clause-few
-returns-then-in_use-clause-few c = omega (arith, width-bound c.args.r)
+pub returns-else-in_use : goal.returns-else-in_use
+returns-else-in_use c = len-free _ (sym c.in_use.ensures ∙ c.if-in_use.false)
