@@ -12,54 +12,26 @@ use records::{is_sink, is_written, with_cluster, with_out, with_written};
 
 // ---- the size limit
 
-// A sixteenth of x, rounded down.
-fn sixteenth(x: u32) -> u32
-    ensures { result ≡ sixteenth x }
-{
-    x / 16
-}
-
-// Half of x, rounded down.
-fn half(x: u32) -> u32
-    ensures { result ≡ half x }
-{
-    x / 2
-}
-
-// x, or the lowest if x is below it.
-fn raised(lowest: u32, x: u32) -> u32
-    ensures { result ≡ max lowest x }
-{
-    if x < lowest { lowest } else { x }
-}
-
-// x, clamped to the range of limits.
+// x, clamped to the range of limits. Not std's `clamp`, which wants the lowest to be in range.
 #[tactic(auto, unfolding(rules::specs::Analyse::clamped))]
 pub fn clamp(lowest: u32, x: u32) -> u32
     ensures { result ≡ clamped lowest x }
 {
-    if LIMIT_MAX < x {
-        return raised(lowest, LIMIT_MAX);
-    }
-    raised(lowest, x)
+    x.min(LIMIT_MAX).max(lowest)
 }
 
-// The next size limit, where so many objects are in use.
+// The next size limit, where so many objects are in use: a sixteenth of them the first time, later half or twice the last limit.
 pub fn next_limit(c: Control, used: u32) -> u32
     ensures { result ≡ next_limit c used }
 {
     let lowest = c.tuning.lowest_limit;
     if c.limit == 0 {
-        return clamp(lowest, sixteenth(used));
+        return clamp(lowest, used / 16);
     }
     if c.out_loss < c.write_loss {
-        return clamp(lowest, half(c.limit));
+        return clamp(lowest, c.limit / 2);
     }
-    // Cut off before it is doubled, so that the double of any word fits.
-    if LIMIT_MAX / 2 < c.limit {
-        return clamp(lowest, LIMIT_MAX);
-    }
-    clamp(lowest, 2 * c.limit)
+    clamp(lowest, c.limit.saturating_mul(2))
 }
 
 // ---- the cluster of an object
@@ -89,17 +61,14 @@ pub fn choose(limit: u32, r: u32, size: u32, o: u32, c: u32) -> u32
 pub fn is_over(t: Tuning, s: u32, p: u32) -> bool
     ensures { result ≡ over_by t s p }
 {
-    (t.outs_per_ten as u64) * (s as u64) < 10 * (p as u64)
+    u64::from(t.outs_per_ten) * u64::from(s) < 10 * u64::from(p)
 }
 
 // Whether it stays.
 pub fn stays(t: Tuning, s: u32, p: u32) -> bool
     ensures { result ≡ lasts t s p }
 {
-    if is_over(t, s, p) {
-        return false;
-    }
-    t.least_members <= s
+    !is_over(t, s, p) && t.least_members <= s
 }
 
 // What it adds to the out loss: its members, where it has too many out pointers.
@@ -107,10 +76,7 @@ pub fn stays(t: Tuning, s: u32, p: u32) -> bool
 pub fn loss(t: Tuning, s: u32, p: u32) -> u32
     ensures { result ≡ loss_by t s p }
 {
-    if !is_over(t, s, p) {
-        return 0;
-    }
-    s
+    if is_over(t, s, p) { s } else { 0 }
 }
 
 // ---- what is left

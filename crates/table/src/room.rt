@@ -4,7 +4,7 @@ ghost use Rattle.rules.specs.Buffers.{short_heap};
 
 use layout::limits::{SINK_MAX, slots_len};
 
-// Whether a slice is too short for n objects and r roots.
+// Whether a slice is too short for n objects and r roots. The slices come one by one because the specification names them so.
 pub fn short_heap(
     n: u32,
     r: u32,

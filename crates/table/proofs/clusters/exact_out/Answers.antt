@@ -1,9 +1,12 @@
 -- `table::clusters::exact_out` meets its contract. Assumes nothing.
 use native.Mathlib.Omega.{arith}
+use mathlib.Core.Path.{◌≡◌, ◌∙◌}
+use borrow.Author.Tests.{le-ltb}
+use lib.Dec.{ltb}
+use mathlib.Core.Bool.{false}
 use Rattle.layout.specs.Limits.{slots_len}
-use Rattle.table.proofs.ClusterLaws.{loose-in, member-low, out_some, out-most}
+use Rattle.table.proofs.ClusterLaws.{loose-in, member-low, out-by, none-left}
 use Rattle.table.proofs.clusters.exact_out.Goals as goal
-use Rattle.table.proofs.clusters.exact_out.Goals.{then-w-gt-WIDTH_MAX, else-w-gt-WIDTH_MAX}
 
 pub returns-then-c-eq0 : goal.returns-then-c-eq0
 returns-then-c-eq0 c = loose-in _ _ _ _ _ _ c.record_of-r.ensures c.cluster_of-c.ensures c.if-c-eq0.true
@@ -13,17 +16,15 @@ overflow_sub-x c = member-low _ _ _ _ _ c.record_of-r.ensures c.cluster_of-c.ens
 
 pub overflow_add-from : goal.overflow_add-from
 unfolding slots_len
-overflow_add-from c =
-    elim c.if-w-gt-WIDTH_MAX.branch [
-      | then-w-gt-WIDTH_MAX w ↦ omega (arith, c.slots_len-from.ensures)
-      | else-w-gt-WIDTH_MAX w ↦ omega (arith, c.slots_len-from.ensures)
-    ]
+overflow_add-from c = omega (arith, c.slots_len-from.ensures, c.min-used.ensures)
 
-pub returns : goal.returns
-returns c =
-    let r = c.record_of-r.ensures in
-    let g = c.width_of-w.ensures in
-    elim c.if-w-gt-WIDTH_MAX.branch [
-      | then-w-gt-WIDTH_MAX w ↦ out-most _ _ _ _ _ _ _ r c.cluster_of-c.ensures c.if-c-eq0.false g _ c.slots_len-from.ensures _ _ c.any_leaves.ensures w.if-w-gt-WIDTH_MAX.true w.used-is
-      | else-w-gt-WIDTH_MAX w ↦ out_some _ _ _ _ _ _ _ r c.cluster_of-c.ensures c.if-c-eq0.false g _ c.slots_len-from.ensures _ _ c.any_leaves.ensures w.if-w-gt-WIDTH_MAX.false w.used-is
-    ]
+pub returns-then-from-to : goal.returns-then-from-to
+returns-then-from-to c =
+    c.any_leaves.ensures
+    ∙ out-by _ _ _ _ _ _ _ c.record_of-r.ensures c.cluster_of-c.ensures c.if-c-eq0.false c.width_of.ensures _ c.slots_len-from.ensures _ _ c.min-used.ensures c.min-to.ensures
+
+pub returns-else-from-to : goal.returns-else-from-to
+returns-else-from-to c =
+    let f : ltb c.slots_len-from.result c.min-to.result ≡ false = le-ltb _ _ c.if-from-to.false in
+    f ∙ none-left _ _ _ _ _ c.args.slots.now c.if-from-to.false
+    ∙ out-by _ _ _ _ _ _ _ c.record_of-r.ensures c.cluster_of-c.ensures c.if-c-eq0.false c.width_of.ensures _ c.slots_len-from.ensures _ _ c.min-used.ensures c.min-to.ensures
