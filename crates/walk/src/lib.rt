@@ -51,7 +51,7 @@ pub fn walk(
         sinks,
         sets,
     };
-    trace(&heap, c.r, roots, records, &mut work[0..m]);
+    trace(heap, c.r, roots, records, &mut work[0..m]);
     zero(work, m);
     Ok(())
 }
