@@ -17,12 +17,8 @@ fn put_states(n: u32, records: &[u32], work: &mut [u32])
     requires { (n ≤ length records.now) × (10 * n + 64 ≤ length work.old) × (n ≤ 4095) }
     ensures { Filling n (9 * n) (cluster_of n records.now) work.old work.new n }
 {
-    let mut k = 0;
-    while k < n {
-        k += 1;
-        let c = cluster_of(record_at(n, records, k));
-        let i = 9 * n as usize + k as usize;
-        work[i] = c;
+    for x in 1..n + 1 {
+        work[9 * n as usize + x as usize] = cluster_of(record_at(n, records, x));
     }
 }
 
@@ -41,19 +37,8 @@ fn from_roots(
     requires { Walking n records.now slots.now sinks.now sets.now limit work.old (stack_end n) × (r ≤ length roots.now) × Fit n (take r roots.now) }
     ensures { GoesOn n records.now slots.now sinks.now sets.now limit (take r roots.now) work.old work.new }
 {
-    let mut j: u32 = 0;
-    while j < r {
-        start(
-            n,
-            limit,
-            records,
-            slots,
-            sinks,
-            sets,
-            work,
-            roots[j as usize],
-        );
-        j += 1;
+    for j in 0..r as usize {
+        start(n, limit, records, slots, sinks, sets, work, roots[j]);
     }
 }
 

@@ -60,10 +60,9 @@ pub fn analyse(
     ensures { gives result records.new sets.new work.new ≡ Rules.analyse c records.old slots.now roots.now sinks.now sets.old work.old }
 {
     let cap = work_len(c.n);
-    let refusal = heap_refusal(c, records, slots, roots, sinks, sets, work.len() < cap);
-    if refusal != 0 {
+    if let Err(e) = heap_refusal(c, records, slots, roots, sinks, sets, work.len() < cap) {
         return Analysed {
-            refusal: refusal,
+            refusal: u32::from(e),
             clusters: 0,
             members: 0,
             control: c,

@@ -42,13 +42,11 @@ fn push_kids(
 {
     let from = 8 * (x as usize - 1);
     let w = width_of(record_at(n, records, x)) as usize;
-    let mut j: usize = 0;
     let mut at = top;
     // What is put in front last is visited first: the words are taken from the last down.
-    while j < w {
-        j += 1;
+    for j in (0..w).rev() {
         at -= 1;
-        work[at] = target_of(n, slots[from + w - j]) + 4096 * c;
+        work[at] = target_of(n, slots[from + j]) + 4096 * c;
     }
     at
 }
@@ -108,8 +106,7 @@ fn count(n: u32, work: &mut [u32], e: u32)
     ensures { (top : ℕ) → mem_of n work.new top ≡ with_link (counting e (area n (8 * n) work.old)) (mem_of n work.old top) }
 {
     if e != 0 {
-        let i = 8 * n as usize + e as usize;
-        work[i] = work[i] + 4096;
+        work[8 * n as usize + e as usize] += 4096;
     }
 }
 
