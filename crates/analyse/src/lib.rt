@@ -2,6 +2,7 @@
 #![tactic(auto)]
 
 mod form;
+mod heap;
 mod judge;
 mod limit;
 mod memory;
@@ -15,6 +16,7 @@ ghost use Rattle.analyse.specs.Starts.{Formable, formed_from};
 ghost use Rattle.analyse.specs.Judge.{Judged};
 
 use crate::form::form;
+use crate::heap::Heap;
 use crate::judge::{Found, decide, settle, tally};
 use crate::limit::used_count;
 use choices::next_limit;
@@ -41,7 +43,15 @@ fn form_and_judge(
     requires { Formable n limit records.old slots.now sinks.now sets.now work.old (starts_in r roots.now) × (r ≤ length roots.now) }
     ensures { Judged n t records.old slots.now (formed_from n records.old slots.now sinks.now limit (starts_in r roots.now)) records.new result.loss result.clusters result.members }
 {
-    form(n, r, limit, records, slots, roots, sinks, sets, work);
+    let heap = Heap {
+        n,
+        limit,
+        records,
+        slots,
+        sinks,
+        sets,
+    };
+    form(heap, r, roots, work);
     tally(n, records, slots, work);
     decide(n, t, records, slots, work);
     settle(n, t, records, work)

@@ -34,7 +34,7 @@ loop-x-preserved c =
     let low : 1 ≤ l.x = omega arith in
     let high : l.x ≤ c.args.n = omega (arith, c.loop-x-test.true) in
     elim c.if-c-ne0.branch [
-        then-c-ne0 w ↦ rw w.work-is (count_turn _ _ _ _ _ _ l.invariant low high w.if-c-ne0.true _ w.outs.ensures.0 w.outs.ensures.1)
+      | then-c-ne0 w ↦ rw w.work-is (count_turn _ _ _ _ _ _ l.invariant low high w.if-c-ne0.true _ w.outs.ensures.0 w.outs.ensures.1)
       | else-c-ne0 w ↦ rw w.work-is (count-skip _ _ _ _ _ _ l.invariant low high w.if-c-ne0.false)
     ]
 

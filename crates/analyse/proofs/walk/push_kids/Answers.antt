@@ -14,8 +14,8 @@ loop-j-init c = pushing-start _ _ _ _ _ c.requires.sized _ c.requires.le_x.0 c.r
 pub overflow_sub-at : goal.overflow_sub-at
 overflow_sub-at c = spot-left _ _ _ _ _ c.requires.sized _ c.requires.le_x.0 c.requires.le_x.1 _ c.requires.le_x.4 _ (c.width_of-w.ensures ∙ ap width c.record_at.ensures) _ _ _ c.loop-j.invariant c.loop-j-test.true
 
-pub bounds-slots-from : goal.bounds-slots-from
-bounds-slots-from c = slot-there _ _ _ _ _ c.requires.sized _ c.requires.le_x.0 c.requires.le_x.1 _ c.requires.le_x.4 _ (c.width_of-w.ensures ∙ ap width c.record_at.ensures) _ _ _ c.loop-j.invariant c.loop-j-test.true
+pub bounds-heap-from : goal.bounds-heap-from
+bounds-heap-from c = slot-there _ _ _ _ _ c.requires.sized _ c.requires.le_x.0 c.requires.le_x.1 _ c.requires.le_x.4 _ (c.width_of-w.ensures ∙ ap width c.record_at.ensures) _ _ _ c.loop-j.invariant c.loop-j-test.true
 
 pub overflow_mul-work : goal.overflow_mul-work
 overflow_mul-work c = omega (arith, c.requires.sized.room.most, c.requires.le_x.2)
