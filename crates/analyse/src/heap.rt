@@ -1,5 +1,4 @@
-// What the walk reads and does not change: the heap, and the size limit.
-
+// What the walk reads and does not change: the heap, and the size limit. Handed on by value, as in a collection's walk.
 #[derive(Clone, Copy)]
 pub(crate) struct Heap<'a> {
     pub(crate) n: u32,

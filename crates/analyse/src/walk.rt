@@ -128,7 +128,7 @@ fn mark(n: u32, work: &mut [u32], s: u64, h: u32, p: u32, top: usize) -> usize
     at
 }
 
-// Visits object o, to which the cluster c is passed. The contract alone reads `sinks`.
+// Visits object o, to which the cluster c is passed.
 fn visit(heap: Heap, work: &mut [u32], o: u32, c: u32, top: usize) -> usize
     requires { VisitingIn heap work.old o c top }
     ensures { VisitedIn heap.entry (visiting (heap_of heap.entry) o c (mem_of heap.entry.n work.old top)) work.new result }
