@@ -2,6 +2,8 @@
 use Prim.Native.Nat.{ℕ, ◌+◌, ◌-◌, ◌≤◌, ◌<◌}
 use mathlib.Core.Path.{◌≡◌, sym, ap, ◌∙◌}
 use mathlib.Core.Bool.{false}
+use Rattle.std.specs.Prelude.{Result, Ok, Err}
+use Rattle.std.specs.Result.{is_err}
 use mathlib.Core.List.{List, [], ◌∷◌}
 use mathlib.Core.Logic.{◌≢◌}
 use native.Mathlib.Omega.{arith}
@@ -12,14 +14,16 @@ use Rattle.layout.specs.declared.answers.Control.{Control}
 use Rattle.layout.specs.declared.answers.WordRead.{WordRead}
 use Rattle.records.specs.Record.{width}
 use Rattle.layout.specs.Limits.{object_max, slots_len}
-use Rattle.layout.specs.Refusal.{Test, first}
-use Rattle.layout.proofs.RefusalLaws.{Numbered, nil, cons, first-front, first-skip, first-zero, first_holds, first-fails, outcome-zero, outcome-number}
+use Rattle.layout.specs.declared.refusals.Refusal.{Refusal}
+use Rattle.layout.specs.Refusal.{Test, number, refusal_of, first}
+use Rattle.layout.proofs.RefusalLaws.{numbered, Numbered, nil, cons, first-front, first-skip, first-zero, first_holds, first-fails, outcome-zero, outcome-number}
 use Rattle.rules.specs.Buffers.{rec_of}
 use Rattle.rules.specs.Show.{show_tests}
 use Rattle.rules.specs.Read as Read
 use Rattle.rules.proofs.BufferLaws.{used-get}
 use Rattle.table.specs.Named.{named_tests}
 use Rattle.table.proofs.NamedLaws.{show-named, start_is}
+use Rattle.access.specs.Found.{answered}
 use Rattle.access.proofs.ShowLaws.{tested, passed, in_reach}
 
 module _ (c : Control) (i k : ℕ) (recs slots : List ℕ) where
@@ -30,26 +34,26 @@ module _ (c : Control) (i k : ℕ) (recs slots : List ℕ) where
   unfolding Read.read_tests show_tests
   front-test d = first-front (show_tests c i recs slots) slot-test d
 
-  numbered : Numbered (show_tests c i recs slots)
+  above-zero : Numbered (show_tests c i recs slots)
   unfolding show_tests
-  numbered = cons (lit< tt) (cons (lit< tt) (cons (lit< tt) (cons (lit< tt) (cons (lit< tt) nil))))
+  above-zero = cons (lit< tt) (cons (lit< tt) (cons (lit< tt) (cons (lit< tt) (cons (lit< tt) nil))))
 
   -- a test of the object that holds decides
-  pub refused : (m : ℕ) → m ≡ first (named_tests c i recs slots object_max) → m ≢ 0
-      → ◌≡◌ {A = WordRead} (record { refusal = m; word = 0; control = c }) (Read.read c i k recs slots)
+  pub refused : (r : Refusal) → number r ≡ first (named_tests c i recs slots object_max)
+      → answered (Err r) c ≡ Read.read c i k recs slots
   unfolding Read.read
-  refused m e d =
-      let t = tested c i recs slots m e in
-      sym (outcome-number _ _ (Read.read_tests c i k recs slots) m (front-test (λ z. d (t ∙ z)) ∙ sym t) d)
+  refused r e =
+      let t = tested c i recs slots (number r) e in
+      sym (outcome-number _ _ (Read.read_tests c i k recs slots) (number r) (front-test (λ z. numbered r (t ∙ z)) ∙ sym t) (numbered r))
 
   -- where none holds, that of the slot decides
-  module _ (m : ℕ) (e : m ≡ first (named_tests c i recs slots object_max)) (d : m ≡ 0) where
+  module _ (e : 0 ≡ first (named_tests c i recs slots object_max)) where
     z : first (show_tests c i recs slots) ≡ 0
-    z = passed c i recs slots m e d
+    z = passed c i recs slots e
 
     last-test : first (Read.read_tests c i k recs slots) ≡ first slot-test
     unfolding Read.read_tests show_tests
-    last-test = first-skip (show_tests c i recs slots) slot-test (first-zero (show_tests c i recs slots) numbered z)
+    last-test = first-skip (show_tests c i recs slots) slot-test (first-zero (show_tests c i recs slots) above-zero z)
 
     pub no_slot : (w : ℕ) → w ≡ width (get_or recs (i - 1) 0) → w ≤ k
         → ◌≡◌ {A = WordRead} (record { refusal = 5; word = 0; control = c }) (Read.read c i k recs slots)
@@ -71,6 +75,11 @@ module _ (c : Control) (i k : ℕ) (recs slots : List ℕ) where
         (ap (λ (x : ℕ). record { refusal = 0; word = x; control = c })
         (sym (used-get c.n recs slots i N.low N.legal.narrow k (rw v l)))
         ∙ sym (outcome-zero _ _ (Read.read_tests c i k recs slots) (last-test ∙ first-fails 5 [] _ t)))
+
+-- what `object_refusal` answers is no refusal
+pub all_pass : (r : Result Unit Refusal) (m : ℕ) → refusal_of r ≡ m → is_err r ≡ false → 0 ≡ m
+all_pass (Ok _) m e d = e
+all_pass (Err _) m e d = cc
 
 -- the ends of a read, for the search
 pub ruleset ends = (in_reach, refused, no_slot)

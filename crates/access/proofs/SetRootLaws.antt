@@ -117,16 +117,16 @@ module _ (c : Control) (j w : ℕ) (recs roots : List ℕ) where
   unfolding SetRoot.set_root
   kept m e d = sym (outcome-number _ _ (set_root_tests c j w recs roots) m (sym e) d)
 
-  pub stored : (m : ℕ) → m ≡ first (set_root_tests c j w recs roots) → m ≡ 0
-      → SetRoot.gives (record { refusal = m; control = c }) (set roots j w) ≡ SetRoot.set_root c j w recs roots
+  pub stored : 0 ≡ first (set_root_tests c j w recs roots)
+      → SetRoot.gives (record { refusal = 0; control = c }) (set roots j w) ≡ SetRoot.set_root c j w recs roots
   unfolding SetRoot.set_root
-  stored m e z = rw z (sym (outcome-zero _ _ (set_root_tests c j w recs roots) (sym e ∙ z)))
+  stored e = sym (outcome-zero _ _ (set_root_tests c j w recs roots) (sym e))
 
   -- where the root stands
-  pub place : first (set_root_tests c j w recs roots) ≡ 0 → j < length roots
+  pub place : 0 ≡ first (set_root_tests c j w recs roots) → j < length roots
   unfolding set_root_tests short
   place z =
-      let t = first-passed 19 _ _ z in
+      let t = first-passed 19 _ _ (sym z) in
       let u = first-passed 1 _ _ t.1 in
       let v = first-passed 6 _ _ u.1 in
       let s = or_split (short c.n recs) (short c.r roots) u.0 in
@@ -136,3 +136,6 @@ module _ (c : Control) (j w : ℕ) (recs roots : List ℕ) where
 
 -- the ends of the tests, for the search
 pub ruleset ends = (bad-control, short-records, short-roots, no-root, nil-root, object-low, object-in, legal-root, free-root, immediate-root, illegal-root)
+
+-- and those of the call
+pub ruleset storing = (kept, stored, place)

@@ -17,64 +17,61 @@ use Rattle.rules.proofs.BufferLaws.{used-part}
 use Rattle.table.specs.Named.{named_tests}
 use Rattle.table.proofs.NamedLaws.{named-shown, show-named, start_is}
 
--- what `object_refusal` answers is what the tests of show say, and where that is 0 the object's record and slots are there
-module _ (c : Control) (i : ℕ) (recs slots : List ℕ) (m : ℕ) (e : m ≡ first (named_tests c i recs slots object_max)) where
-  pub tested : m ≡ first (show_tests c i recs slots)
-  tested = e ∙ named-shown c i recs slots object_max (omega arith)
+-- what `object_refusal` answers is what the tests of show say
+pub tested : (c : Control) (i : ℕ) (recs slots : List ℕ) (m : ℕ) → m ≡ first (named_tests c i recs slots object_max) → m ≡ first (show_tests c i recs slots)
+tested c i recs slots m e = e ∙ named-shown c i recs slots object_max (omega arith)
 
-  module _ (z : m ≡ 0) where
-    pub passed : first (show_tests c i recs slots) ≡ 0
-    passed = sym tested ∙ z
+-- where all pass, the object's record and slots are there
+module _ (c : Control) (i : ℕ) (recs slots : List ℕ) (e : 0 ≡ first (named_tests c i recs slots object_max)) where
+  pub passed : first (show_tests c i recs slots) ≡ 0
+  passed = sym (tested c i recs slots 0 e)
 
-    pub in_reach : (1 ≤ i)
-        × (i - 1 < length recs)
-        × (slots_len (i - 1) ≤ 8 * object_max)
-        × (slots_len (i - 1) + width (get_or recs (i - 1) 0) ≤ length slots)
-    in_reach =
-        let N = show-named c i recs slots passed in
-        let s = start_is (i - 1) in
-        let f = N.sound.sizes.most in
-        (N.low, omega (arith, N), omega (arith, N, s, f), omega (arith, N, s))
+  pub in_reach : (1 ≤ i)
+      × (i - 1 < length recs)
+      × (slots_len (i - 1) ≤ 8 * object_max)
+      × (slots_len (i - 1) + width (get_or recs (i - 1) 0) ≤ length slots)
+  in_reach =
+      let N = show-named c i recs slots passed in
+      let s = start_is (i - 1) in
+      let f = N.sound.sizes.most in
+      (N.low, omega (arith, N), omega (arith, N, s, f), omega (arith, N, s))
 
 module _ (c : Control) (i : ℕ) (recs slots : List ℕ) where
   abbrev outcome : Show.Outcome
   outcome = Show.show c i recs slots
 
-  -- a part: the words, the number and the place. The slots lie at offset o of block b
-  abbrev pub Answer : (b o : ℕ) → List ℕ → ℕ → ℕ × ℕ → Type 0
-  Answer b o ws k p = ((ws ≡ outcome.words) × (k ≡ outcome.answer.refusal)) × ((p.0 ≡ b) × (p.1 ≡ outcome.answer.start * 4 + o))
-
-  module _ (m : ℕ) (e : m ≡ first (named_tests c i recs slots object_max)) where
-    refused : m ≢ 0 → outcome ≡ record { answer = record { refusal = m; start = 0; length = 0; control = c }; words = [] }
+  module _ (m : ℕ) (e : m ≡ first (named_tests c i recs slots object_max)) (d : m ≢ 0) where
+    refused : outcome ≡ record { answer = record { refusal = m; start = 0; length = 0; control = c }; words = [] }
     unfolding Show.show
-    refused d = outcome-number _ _ (show_tests c i recs slots) m (sym (tested c i recs slots m e)) d
+    refused = outcome-number _ _ (show_tests c i recs slots) m (sym (tested c i recs slots m e)) d
 
-    shown : m ≡ 0 → (s : ℕ) → s ≡ slots_len (i - 1) → (w : ℕ) → w ≡ width (get_or recs (i - 1) 0)
+    pub no_part : ◌≡◌ {A = Part} (record { refusal = m; start = 0; length = 0; control = c }) outcome.answer
+    no_part = rw refused refl
+
+    pub no_words : ([] ≡ outcome.words) × (m ≡ outcome.answer.refusal)
+    no_words = rw refused (refl, refl)
+
+  module _ (e : 0 ≡ first (named_tests c i recs slots object_max)) where
+    shown : (s : ℕ) → s ≡ slots_len (i - 1) → (w : ℕ) → w ≡ width (get_or recs (i - 1) 0)
         → outcome ≡ record { answer = record { refusal = 0; start = s; length = w; control = c }; words = take w (drop s slots) }
     unfolding Show.show
-    shown d s f w g =
-        let z = passed c i recs slots m e d in
+    shown s f w g =
+        let z = passed c i recs slots e in
         let N = show-named c i recs slots z in
         outcome-zero _ _ (show_tests c i recs slots) z
         ∙ rw (used-part c.n recs slots i N.low N.legal.narrow, N.rec-at, f, g, start_is (i - 1)) refl
 
     -- where the part is
-    pub no_part : m ≢ 0 → ◌≡◌ {A = Part} (record { refusal = m; start = 0; length = 0; control = c }) outcome.answer
-    no_part d = sym (ap (λ (o : Show.Outcome). o.answer) (refused d))
-
-    pub the_part : m ≡ 0 → (s : ℕ) → s ≡ slots_len (i - 1) → (w : ℕ) → w ≡ width (get_or recs (i - 1) 0)
+    pub the_part : (s : ℕ) → s ≡ slots_len (i - 1) → (w : ℕ) → w ≡ width (get_or recs (i - 1) 0)
         → ◌≡◌ {A = Part} (record { refusal = 0; start = s; length = w; control = c }) outcome.answer
-    the_part d s f w g = sym (ap (λ (o : Show.Outcome). o.answer) (shown d s f w g))
+    the_part s f w g = sym (ap (λ (o : Show.Outcome). o.answer) (shown s f w g))
 
     -- the part itself
-    pub part-refused : (b o : ℕ) → m ≢ 0 → Answer b o [] m (b, 0 + o)
-    part-refused b o d = rw (refused d) ((refl, refl), (refl, refl))
-
-    pub part-shown : (b o : ℕ) → m ≡ 0 → (s : ℕ) → s ≡ slots_len (i - 1) → (w : ℕ) → w ≡ width (get_or recs (i - 1) 0)
-        → Answer b o (take (s + w - s) (drop s slots)) m (b, s * 4 + o)
-    part-shown b o d s f w g =
+    pub the_words : (s : ℕ) → s ≡ slots_len (i - 1) → (w : ℕ) → w ≡ width (get_or recs (i - 1) 0)
+        → (take (s + w - s) (drop s slots) ≡ outcome.words) × (0 ≡ outcome.answer.refusal)
+    the_words s f w g =
         let q : s + w - s ≡ w = omega arith in
-        rw (shown d s f w g, q) ((refl, d), (refl, refl))
+        rw (shown s f w g, q) (refl, refl)
 
 -- the ends of a show, for the search
-pub ruleset ends = (in_reach, no_part, the_part)
+pub ruleset ends = (in_reach, no_part, no_words, the_part, the_words)

@@ -1,8 +1,11 @@
 -- The answer of a read in two parts.
+use Rattle.std.specs.Prelude.{ℕ, Result, Ok, Err}
 use Rattle.layout.specs.declared.answers.Control.{Control}
 use Rattle.layout.specs.declared.answers.WordRead.{WordRead}
-use Rattle.access.specs.declared.read.Found.{Found}
+use Rattle.layout.specs.declared.refusals.Refusal.{Refusal}
+use Rattle.layout.specs.Refusal.{number}
 
--- refusal and word, with the control record beside them
-abbrev pub answered : Found → Control → WordRead
-answered f c = record { refusal = f.refusal; word = f.word; control = c }
+-- the word or the refusal's number, with the control record beside them
+abbrev pub answered : Result ℕ Refusal → Control → WordRead
+answered (Ok w) c = record { refusal = 0; word = w; control = c }
+answered (Err e) c = record { refusal = number e; word = 0; control = c }

@@ -5,50 +5,44 @@ ghost use Rattle.access.specs.Found.{answered};
 
 use layout::answers::{Control, WordRead};
 use layout::limits::{OBJECT_MAX, slots_len};
-use layout::refusals::NO_SLOT;
+use layout::refusals::Refusal;
 use records::width_of;
 use table::named::object_refusal;
 
-// What a read answers besides the control record.
-#[derive(Clone, Copy)]
-pub(crate) struct Found {
-    pub(crate) refusal: u32,
-    pub(crate) word: u32,
-}
-
 // All tests in their order, and the word.
 #[tactic(auto, using(crate::proofs::ReadLaws::ends))]
-fn look_up(c: Control, object: u32, slot: u32, records: &[u32], slots: &[u32]) -> Found
+fn look_up(
+    c: Control,
+    object: u32,
+    slot: u32,
+    records: &[u32],
+    slots: &[u32],
+) -> Result<u32, Refusal>
     ensures { answered result c ≡ Read.read c object slot records.now slots.now }
 {
-    let k = object_refusal(c, object, records, slots, OBJECT_MAX as usize);
-    if k != 0 {
-        return Found {
-            refusal: k,
-            word: 0,
-        };
-    }
+    object_refusal(c, object, records, slots, OBJECT_MAX as usize)?;
     let width = width_of(records[(object - 1) as usize]);
     if width <= slot {
-        return Found {
-            refusal: NO_SLOT,
-            word: 0,
-        };
+        return Err(Refusal::NoSlot);
     }
-    Found {
-        refusal: 0,
-        word: slots[slots_len(object - 1) + slot as usize],
-    }
+    Ok(slots[slots_len(object - 1) + slot as usize])
 }
 
 // The same with the control record.
-fn answer(f: Found, c: Control) -> WordRead
-    ensures { result ≡ answered f c }
+fn answer(found: Result<u32, Refusal>, c: Control) -> WordRead
+    ensures { result ≡ answered found c }
 {
-    WordRead {
-        refusal: f.refusal,
-        word: f.word,
-        control: c,
+    match found {
+        Ok(w) => WordRead {
+            refusal: 0,
+            word: w,
+            control: c,
+        },
+        Err(e) => WordRead {
+            refusal: u32::from(e),
+            word: 0,
+            control: c,
+        },
     }
 }
 
@@ -58,7 +52,7 @@ fn answer(f: Found, c: Control) -> WordRead
 pub fn read(c: Control, object: u32, slot: u32, records: &[u32], slots: &[u32]) -> WordRead
     ensures { result ≡ Read.read c object slot records.now slots.now }
 {
-    if object_refusal(c, object, records, slots, OBJECT_MAX as usize) != 0 {
+    if object_refusal(c, object, records, slots, OBJECT_MAX as usize).is_err() {
         return answer(look_up(c, object, slot, &records[..], &slots[..]), c);
     }
     if width_of(records[(object - 1) as usize]) <= slot {

@@ -21,11 +21,11 @@ pub fn show<'a>(
     ensures own { (result.ref_ptr.0 ≡ slots.entry.ref_ptr.0)
         × (result.ref_ptr.1 ≡ (Show.show c object records.now slots.now).answer.start * 4 + slots.entry.ref_ptr.1) }
 {
-    let k = object_refusal(c, object, records, slots, OBJECT_MAX as usize);
-    *refusal = k;
-    if k != 0 {
+    if let Err(e) = object_refusal(c, object, records, slots, OBJECT_MAX as usize) {
+        *refusal = u32::from(e);
         return &slots[0..0];
     }
+    *refusal = 0;
     let start = slots_len(object - 1);
     let end = start + width_of(records[(object - 1) as usize]) as usize;
     &slots[start..end]
@@ -36,10 +36,9 @@ pub fn show<'a>(
 pub fn show_part(c: Control, object: u32, records: &[u32], slots: &[u32]) -> Part
     ensures { result ≡ (Show.show c object records.now slots.now).answer }
 {
-    let k = object_refusal(c, object, records, slots, OBJECT_MAX as usize);
-    if k != 0 {
+    if let Err(e) = object_refusal(c, object, records, slots, OBJECT_MAX as usize) {
         return Part {
-            refusal: k,
+            refusal: u32::from(e),
             start: 0,
             length: 0,
             control: c,

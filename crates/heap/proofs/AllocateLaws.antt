@@ -12,7 +12,7 @@ use Rattle.layout.specs.declared.answers.Control.{Control}
 use Rattle.layout.specs.Limits.{slots_len}
 use Rattle.records.specs.Record.{free, new_record}
 use Rattle.layout.specs.ControlRecord.{bad_control, with_last}
-use Rattle.layout.specs.Refusal.{first, by, outcome}
+use Rattle.layout.specs.Refusal.{refusal_of, first}
 use Rattle.layout.proofs.ControlLaws.{control-facts}
 use Rattle.records.proofs.RecordLaws.{zero-free, nonzero-free}
 use Rattle.layout.proofs.RefusalLaws.{first-passed, outcome-zero, outcome-number}
@@ -20,11 +20,13 @@ use Rattle.rules.specs.Buffers.{short, rec_of, numbers, each_record, each_slot}
 use Rattle.rules.specs.Allocate.{first_of, candidates, given, allocate_tests}
 use Rattle.rules.specs.Allocate as Allocate
 use Rattle.rules.proofs.BufferLaws.{rec_of-get, record-one}
-use Rattle.heap.specs.Choice.{choice}
+use Rattle.std.specs.Prelude.{Option, Some, None, Result}
+use Rattle.std.specs.Option.{ok_or}
+use Rattle.layout.specs.declared.refusals.Refusal.{Refusal}
+use Rattle.layout.specs.declared.refusals.Refusal.TheVariants.{Full}
+use Rattle.heap.specs.Search.{object}
 use Rattle.table.specs.Cleared.{cleared}
 use Rattle.table.specs.Room.{object_room}
-use Rattle.heap.specs.declared.allocate.Choice.{Choice}
-use Rattle.heap.specs.declared.allocate.Choice.TheVariants.{Object, Refusal}
 use Rattle.table.proofs.ClearedLaws.{cleared-object}
 use Rattle.table.proofs.NamedLaws.{object-room-fits, object-room-short}
 use Rattle.rules.proofs.BoolLaws.{or_split}
@@ -57,69 +59,75 @@ module _ (n : ℕ) (recs : List ℕ) where
   pub none : (to i : ℕ) → to ≤ i → 0 ≡ first_of is_free (numbers (suc i) (to - i))
   none to i l = let e : to - i ≡ 0 = omega arith in sym (ap (λ (k : ℕ). first_of is_free (numbers (suc i) k)) e ∙ first_of-none is_free (suc i))
 
-  -- ---- both searches
+-- an object is numbered from 1 on
+pub object-some : (x k : ℕ) → Some x ≡ object k → (x ≡ k) × (k ≢ 0)
+object-some x zero e = cc
+object-some x (suc k) e = (cc, λ (z : suc k ≡ 0). omega arith)
 
-  pub front : (last : ℕ) (x : ℕ) → x ≡ first_of is_free (numbers (suc last) (n - last)) → x ≢ 0 → x ≡ first_of is_free (candidates last n)
-  unfolding candidates
-  front last x e d = e ∙ sym (first_of-front is_free (numbers (suc last) (n - last)) (numbers 1 last) (λ z. d (e ∙ z)))
+pub object-none : (k : ℕ) → None ≡ object k → k ≡ 0
+object-none zero e = refl
+object-none (suc k) e = cc
 
-  pub rest : (last x y : ℕ) → x ≡ first_of is_free (numbers (suc last) (n - last)) → x ≡ 0 → y ≡ first_of is_free (numbers 1 (last - 0))
-      → y ≡ first_of is_free (candidates last n)
-  unfolding candidates
-  rest last x y e z f =
-      let s : last - 0 ≡ last = omega arith in
-      f ∙ ap (λ (k : ℕ). first_of is_free (numbers 1 k)) s ∙ sym (first_of-rest is_free last (n - last) (numbers 1 last) (sym e ∙ z))
+pub some-object : (k : ℕ) → k ≢ 0 → Some k ≡ object k
+some-object zero d = absurd (d refl)
+some-object (suc k) d = refl
+
+-- ---- both searches
+
+module _ (c : Control) (recs : List ℕ) where
+  pub front : (o : Option ℕ) → o ≡ object (first_of (is_free c.n recs) (numbers (suc c.last) (c.n - c.last))) → o ≢ None → o ≡ object (given c recs)
+  unfolding given candidates
+  front None e d = absurd (d refl)
+  front (Some x) e d =
+      e ∙ ap object (sym (first_of-front (is_free c.n recs) (numbers (suc c.last) (c.n - c.last)) (numbers 1 c.last) (object-some x _ e).1))
+
+  pub rest : None ≡ object (first_of (is_free c.n recs) (numbers (suc c.last) (c.n - c.last)))
+      → (o : Option ℕ) → o ≡ object (first_of (is_free c.n recs) (numbers 1 (c.last - 0))) → o ≡ object (given c recs)
+  unfolding given candidates
+  rest e o f =
+      let z : c.last - 0 ≡ c.last = omega arith in
+      f ∙ ap object (ap (λ (k : ℕ). first_of (is_free c.n recs) (numbers 1 k)) z
+      ∙ sym (first_of-rest (is_free c.n recs) c.last (c.n - c.last) (numbers 1 c.last) (object-none _ e)))
 
 -- ---- the choice
 
 module _ (c : Control) (width : ℕ) (recs slots : List ℕ) where
-  refuses : (k : ℕ) → first (allocate_tests c width recs slots) ≡ k → k ≢ 0 → Refusal k ≡ choice c width recs slots
-  unfolding choice
-  refuses k e d = sym (outcome-number _ _ (allocate_tests c width recs slots) k e d)
+  abbrev answer : ℕ
+  answer = first (allocate_tests c width recs slots)
 
-  pub bad-control : bad_control c ≡ true → Refusal 20 ≡ choice c width recs slots
-  bad-control b = refuses 20 (unfold allocate_tests first in (rw b refl)) (λ (q : 20 ≡ 0). omega arith)
+  pub bad-control : bad_control c ≡ true → 20 ≡ answer
+  unfolding allocate_tests first
+  bad-control b = rw b refl
 
   module _ (b : bad_control c ≡ false) where
-    pub too_short : object_room (length recs) (length slots) < c.n → Refusal 2 ≡ choice c width recs slots
-    too_short l = refuses 2 (unfold allocate_tests first short in (rw (b, object-room-short _ _ _ l) refl)) (λ (q : 2 ≡ 0). omega arith)
-
-    -- the two ways to be too short, one by one
-    pub few-records : length recs < c.n → Refusal 2 ≡ choice c width recs slots
-    few-records l = refuses 2 (unfold allocate_tests first short in (rw (b, lt-ltb _ _ l) refl)) (λ (q : 2 ≡ 0). omega arith)
-
-    module _ (l : c.n ≤ length recs) where
-      pub few-slots : length slots < slots_len c.n → Refusal 2 ≡ choice c width recs slots
-      few-slots m = refuses 2 (unfold allocate_tests first short in (rw (b, le-ltb _ _ l, lt-ltb _ _ m) refl)) (λ (q : 2 ≡ 0). omega arith)
+    pub too_short : object_room (length recs) (length slots) < c.n → 2 ≡ answer
+    unfolding allocate_tests first short
+    too_short l = rw (b, object-room-short _ _ _ l) refl
 
     module _ (l : c.n ≤ length recs) (m : slots_len c.n ≤ length slots) where
-      pub too_wide : 8 < width → Refusal 3 ≡ choice c width recs slots
-      too_wide w = refuses 3 (unfold allocate_tests first short in (rw (b, le-ltb _ _ l, le-ltb _ _ m, lt-ltb _ _ w) refl)) (λ (q : 3 ≡ 0). omega arith)
+      pub too_wide : 8 < width → 3 ≡ answer
+      unfolding allocate_tests first short
+      too_wide w = rw (b, le-ltb _ _ l, le-ltb _ _ m, lt-ltb _ _ w) refl
 
-      module _ (w : width ≤ 8) (x : ℕ) (e : x ≡ first_of (λ y. free (rec_of c.n recs y)) (candidates c.last c.n)) where
-        last-test : (t : Bool) → eqb x 0 ≡ t → first (allocate_tests c width recs slots) ≡ cond t 24 0
-        unfolding allocate_tests first short given
-        last-test t q = rw (b, le-ltb _ _ l, le-ltb _ _ m, le-ltb _ _ w, sym e, q) refl
+      module _ (w : width ≤ 8) where
+        last-test : (t : Bool) → eqb (given c recs) 0 ≡ t → cond t 24 0 ≡ answer
+        unfolding allocate_tests first short
+        last-test t q = rw (b, le-ltb _ _ l, le-ltb _ _ m, le-ltb _ _ w, q) refl
 
-        pub full : x ≡ 0 → Refusal 24 ≡ choice c width recs slots
-        full z = refuses 24 (last-test true (eq-eqb x 0 z)) (λ (q : 24 ≡ 0). omega arith)
+        full : given c recs ≡ 0 → 24 ≡ answer
+        full z = last-test true (eq-eqb _ 0 z)
 
-        pub chosen : x ≢ 0 → Object x ≡ choice c width recs slots
-        unfolding choice given
-        chosen d = ap Object e ∙ sym (outcome-zero _ _ (allocate_tests c width recs slots) (last-test false (ne_eqb x 0 d)))
+        chosen : given c recs ≢ 0 → 0 ≡ answer
+        chosen d = last-test false (ne_eqb _ 0 d)
+
+        pub decided : (o : Option ℕ) → o ≡ object (given c recs) → (r : Result ℕ Refusal) → r ≡ ok_or o Full → refusal_of r ≡ answer
+        decided None e r f = rw f (full (object-none _ e))
+        decided (Some x) e r f = rw f (chosen (object-some x _ e).1)
 
 -- the ends of the choice, for the search
-pub ruleset ends = (bad-control, too_short, object-room-fits, too_wide, full, chosen)
+pub ruleset ends = (bad-control, too_short, object-room-fits, too_wide)
 
 -- ---- the call
-
-refusal_of : Choice → ℕ
-refusal_of (Object x) = 0
-refusal_of (Refusal k) = suc k
-
-object_of : Choice → ℕ
-object_of (Object x) = x
-object_of (Refusal k) = 0
 
 -- what is known of the object chosen
 pub record Given (c : Control) (width : ℕ) (recs slots : List ℕ) (x : ℕ) : Type 0 where
@@ -131,23 +139,10 @@ pub record Given (c : Control) (width : ℕ) (recs slots : List ℕ) (x : ℕ) :
   pub slots-long : slots_len c.n ≤ length slots
 
 module _ (c : Control) (width : ℕ) (recs slots : List ℕ) where
-  pub refused : (k : ℕ) → Refusal k ≡ choice c width recs slots
-      → Allocate.gives (record { refusal = k; object = 0; control = c }) recs slots ≡ Allocate.allocate c width recs slots
-  unfolding Allocate.allocate choice outcome by refusal_of
-  refused k e = go (first (allocate_tests c width recs slots)) e
-    where
-      go : (m : ℕ) → Refusal k ≡ by m (Object (given c recs)) (λ j. Refusal j)
-          → Allocate.gives (record { refusal = k; object = 0; control = c }) recs slots
-          ≡ by m (record {
-            answer = record { refusal = 0; object = given c recs; control = with_last (given c recs) c };
-            records = each_record c.n (λ x r. cond (eqb x (given c recs)) (new_record width) r) recs;
-            slots = each_slot c.n (λ x w. cond (eqb x (given c recs)) 0 w) slots;
-          }) (λ j. record { answer = record { refusal = j; object = 0; control = c }; records = recs; slots = slots })
-      go zero e = let q : suc k ≡ 0 = ap refusal_of e in absurd (omega arith)
-      go (suc m) e =
-          let q : suc k ≡ suc (suc m) = ap refusal_of e in
-          let r : k ≡ suc m = omega arith in
-          ap (λ (j : ℕ). Allocate.gives (record { refusal = j; object = 0; control = c }) recs slots) r
+  pub refused : (m : ℕ) → m ≡ first (allocate_tests c width recs slots) → m ≢ 0
+      → Allocate.gives (record { refusal = m; object = 0; control = c }) recs slots ≡ Allocate.allocate c width recs slots
+  unfolding Allocate.allocate
+  refused m e d = sym (outcome-number _ _ (allocate_tests c width recs slots) m (sym e) d)
 
   -- a found object is one of the n
   given-named : given c recs ≢ 0 → c.last ≤ c.n → (1 ≤ given c recs) × (given c recs ≤ c.n)
@@ -161,35 +156,27 @@ module _ (c : Control) (width : ℕ) (recs slots : List ℕ) where
       let t = or_split (ltb (length recs) c.n) (ltb (length slots) (slots_len c.n)) e in
       (ltb-false (length recs) c.n t.0, ltb-false (length slots) (slots_len c.n) t.1)
 
-  passes : (x : ℕ) → first (allocate_tests c width recs slots) ≡ 0 → x ≡ given c recs → Given c width recs slots x
+  pub given-facts : (x : ℕ) → 0 ≡ first (allocate_tests c width recs slots) → x ≡ given c recs → Given c width recs slots x
   unfolding allocate_tests
-  passes x z s =
-      let t = first-passed 19 _ _ z in
+  given-facts x e s =
+      let t = first-passed 19 _ _ (sym e) in
       let u = first-passed 1 _ _ t.1 in
       let v = first-passed 2 _ _ u.1 in
       let d = first-passed 23 _ _ v.1 in
       let n = given-named (eqb-false _ _ d.0) (control-facts c t.0).last in
-      record { passed = z; same = s; low = rw s n.0; high = rw s n.1; recs-long = (long u.0).0; slots-long = (long u.0).1 }
-
-  pub given-facts : (x : ℕ) → Object x ≡ choice c width recs slots → Given c width recs slots x
-  unfolding choice outcome by refusal_of object_of
-  given-facts x e = go (first (allocate_tests c width recs slots)) refl e
-    where
-      go : (m : ℕ) → first (allocate_tests c width recs slots) ≡ m → Object x ≡ by m (Object (given c recs)) (λ j. Refusal j) → Given c width recs slots x
-      go zero z e = passes x z (ap object_of e)
-      go (suc m) z e = let q : 0 ≡ suc (suc m) = ap refusal_of e in absurd (omega arith)
+      record { passed = sym e; same = s; low = rw s n.0; high = rw s n.1; recs-long = (long u.0).0; slots-long = (long u.0).1 }
 
   -- its eight slots are there
   pub given-slots : {x : ℕ} → Given c width recs slots x → (s : ℕ) → s ≡ slots_len (x - 1) → s + 8 ≤ length slots
   unfolding slots_len
   given-slots G s e = omega (arith, G.low, G.high, G.slots-long)
 
-  pub accepted : (x : ℕ) → Object x ≡ choice c width recs slots → (v s : ℕ) (slots' : List ℕ) (d : Control)
+  pub accepted : (x : ℕ) → 0 ≡ first (allocate_tests c width recs slots) → x ≡ given c recs → (v s : ℕ) (slots' : List ℕ) (d : Control)
       → v ≡ new_record width → s ≡ slots_len (x - 1) → slots' ≡ cleared s (s + 8) slots → d ≡ with_last x c
       → Allocate.gives (record { refusal = 0; object = x; control = d }) (set recs (x - 1) v) slots' ≡ Allocate.allocate c width recs slots
   unfolding Allocate.allocate slots_len
-  accepted x o v s slots' d h p r k =
-      let G = given-facts x o in
+  accepted x e g v s slots' d h p r k =
+      let G = given-facts x e g in
       rw (k, r, h, p)
       (ap₂ (λ (a b : List ℕ). Allocate.gives (record { refusal = 0; object = x; control = with_last x c }) a b)
       (sym (record-one c.n x G.low G.high (new_record width) recs)) (cleared-object c.n x slots G.low G.high)

@@ -1,2 +1,2 @@
 -- What the functions between the calls are held to.
-pub mod Choice
+pub mod Search

@@ -1,31 +1,35 @@
 // Create: a heap of n free objects and r nil roots.
 ghost use Rattle.std.specs.Prelude.{◌≡◌, [], ◌∷◌};
-ghost use Rattle.layout.specs.Refusal.{first};
+ghost use Rattle.layout.specs.Refusal.{first, refusal_of};
 ghost use Rattle.layout.specs.ControlRecord.{bad_sizes, bad_tuning};
 ghost use Rattle.rules.specs.Create as Create;
 
 use layout::answers::{Done, Tuning};
 use layout::control::{new_control, no_control};
 use layout::limits::{SINK_MAX, slots_len};
-use layout::refusals::{BAD_SIZES, BAD_TUNING, TOO_SHORT, bad_sizes, bad_tuning};
+use layout::refusals::{Refusal, bad_sizes, bad_tuning};
 use table::buffers::{zero, zero_sets};
 use table::room::short_heap;
 
-// The first test that holds, where a slice is too short or not; 0 where none does.
+// The first test that holds refuses, where a slice is too short or not.
 #[tactic(auto, unfolding(layout::specs::Refusal::first))]
-fn create_refusal(n: u32, r: u32, t: Tuning, short: bool) -> u32
-    ensures { result ≡ first ((1, bad_sizes n r) ∷ (30, bad_tuning t) ∷ (2, short) ∷ []) }
+fn create_refusal(n: u32, r: u32, t: Tuning, short: bool) -> Result<(), Refusal>
+    ensures { refusal_of result ≡ first ((1, bad_sizes n r) ∷ (30, bad_tuning t) ∷ (2, short) ∷ []) }
 {
     if bad_sizes(n, r) {
-        return BAD_SIZES;
+        return Err(Refusal::BadSizes);
     }
     if bad_tuning(t) {
-        return BAD_TUNING;
+        return Err(Refusal::BadTuning);
     }
-    if short { TOO_SHORT } else { 0 }
+    if short {
+        return Err(Refusal::TooShort);
+    }
+    Ok(())
 }
 
 // n records, 8 n slots, r roots, the 64 places of sinks and n sets become 0; after a refusal nothing changes and the control record is all zeros.
+#[tactic(auto, using(crate::proofs::CreateLaws::refused))]
 pub fn create(
     n: u32,
     r: u32,
@@ -40,10 +44,9 @@ pub fn create(
         ≡ Create.create n r t records.old slots.old roots.old sinks.old sets.old }
 {
     let short = short_heap(n, r, records, slots, roots, sinks, sets);
-    let refusal = create_refusal(n, r, t, short);
-    if refusal != 0 {
+    if let Err(e) = create_refusal(n, r, t, short) {
         return Done {
-            refusal: refusal,
+            refusal: u32::from(e),
             control: no_control(),
         };
     }

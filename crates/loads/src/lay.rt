@@ -13,7 +13,7 @@ use crate::words::{head_byte, number_at, word_at};
 use endian::get2;
 use layout::limits::{SINK_MAX, slots_len};
 use records::{new_record, with_sink};
-use table::buffers::{zero, zero_sets};
+use table::buffers::zero;
 
 // The four words from a place of a body on, stored from place `to` on. All are read before the first is stored, so that they become one store.
 pub(crate) fn lay_four(body: &[u8], at: usize, words: &mut [u32], to: usize)
@@ -199,5 +199,5 @@ pub(crate) fn lay(
     let words = third + FRONT;
     lay_words(&image[words..end], 0, r, roots, 0);
     lay_sinks(n, image, second, third, end, sinks);
-    zero_sets(sets, n as usize);
+    zero(sets, n as usize);
 }

@@ -10,6 +10,3 @@ use Rattle.heap.proofs.allocate.first_free.Given as goal
 abbrev pub invariant-loop-i : goal.invariant-loop-i
 invariant-loop-i l =
     first_of (λ y. free (rec_of l.n l.records y)) (numbers (suc l.i) (l.to - l.i)) ≡ first_of (λ y. free (rec_of l.n l.records y)) (numbers (suc l.from) (l.to - l.from))
-
-abbrev pub decreases-loop-i : goal.decreases-loop-i
-decreases-loop-i l = l.to - l.i

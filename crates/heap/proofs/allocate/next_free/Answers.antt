@@ -2,8 +2,8 @@
 use Rattle.heap.proofs.AllocateLaws.{front, rest}
 use Rattle.heap.proofs.allocate.next_free.Goals as goal
 
-pub returns-then-x-ne0 : goal.returns-then-x-ne0
-returns-then-x-ne0 c = front _ _ _ _ c.first_free-x.ensures c.if-x-ne0.true
+pub returns-in-None : goal.returns-in-None
+returns-in-None c = rest _ _ c.in-None.ensures _ c.first_free-in-None.ensures
 
-pub returns : goal.returns
-returns c = rest _ _ _ _ _ c.first_free-x.ensures c.if-x-ne0.false c.first_free.ensures
+pub returns-in_default : goal.returns-in_default
+returns-in_default c = front _ _ _ c.first_free.ensures c.in_default.not-None
