@@ -21,6 +21,7 @@ fn drain(heap: Heap, records: &mut [u32], work: &mut [u32], top: usize)
 {
     let end = 8 * (heap.n as usize);
     let mut at = top;
+    // Not a `for`: a visit moves the place of the next one.
     while at < end {
         let x = work[at];
         at = visit_pending(heap, records, work, at + 1, x);

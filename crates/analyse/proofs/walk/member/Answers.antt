@@ -26,14 +26,14 @@ record_at-requires c = (c.requires.le_x.0, c.requires.le_x.1, c.requires.sized.r
 pub push_kids-requires : goal.push_kids-requires
 push_kids-requires c =
     record {
-      sized = resized c.requires.sized (length-set c.args.work.now (9 * c.args.n + c.args.x) (c.args.d + 4096));
+      sized = resized c.requires.sized (length-set c.args.work.now (9 * c.args.heap.n + c.args.x) (c.args.d + 4096));
       le_x = (c.requires.le_x.0, c.requires.le_x.1, omega arith, c.requires.le_x.3, member-room _ _ _ _ c.requires.sized _ c.requires.le_x.0 c.requires.le_x.1 c.args.d _ _ (c.is_out.ensures ∙ ap is_out c.record_at.ensures) c.if-is_out.true c.requires.le_x.4);
     }
 
 pub shape_of-work-then-is_out : goal.shape_of-work-then-is_out
 shape_of-work-then-is_out c =
     let a = c.args in
-    c.push_kids.auto.work ∙ length-set a.work.now (9 * a.n + a.x) (a.d + 4096)
+    c.push_kids.auto.work ∙ length-set a.work.now (9 * a.heap.n + a.x) (a.d + 4096)
 
 pub returns-then-is_out : goal.returns-then-is_out
 returns-then-is_out c =
