@@ -5,10 +5,10 @@ use Rattle.writes.proofs.WriteLaws.{slot-there, losses, ends-kept, ends-broken, 
 use Rattle.writes.proofs.write.store_member.Goals as goal
 
 pub does_dissolve-requires : goal.does_dissolve-requires
-does_dissolve-requires c = slot-there _ _ _ _ _ _ _ _ c.requires refl
+does_dissolve-requires c = slot-there _ _ _ _ _ _ _ c.requires
 
 pub store_staying-requires : goal.store_staying-requires
-store_staying-requires c = slot-there _ _ _ _ _ _ _ _ c.requires refl
+store_staying-requires c = slot-there _ _ _ _ _ _ _ c.requires
 
 pub returns-then-not-does_dissolve : goal.returns-then-not-does_dissolve
 returns-then-not-does_dissolve c =
@@ -24,17 +24,11 @@ returns-then-may c =
     ends-broken _ _ _ _ _ _ _ _ _ c.does_dissolve.ensures _ c.if-not-does_dissolve.false-raw c.if-may.true _ _ _ e.0 e.1 e.2
 
 pub loss_after-loss-requires : goal.loss_after-loss-requires
-loss_after-loss-requires c = losses _ _ _ _ _ _ _ _ c.requires refl
+loss_after-loss-requires c = losses _ _ _ _ _ _ _ c.requires
 
 pub returns-then-c-loss : goal.returns-then-c-loss
 returns-then-c-loss c =
     ends-full _ _ _ _ _ _ _ _ _ c.does_dissolve.ensures _ c.if-not-does_dissolve.false-raw c.if-may.false _ c.loss_after-loss.ensures c.if-c-loss.true
-
-pub overflow_add-result : goal.overflow_add-result
-overflow_add-result c =
-    let h = losses _ _ _ _ _ _ _ _ c.requires refl in
-    let l = c.if-c-loss.false in
-    omega (arith, h.0, l)
 
 pub returns : goal.returns
 returns c =
