@@ -135,24 +135,6 @@ module _ (t : ℕ → Bool) (from : ℕ) (body : List ℕ) where
   joined true false c d r = refl
   joined false b c d r = refl
 
-  -- the four tested one by one
-  pub four-one : t (number_at 4 from body) ≡ false → false ≡ four_pass t from body
-  unfolding four_pass
-  four-one e = sym (rw e refl)
-
-  pub four-two : t (number_at 4 from body) ≡ true → t (number_at 4 (from + 4) body) ≡ false → false ≡ four_pass t from body
-  unfolding four_pass
-  four-two e f = sym (rw (e, f) refl)
-
-  pub four-three : t (number_at 4 from body) ≡ true → t (number_at 4 (from + 4) body) ≡ true → t (number_at 4 (from + 8) body) ≡ false → false ≡ four_pass t from body
-  unfolding four_pass
-  four-three e f g = sym (rw (e, f, g) refl)
-
-  pub four-all : t (number_at 4 from body) ≡ true → t (number_at 4 (from + 4) body) ≡ true → t (number_at 4 (from + 8) body) ≡ true
-      → t (number_at 4 (from + 12) body) ≡ four_pass t from body
-  unfolding four_pass
-  four-all e f g = sym (rw (e, f, g) refl)
-
   by-four : (j : ℕ) → all_of t (words_at from (suc (suc (suc (suc j)))) body) ≡ four_pass t from body && all_of t (words_at (from + 16) j body)
   unfolding four_pass words_at all_of numbers
   by-four j =

@@ -169,13 +169,7 @@ pub(crate) fn objects_ok(n: u32, body: &[u8], words: &mut [u64], sinks: &mut [u6
     ensures listed { result ≡ true → Listed n body.now words.new }
     ensures sunk { result ≡ true → Sunk n body.now sinks.new }
 {
-    if !shape(n, body, words, sinks) {
-        return false;
-    }
-    if SINK_MAX < ones(sinks) {
-        return false;
-    }
-    words_ok(n, body, words)
+    shape(n, body, words, sinks) && ones(sinks) <= SINK_MAX && words_ok(n, body, words)
 }
 
 // Whether the body of kind 3 is r roots, each nil or a number in the set.
