@@ -13,6 +13,7 @@ use layout::limits::{SINK_MAX, WIDTH_MAX};
 use layout::refusals::bad_sizes;
 
 // Whether the body of kind 1 keeps its layout.
+#[tactic(auto, unfolding(rules::specs::Image::sizes_ok, rules::specs::Image::saved_n, rules::specs::Image::saved_r, rules::specs::Image::saved_last))]
 pub(crate) fn sizes_ok(body: &[u8]) -> bool
     ensures { result ≡ sizes_ok body.now }
 {

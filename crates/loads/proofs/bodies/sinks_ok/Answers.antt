@@ -1,7 +1,6 @@
 -- `loads::bodies::sinks_ok` takes number after number out of the set. Assumes nothing.
 use mathlib.Core.Path.{sym}
 use Rattle.loads.proofs.SinkLaws.{taking-no, taking-start, taking-stop, taking-inside, taking-turn, taking-ok, taking-empty}
-use native.Mathlib.Omega.{arith}
 use Rattle.loads.proofs.bodies.sinks_ok.Goals as goal
 
 pub returns-then-k-body-clause-value : goal.returns-then-k-body-clause-value
