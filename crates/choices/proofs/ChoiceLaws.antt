@@ -18,25 +18,6 @@ use Rattle.rules.specs.Analyse.{sixteenth, half, clamped, next_limit}
 use Rattle.rules.proofs.BoolLaws.{cond-not}
 use Rattle.choices.specs.Choices.{joined, goes_by, over_by, lasts, loss_by, settled}
 
--- ---- the next limit
-
-module _ (c : Control) (used m : ℕ) where
-  pub limit-first : c.limit ≡ 0 → m ≡ clamped c.tuning.lowest_limit (sixteenth used) → m ≡ next_limit c used
-  unfolding next_limit
-  limit-first z e = e ∙ rw z refl
-
-  pub limit-halved : c.limit ≢ 0 → c.out_loss < c.write_loss → m ≡ clamped c.tuning.lowest_limit (half c.limit) → m ≡ next_limit c used
-  unfolding next_limit
-  limit-halved p h e = e ∙ rw (ne_eqb c.limit 0 p, lt-ltb c.out_loss c.write_loss h) refl
-
-  pub limit-doubled : c.limit ≢ 0 → c.write_loss ≤ c.out_loss → m ≡ clamped c.tuning.lowest_limit (2 * c.limit) → m ≡ next_limit c used
-  unfolding next_limit
-  limit-doubled p h e = e ∙ rw (ne_eqb c.limit 0 p, le-ltb c.out_loss c.write_loss h) refl
-
-pub clamp-most : (lowest x : ℕ) → 2047 < x → clamped lowest 4095 ≡ clamped lowest (2 * x)
-unfolding clamped
-clamp-most lowest x h = omega arith
-
 -- ---- the cluster that an object gets
 
 module _ (limit r size o c : ℕ) where

@@ -2,8 +2,8 @@
 // new cluster stays, and the record that is left. Small total functions.
 #![tactic(auto)]
 
-ghost use Rattle.std.specs.Prelude.{◌≡◌, max};
-ghost use Rattle.rules.specs.Analyse.{sixteenth, half, clamped, next_limit};
+ghost use Rattle.std.specs.Prelude.{◌≡◌};
+ghost use Rattle.rules.specs.Analyse.{clamped, next_limit};
 ghost use Rattle.choices.specs.Choices.{goes_by, over_by, lasts, loss_by, settled};
 
 use layout::answers::{Control, Tuning};
@@ -21,6 +21,7 @@ pub fn clamp(lowest: u32, x: u32) -> u32
 }
 
 // The next size limit, where so many objects are in use: a sixteenth of them the first time, later half or twice the last limit.
+#[tactic(auto, unfolding(rules::specs::Analyse::clamped, rules::specs::Analyse::sixteenth, rules::specs::Analyse::half, rules::specs::Analyse::next_limit))]
 pub fn next_limit(c: Control, used: u32) -> u32
     ensures { result ≡ next_limit c used }
 {

@@ -125,9 +125,12 @@ impl Page {
         left: A,
         right: B,
     ) {
-        let call = Text::<256>::of(call);
-        let left = Text::<32768>::of(left);
-        let right = Text::<32768>::of(right);
-        self.row_lines(rt, call.bytes(), left.bytes(), right.bytes());
+        let mut first = Text::<256>::new();
+        let mut second = Text::<32768>::new();
+        let mut third = Text::<32768>::new();
+        first.put(call);
+        second.put(left);
+        third.put(right);
+        self.row_lines(rt, first.bytes(), second.bytes(), third.bytes());
     }
 }

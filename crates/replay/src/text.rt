@@ -19,13 +19,6 @@ impl<const ROOM: usize> Text<ROOM> {
         }
     }
 
-    // What is printed of a value.
-    pub(crate) fn of<D: Display + Drop>(value: D) -> Self {
-        let mut text = Text::new();
-        text.put(value);
-        text
-    }
-
     pub(crate) fn bytes(&self) -> &[u8] {
         &self.bytes[..self.end]
     }

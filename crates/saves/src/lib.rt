@@ -17,6 +17,7 @@ use layout::answers::{Control, Saved};
 use layout::limits::SINK_MAX;
 use layout::refusals::Refusal;
 use records::{in_use, is_sink, width_of};
+use table::room::Buffers;
 use wellformed::heap_refusal;
 
 // The kind of the chunk of sinks.
@@ -208,47 +209,31 @@ fn put_sinks(k: u32, sinks: &[u32], image: &mut [u8], at: usize)
 }
 
 // The chunks, one after the other; the objects take len bytes, and k sinks are listed.
-fn put_image(
-    c: Control,
-    len: u32,
-    k: u32,
-    records: &[u32],
-    slots: &[u32],
-    roots: &[u32],
-    sinks: &[u32],
-    image: &mut [u8],
-)
-    requires { Savable c len k records.now slots.now roots.now sinks.now × (26 + len + 4 * c.r + sinks_len k ≤ length image.old) }
-    ensures { image.new ≡ sets image.old 0 (heap_image c records.now slots.now roots.now sinks.now) }
+fn put_image(c: Control, len: u32, k: u32, heap: &Buffers, image: &mut [u8])
+    requires { Savable c len k heap.now.records.now heap.now.slots.now heap.now.roots.now heap.now.sinks.now
+        × (26 + len + 4 * c.r + sinks_len k ≤ length image.old) }
+    ensures { image.new ≡ sets image.old 0 (heap_image c heap.now.records.now heap.now.slots.now heap.now.roots.now heap.now.sinks.now) }
 {
     put_sizes(c, image);
-    put_objects(c.n, len, records, slots, image, 14);
+    put_objects(c.n, len, heap.records, heap.slots, image, 14);
     let third = 20 + len as usize;
-    put_roots(c.r, roots, image, third);
-    put_sinks(k, sinks, image, third + 6 + 4 * c.r as usize);
+    put_roots(c.r, heap.roots, image, third);
+    put_sinks(k, heap.sinks, image, third + 6 + 4 * c.r as usize);
 }
 
 // Saves the heap, and answers the length of the image. No byte is stored before the last test has passed.
-fn write_image(
-    c: Control,
-    records: &[u32],
-    slots: &[u32],
-    roots: &[u32],
-    sinks: &[u32],
-    sets: &[u64],
-    image: &mut [u8],
-) -> Result<u32, Refusal>
+fn write_image(c: Control, heap: &Buffers, image: &mut [u8]) -> Result<u32, Refusal>
     ensures { Save.gives (answer_of c result) image.new
-        ≡ Save.save c records.now slots.now roots.now sinks.now sets.now image.old }
+        ≡ Save.save c heap.now.records.now heap.now.slots.now heap.now.roots.now heap.now.sinks.now heap.now.sets.now image.old }
 {
-    heap_refusal(c, records, slots, roots, sinks, sets, false)?;
-    let objects = objects_len(c.n, records);
-    let listed = sinks_count(sinks);
+    heap_refusal(c, heap, false)?;
+    let objects = objects_len(c.n, heap.records);
+    let listed = sinks_count(heap.sinks);
     let length = 26 + objects + 4 * c.r + sinks_len(listed);
     if image.len() < length as usize {
         return Err(Refusal::TooShort);
     }
-    put_image(c, objects, listed, records, slots, roots, sinks, image);
+    put_image(c, objects, listed, heap, image);
     Ok(length)
 }
 
@@ -265,7 +250,14 @@ pub fn save(
     ensures { Save.gives result image.new
         ≡ Save.save c records.now slots.now roots.now sinks.now sets.now image.old }
 {
-    match write_image(c, records, slots, roots, sinks, sets, image) {
+    let heap = Buffers {
+        records,
+        slots,
+        roots,
+        sinks,
+        sets,
+    };
+    match write_image(c, &heap, image) {
         Ok(length) => Saved {
             refusal: 0,
             length,

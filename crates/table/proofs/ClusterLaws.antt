@@ -10,11 +10,15 @@ use native.Mathlib.Omega.{arith}
 use native.Mathlib.Numerals.{add-one}
 use lib.Dec.{eqb, ltb}
 use lib.ListN.{length, get_or, take, drop, length-drop, length-take}
-use lib.Seq.{take-take, take_all}
+use lib.Seq.{take-take, take_all, take-nil}
+use Rattle.std.specs.Option.{MatchOption, unwrap_or}
+use Rattle.std.specs.declared.option.Option.{Option}
+use Rattle.std.specs.declared.option.Option.TheVariants.{Some, None}
+use denote.Bor.{Bor}
+use mathlib.Core.Logic.{◌⊎◌, inl, inr}
 use borrow.Author.Tests.{le-leb, lt-leb, eq-eqb, ne_eqb, lt-ltb}
-use Rattle.layout.specs.Limits.{slots_len, width_max}
+use Rattle.layout.specs.Limits.{slots_len}
 use Rattle.records.specs.Record.{is_sink, cluster, width, loose}
-use Rattle.layout.specs.Field.{field}
 use Rattle.graph.specs.Numbers.{bit, sum, count}
 use Rattle.graph.specs.Clusters.{size, leaves, out_count, out_bit}
 use Rattle.rules.specs.Buffers.{rec_of, used_words, eight}
@@ -35,12 +39,6 @@ module _ (n x : ℕ) (recs : List ℕ) where
 
   pub record-in : x ≢ 0 → x ≤ n → get_or recs (x - 1) 0 ≡ rec_of n recs x
   record-in h l = sym (rec_of-get n recs x (omega (arith, h)) l)
-
--- an object with a cluster is not 0
-pub member-low : (n x : ℕ) (recs : List ℕ) (r c : ℕ) → r ≡ rec_of n recs x → c ≡ cluster r → c ≢ 0 → 1 ≤ x
-unfolding rec_of field
-member-low n zero recs r c e f h = absurd (h (f ∙ ap cluster e))
-member-low n (suc y) recs r c e f h = omega arith
 
 -- ---- the words that leave a cluster
 
@@ -70,14 +68,10 @@ module _ (n c : ℕ) (recs : List ℕ) where
   any-each [] = unfold any_leaves in unfold out_count in refl
   any-each (w ∷ ws) = ap (λ (b : Bool). word_leaves n recs c w || b) (any-each ws) ∙ sym (any-cons w ws)
 
-  pub none-left : (from to : ℕ) (slots : List ℕ) → to ≤ from → false ≡ any_leaves n recs c (take (to - from) (drop from slots))
-  unfolding any_leaves out_count
-  none-left from to slots p = let z : to - from ≡ 0 = omega arith in rw z refl
-
--- ---- the out bit
+-- ---- the used words of an object
 
 -- the words that are there
-take-min : (u k : ℕ) (l : List ℕ) → k ≡ min (length l) u → take u l ≡ take k l
+pub take-min : (u k : ℕ) (l : List ℕ) → k ≡ min (length l) u → take u l ≡ take k l
 take-min u k l e = go (dec_le u (length l))
   where
     go : Dec (u ≤ length l) → take u l ≡ take k l
@@ -99,22 +93,36 @@ unfolding eight slots_len
 eight-from zero slots p from f = absurd (omega arith)
 eight-from (suc y) slots p from f = let z : suc y - 1 ≡ y = omega arith in rw (f, z) refl
 
-module _ (n x : ℕ) (recs slots : List ℕ) where
-  pub loose-in : (r c : ℕ) → r ≡ rec_of n recs x → c ≡ cluster r → c ≡ 0 → false ≡ exact_out (view n recs slots) x
-  unfolding exact_out view out_bit
-  loose-in r c e f h = rw (← e, ← f, h) refl
+module _ (x : ℕ) (slots : List ℕ) (w : ℕ) where
+  pub used-none : x ≡ 0 → [] ≡ take w (eight slots x)
+  unfolding eight
+  used-none e = rw e (sym (take-nil {A = ℕ} w))
 
-  module _ (r c w : ℕ) (e : r ≡ rec_of n recs x) (f : c ≡ cluster r) (h : c ≢ 0) (g : w ≡ width r) (from : ℕ) (d : from ≡ slots_len (x - 1)) where
-    -- the words that the code asks are the used ones
-    pub out-by : (u to : ℕ) → u ≡ min w width_max → to ≡ min (length slots) (from + u)
-        → any_leaves n recs c (take (to - from) (drop from slots)) ≡ exact_out (view n recs slots) x
-    unfolding exact_out view out_bit any_leaves used_words
-    out-by u to k m =
-        let p = member-low n x recs r c e f h in
-        let l = length-drop from slots in
-        let a = take-min u (to - from) (drop from slots) (omega arith) in
-        let b = sym a ∙ take-both w u (drop from slots) k in
-        rw (← e, ← f, ne_eqb c 0 h, ← g, eight-from x slots p from d, b) refl
+  pub used-are : x ≢ 0 → (from u to : ℕ) → from ≡ slots_len (x - 1) → u ≡ min w 8 → to ≡ min (length slots) (from + u)
+      → take (to - from) (drop from slots) ≡ take w (eight slots x)
+  used-are h from u to d e f =
+      let l = length-drop from slots in
+      rw (eight-from x slots (omega (arith, h)) from d) (sym (take-min u (to - from) (drop from slots) (omega arith)) ∙ take-both w u (drop from slots) e)
+
+-- a range that is asked for, or none
+pub range-got : (o : Option (Bor (List ℕ))) (none : Bor (List ℕ)) → none.now ≡ [] → (from to : ℕ) (l : List ℕ) → to ≤ length l
+    → MatchOption o ((to < from) ⊎ (length l < to)) (λ s. (from ≤ to) × (to ≤ length l) × (s.now ≡ take (to - from) (drop from l)) × (length s.now + from ≡ to))
+    → (unwrap_or o none).now ≡ take (to - from) (drop from l)
+range-got (Some s) none e from to l p h = h.2
+range-got None none e from to l p (inl q) = let z : to - from ≡ 0 = omega arith in rw z e
+range-got None none e from to l p (inr q) = absurd (omega arith)
+
+-- ---- the out bit
+
+module _ (n x : ℕ) (recs slots : List ℕ) (r c : ℕ) (e : r ≡ rec_of n recs x) (f : c ≡ cluster r) where
+  pub out-loose : c ≡ 0 → not (eqb c 0) ≡ exact_out (view n recs slots) x
+  unfolding exact_out view out_bit
+  out-loose h = rw (← e, ← f, h) refl
+
+  pub out-used : c ≢ 0 → (b : Bool) (words : List ℕ) → words ≡ take (width r) (eight slots x) → b ≡ list_any (word_leaves n recs c) words
+      → b ≡ exact_out (view n recs slots) x
+  unfolding exact_out view out_bit any_leaves used_words
+  out-used h b words d k = k ∙ any-each n c recs words ∙ rw (d, ← e, ← f, ne_eqb c 0 h) refl
 
 -- ---- members
 

@@ -1,8 +1,9 @@
 // Clusters in the records: the words that leave one, its members, and its end. Every function takes any number and slices of any length.
-ghost use Rattle.std.specs.Prelude.{◌≡◌};
-ghost use Rattle.rules.specs.Buffers.{rec_of};
+ghost use Rattle.std.specs.Prelude.{◌≡◌, take};
+ghost use Rattle.records.specs.Record.{width};
+ghost use Rattle.rules.specs.Buffers.{rec_of, eight};
 ghost use Rattle.rules.specs.View.{view, exact_out};
-ghost use Rattle.table.specs.Clusters.{word_leaves, any_leaves, members_of, dissolved};
+ghost use Rattle.table.specs.Clusters.{word_leaves, members_of, dissolved};
 
 use layout::limits::{WIDTH_MAX, slots_len};
 use records::{cluster_of, is_sink, loose, width_of};
@@ -29,11 +30,17 @@ pub fn leaves(n: u32, c: u32, word: u32, records: &[u32]) -> bool
     !is_sink(r) && cluster_of(r) != c
 }
 
-// Whether one of the words does.
-fn any_leaves(n: u32, c: u32, words: &[u32], records: &[u32]) -> bool
-    ensures { result ≡ any_leaves n records.now c words.now }
+// The used words of object x, whose record is r, as far as they are there; eight of them where the width is more.
+pub fn used_words(x: u32, r: u32, slots: &[u32]) -> &[u32]
+    ensures { result.now ≡ take (width r) (eight slots.now x) }
 {
-    words.iter().any(|w| leaves(n, c, *w, records))
+    if x == 0 {
+        return &[];
+    }
+    let from = slots_len(x - 1);
+    let used = width_of(r).min(WIDTH_MAX) as usize;
+    let to = slots.len().min(from + used);
+    slots.get(from..to).unwrap_or(&[])
 }
 
 // The out bit that object x should have.
@@ -42,13 +49,10 @@ pub fn exact_out(n: u32, x: u32, records: &[u32], slots: &[u32]) -> bool
 {
     let r = record_of(n, x, records);
     let c = cluster_of(r);
-    if c == 0 {
-        return false;
-    }
-    let used = width_of(r).min(WIDTH_MAX) as usize;
-    let from = slots_len(x - 1);
-    let to = slots.len().min(from + used);
-    from < to && any_leaves(n, c, &slots[from..to], records)
+    c != 0
+        && used_words(x, r, slots)
+            .iter()
+            .any(|w| leaves(n, c, *w, records))
 }
 
 // How many of the objects 1 to n have c as their cluster.

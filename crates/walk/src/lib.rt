@@ -16,6 +16,7 @@ use layout::answers::Control;
 use layout::limits::work_len;
 use layout::refusals::Refusal;
 use table::buffers::zero;
+use table::room::Buffers;
 use wellformed::heap_refusal;
 
 // Tests the heap and walks it from its roots; the first test that holds refuses. After an accepted walk the flags are in the records, and
@@ -35,15 +36,14 @@ pub fn walk(
         (refusal_of result) records.new work.new }
 {
     let m = work_len(c.n);
-    heap_refusal(
-        c,
+    let lent = Buffers {
         records,
         slots,
         roots,
         sinks,
         sets,
-        (work.len() < m) | rest,
-    )?;
+    };
+    heap_refusal(c, &lent, (work.len() < m) | rest)?;
     let heap = Heap {
         by,
         n: c.n,
@@ -51,7 +51,7 @@ pub fn walk(
         sinks,
         sets,
     };
-    trace(&heap, c.r, roots, records, &mut work[0..m]);
+    trace(heap, c.r, roots, records, &mut work[0..m]);
     zero(work, m);
     Ok(())
 }

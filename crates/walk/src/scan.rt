@@ -39,12 +39,12 @@ fn push_pointers(
 }
 
 // Marks object x and puts its pointers in front of the pending objects.
-pub(crate) fn scan(heap: &Heap, records: &mut [u32], work: &mut [u32], top: usize, x: u32) -> usize
-    requires state { State heap.now.n records.old heap.now.slots.now work.old top }
-    requires obj { Obj heap.now.n x }
-    requires x_value { flags_of heap.now.n records.old T.marked x ≡ false }
-    ensures { Moved heap.now.n heap.now.slots.now records.old work.old top
-        (T.scan (view heap.now.n records.old heap.now.slots.now) x)
+pub(crate) fn scan(heap: Heap, records: &mut [u32], work: &mut [u32], top: usize, x: u32) -> usize
+    requires state { State heap.n records.old heap.slots.now work.old top }
+    requires obj { Obj heap.n x }
+    requires x_value { flags_of heap.n records.old T.marked x ≡ false }
+    ensures { Moved heap.entry.n heap.entry.slots.now records.old work.old top
+        (T.scan (view heap.entry.n records.old heap.entry.slots.now) x)
         records.new work.new result }
 {
     let k = width_of(record_of(heap.n, x, records)) as usize;
@@ -54,16 +54,16 @@ pub(crate) fn scan(heap: &Heap, records: &mut [u32], work: &mut [u32], top: usiz
 
 // Scans object x unless it is marked.
 pub(crate) fn scan_unmarked(
-    heap: &Heap,
+    heap: Heap,
     records: &mut [u32],
     work: &mut [u32],
     top: usize,
     x: u32,
 ) -> usize
-    requires state { State heap.now.n records.old heap.now.slots.now work.old top }
-    requires obj { Obj heap.now.n x }
-    ensures { Moved heap.now.n heap.now.slots.now records.old work.old top
-        (T.scan_if (view heap.now.n records.old heap.now.slots.now) true true (flags_of heap.now.n records.old T.marked x) x)
+    requires state { State heap.n records.old heap.slots.now work.old top }
+    requires obj { Obj heap.n x }
+    ensures { Moved heap.entry.n heap.entry.slots.now records.old work.old top
+        (T.scan_if (view heap.entry.n records.old heap.entry.slots.now) true true (flags_of heap.entry.n records.old T.marked x) x)
         records.new work.new result }
 {
     if is_marked(record_of(heap.n, x, records)) {
@@ -74,16 +74,16 @@ pub(crate) fn scan_unmarked(
 
 // Scans the sinks in the places of a set that are not marked, by place.
 pub(crate) fn scan_sinks(
-    heap: &Heap,
+    heap: Heap,
     records: &mut [u32],
     work: &mut [u32],
     top: usize,
     set: u64,
 ) -> usize
-    requires state { State heap.now.n records.old heap.now.slots.now work.old top }
-    requires sink_max_in_bounds { (sink_max ≤ length heap.now.sinks.now) × Objects heap.now.n (sinks_in heap.now.sinks.now set) }
-    ensures { Moved heap.now.n heap.now.slots.now records.old work.old top
-        (T.scan_all (view heap.now.n records.old heap.now.slots.now) (sinks_in heap.now.sinks.now set))
+    requires state { State heap.n records.old heap.slots.now work.old top }
+    requires sink_max_in_bounds { (sink_max ≤ length heap.sinks.now) × Objects heap.n (sinks_in heap.sinks.now set) }
+    ensures { Moved heap.entry.n heap.entry.slots.now records.old work.old top
+        (T.scan_all (view heap.entry.n records.old heap.entry.slots.now) (sinks_in heap.entry.sinks.now set))
         records.new work.new result }
 {
     let mut at = top;
@@ -106,17 +106,17 @@ fn link_of(n: u32, work: &[u32], x: u32) -> u32
 
 // Scans the out members of h's cluster that are not marked, from the highest down, so that in the end their pointers are in number order.
 pub(crate) fn scan_outs(
-    heap: &Heap,
+    heap: Heap,
     records: &mut [u32],
     work: &mut [u32],
     top: usize,
     h: u32,
 ) -> usize
-    requires state { State heap.now.n records.old heap.now.slots.now work.old top }
-    requires linked { Linked true heap.now.n records.old work.old }
-    requires obj { Obj heap.now.n h }
-    ensures { Moved heap.now.n heap.now.slots.now records.old work.old top
-        (T.scan_outs (view heap.now.n records.old heap.now.slots.now) h heap.now.n)
+    requires state { State heap.n records.old heap.slots.now work.old top }
+    requires linked { Linked true heap.n records.old work.old }
+    requires obj { Obj heap.n h }
+    ensures { Moved heap.entry.n heap.entry.slots.now records.old work.old top
+        (T.scan_outs (view heap.entry.n records.old heap.entry.slots.now) h heap.entry.n)
         records.new work.new result }
 {
     let mut at = top;

@@ -14,9 +14,9 @@ use postponed::lowest;
 use table::buffers::clear;
 
 // Visits the pending objects, and what they lead to, until none is left.
-fn drain(heap: &Heap, records: &mut [u32], work: &mut [u32], top: usize)
-    requires { Ready (way_of heap.now) heap.now.n records.old heap.now.slots.now work.old top }
-    ensures { Drained (way_of heap.now) heap.now.n heap.now.slots.now records.old (pending heap.now.n work.old top)
+fn drain(heap: Heap, records: &mut [u32], work: &mut [u32], top: usize)
+    requires { Ready (way_of heap) heap.n records.old heap.slots.now work.old top }
+    ensures { Drained (way_of heap.entry) heap.entry.n heap.entry.slots.now records.old (pending heap.entry.n work.old top)
         records.new work.new }
 {
     let end = 8 * (heap.n as usize);
@@ -28,20 +28,20 @@ fn drain(heap: &Heap, records: &mut [u32], work: &mut [u32], top: usize)
 }
 
 // Visits object x and what it leads to.
-fn follow(heap: &Heap, records: &mut [u32], work: &mut [u32], x: u32)
-    requires ready { Ready (way_of heap.now) heap.now.n records.old heap.now.slots.now work.old (8 * heap.now.n) }
-    requires obj { Obj heap.now.n x }
-    ensures { Followed (way_of heap.now) heap.now.n heap.now.slots.now records.old (x ∷ []) records.new work.new }
+fn follow(heap: Heap, records: &mut [u32], work: &mut [u32], x: u32)
+    requires ready { Ready (way_of heap) heap.n records.old heap.slots.now work.old (8 * heap.n) }
+    requires obj { Obj heap.n x }
+    ensures { Followed (way_of heap.entry) heap.entry.n heap.entry.slots.now records.old (x ∷ []) records.new work.new }
 {
     let top = visit(heap, records, work, 8 * (heap.n as usize), x);
     drain(heap, records, work, top);
 }
 
 // Visits the objects that the first r roots name, by index.
-fn follow_roots(heap: &Heap, r: u32, roots: &[u32], records: &mut [u32], work: &mut [u32])
-    requires ready { Ready (way_of heap.now) heap.now.n records.old heap.now.slots.now work.old (8 * heap.now.n) }
-    requires r_in_bounds { (r ≤ length roots.now) × Objects heap.now.n (pointers (take r roots.now)) }
-    ensures { Followed (way_of heap.now) heap.now.n heap.now.slots.now records.old (pointers (take r roots.now))
+fn follow_roots(heap: Heap, r: u32, roots: &[u32], records: &mut [u32], work: &mut [u32])
+    requires ready { Ready (way_of heap) heap.n records.old heap.slots.now work.old (8 * heap.n) }
+    requires r_in_bounds { (r ≤ length roots.now) × Objects heap.n (pointers (take r roots.now)) }
+    ensures { Followed (way_of heap.entry) heap.entry.n heap.entry.slots.now records.old (pointers (take r roots.now))
         records.new work.new }
 {
     for i in 0..r as usize {
@@ -53,9 +53,9 @@ fn follow_roots(heap: &Heap, r: u32, roots: &[u32], records: &mut [u32], work: &
 }
 
 // Takes up the postponed objects, the lowest first, until none is left.
-fn follow_postponed(heap: &Heap, records: &mut [u32], work: &mut [u32])
-    requires { Ready (way_of heap.now) heap.now.n records.old heap.now.slots.now work.old (8 * heap.now.n) }
-    ensures { Finished (way_of heap.now) heap.now.n heap.now.slots.now records.old records.new }
+fn follow_postponed(heap: Heap, records: &mut [u32], work: &mut [u32])
+    requires { Ready (way_of heap) heap.n records.old heap.slots.now work.old (8 * heap.n) }
+    ensures { Finished (way_of heap.entry) heap.entry.n heap.entry.slots.now records.old records.new }
 {
     let mut x = lowest(heap.n, work);
     while x != 0 {
@@ -78,11 +78,11 @@ fn link_clusters(by: bool, n: u32, records: &[u32], work: &mut [u32])
 }
 
 // Walks the heap from its roots, by clusters or without them, and leaves the flags in the records.
-pub(crate) fn trace(heap: &Heap, r: u32, roots: &[u32], records: &mut [u32], work: &mut [u32])
-    requires traceable { Traceable (way_of heap.now) heap.now.n (starts_in r roots.now) records.old heap.now.slots.now work.old }
+pub(crate) fn trace(heap: Heap, r: u32, roots: &[u32], records: &mut [u32], work: &mut [u32])
+    requires traceable { Traceable (way_of heap) heap.n (starts_in r roots.now) records.old heap.slots.now work.old }
     requires r_in_bounds { r ≤ length roots.now }
-    ensures { Walked (way_of heap.now) heap.now.n (starts_in r roots.now)
-        records.old heap.now.slots.now records.new }
+    ensures { Walked (way_of heap.entry) heap.entry.n (starts_in r roots.now)
+        records.old heap.entry.slots.now records.new }
 {
     link_clusters(heap.by, heap.n, records, work);
     clear(work, 9 * (heap.n as usize), work_len(heap.n));

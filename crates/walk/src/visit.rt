@@ -38,12 +38,12 @@ fn is_settled(by: bool, n: u32, x: u32, records: &[u32]) -> bool
 }
 
 // Visits h, the head of its cluster: the sinks of its set, then its out members.
-fn visit_head(heap: &Heap, records: &mut [u32], work: &mut [u32], top: usize, h: u32) -> usize
-    requires ready { Ready (way true heap.now.sinks.now heap.now.sets.now) heap.now.n records.old heap.now.slots.now work.old top }
-    requires obj { Obj heap.now.n h }
-    ensures { Moved heap.now.n heap.now.slots.now records.old work.old top
-        (T.visit_by (heap_in heap.now.n records.old heap.now.slots.now heap.now.sinks.now) false true
-        (flags_of heap.now.n records.old T.marked h) (flags_of heap.now.n records.old T.reached h) h)
+fn visit_head(heap: Heap, records: &mut [u32], work: &mut [u32], top: usize, h: u32) -> usize
+    requires ready { Ready (way true heap.sinks.now heap.sets.now) heap.n records.old heap.slots.now work.old top }
+    requires obj { Obj heap.n h }
+    ensures { Moved heap.entry.n heap.entry.slots.now records.old work.old top
+        (T.visit_by (heap_in heap.entry.n records.old heap.entry.slots.now heap.entry.sinks.now) false true
+        (flags_of heap.entry.n records.old T.marked h) (flags_of heap.entry.n records.old T.reached h) h)
         records.new work.new result }
 {
     if is_reached(record_of(heap.n, h, records)) {
@@ -67,11 +67,11 @@ fn visit_member(n: u32, records: &mut [u32], work: &mut [u32], x: u32)
 }
 
 // Visits object x.
-pub(crate) fn visit(heap: &Heap, records: &mut [u32], work: &mut [u32], top: usize, x: u32) -> usize
-    requires ready { Ready (way_of heap.now) heap.now.n records.old heap.now.slots.now work.old top }
-    requires obj { Obj heap.now.n x }
-    ensures { Moved heap.now.n heap.now.slots.now records.old work.old top
-        (T.visit (walked_heap (way_of heap.now) heap.now.n records.old heap.now.slots.now) x)
+pub(crate) fn visit(heap: Heap, records: &mut [u32], work: &mut [u32], top: usize, x: u32) -> usize
+    requires ready { Ready (way_of heap) heap.n records.old heap.slots.now work.old top }
+    requires obj { Obj heap.n x }
+    ensures { Moved heap.entry.n heap.entry.slots.now records.old work.old top
+        (T.visit (walked_heap (way_of heap.entry) heap.entry.n records.old heap.entry.slots.now) x)
         records.new work.new result }
 {
     let c = cluster_seen(heap.by, heap.n, x, records);
@@ -98,16 +98,16 @@ fn is_scanned(by: bool, n: u32, x: u32, records: &[u32]) -> bool
 // Visits the pending object x. Most visits of a dense heap are to objects scanned before, so these are passed over without a call; those of a plain walk that
 // scan need none of the cases of `visit`.
 pub(crate) fn visit_pending(
-    heap: &Heap,
+    heap: Heap,
     records: &mut [u32],
     work: &mut [u32],
     top: usize,
     x: u32,
 ) -> usize
-    requires ready { Ready (way_of heap.now) heap.now.n records.old heap.now.slots.now work.old top }
-    requires obj { Obj heap.now.n x }
-    ensures { Moved heap.now.n heap.now.slots.now records.old work.old top
-        (T.visit (walked_heap (way_of heap.now) heap.now.n records.old heap.now.slots.now) x)
+    requires ready { Ready (way_of heap) heap.n records.old heap.slots.now work.old top }
+    requires obj { Obj heap.n x }
+    ensures { Moved heap.entry.n heap.entry.slots.now records.old work.old top
+        (T.visit (walked_heap (way_of heap.entry) heap.entry.n records.old heap.entry.slots.now) x)
         records.new work.new result }
 {
     if is_scanned(heap.by, heap.n, x, records) {
@@ -120,10 +120,10 @@ pub(crate) fn visit_pending(
 }
 
 // Takes up the postponed object x, where nothing is pending: it is dropped or scanned.
-pub(crate) fn take_up(heap: &Heap, records: &mut [u32], work: &mut [u32], x: u32) -> usize
-    requires state { State heap.now.n records.old heap.now.slots.now work.old (8 * heap.now.n) }
-    requires obj { Obj heap.now.n x }
-    ensures { TakenUp heap.now.by heap.now.n x heap.now.slots.now records.old work.old records.new work.new result }
+pub(crate) fn take_up(heap: Heap, records: &mut [u32], work: &mut [u32], x: u32) -> usize
+    requires state { State heap.n records.old heap.slots.now work.old (8 * heap.n) }
+    requires obj { Obj heap.n x }
+    ensures { TakenUp heap.entry.by heap.entry.n x heap.entry.slots.now records.old work.old records.new work.new result }
 {
     let settled = is_settled(heap.by, heap.n, x, records);
     put_bit(records, x, POSTPONED, false);

@@ -15,7 +15,7 @@ use layout::words::{Word, sort_word};
 use places::{list_ok, sets_ok};
 use records::{cluster_of, in_use, is_out, legal, width_of};
 use table::clusters::{leaves, record_of};
-use table::room::short_heap;
+use table::room::{Buffers, short_heap};
 
 // The record is 0 or legal.
 #[tactic(auto, unfolding(crate::specs::Check::record_ok, records::specs::Record::free))]
@@ -120,42 +120,28 @@ fn formed_ok(n: u32, r: u32, records: &[u32], slots: &[u32], roots: &[u32]) -> b
 }
 
 // Whether the heap is well formed; false where n is above 4,095 or a slice is too short.
-pub fn well_formed(
-    c: Control,
-    records: &[u32],
-    slots: &[u32],
-    roots: &[u32],
-    sinks: &[u32],
-    sets: &[u64],
-) -> bool
-    ensures { result ≡ checked c records.now slots.now roots.now sinks.now sets.now }
+pub fn well_formed(c: Control, heap: &Buffers) -> bool
+    ensures { result ≡ checked c heap.now.records.now heap.now.slots.now heap.now.roots.now heap.now.sinks.now heap.now.sets.now }
 {
     c.n <= OBJECT_MAX
-        && !short_heap(c.n, c.r, records, slots, roots, sinks, sets)
-        && formed_ok(c.n, c.r, records, slots, roots)
-        && list_ok(c.n, records, sinks)
-        && sets_ok(c.n, records, slots, sinks, sets)
+        && !short_heap(c.n, c.r, heap)
+        && formed_ok(c.n, c.r, heap.records, heap.slots, heap.roots)
+        && list_ok(c.n, heap.records, heap.sinks)
+        && sets_ok(c.n, heap.records, heap.slots, heap.sinks, heap.sets)
 }
 
 // The first test of a call that walks the whole heap that holds refuses; `rest` says that a slice besides is too short.
-pub fn heap_refusal(
-    c: Control,
-    records: &[u32],
-    slots: &[u32],
-    roots: &[u32],
-    sinks: &[u32],
-    sets: &[u64],
-    rest: bool,
-) -> Result<(), Refusal>
-    ensures { refusal_of result ≡ first (heap_tests c records.now slots.now roots.now sinks.now sets.now rest) }
+pub fn heap_refusal(c: Control, heap: &Buffers, rest: bool) -> Result<(), Refusal>
+    ensures { refusal_of result
+        ≡ first (heap_tests c heap.now.records.now heap.now.slots.now heap.now.roots.now heap.now.sinks.now heap.now.sets.now rest) }
 {
     if bad_control(c) {
         return Err(Refusal::BadControl);
     }
-    if short_heap(c.n, c.r, records, slots, roots, sinks, sets) | rest {
+    if short_heap(c.n, c.r, heap) | rest {
         return Err(Refusal::TooShort);
     }
-    if well_formed(c, records, slots, roots, sinks, sets) {
+    if well_formed(c, heap) {
         Ok(())
     } else {
         Err(Refusal::Damaged)

@@ -11,20 +11,20 @@ returns-in_err-heap_refusal c = search (rules, refused)
 pub objects_len-objects-requires : goal.objects_len-objects-requires
 objects_len-objects-requires c =
     let a = c.args in
-    let S = savable a.c a.records.now a.slots.now a.roots.now a.sinks.now a.sets.now a.image.now c.in_ok-heap_refusal.ensures _ _ refl refl in
+    let S = savable a.c a.heap.now.records.now a.heap.now.slots.now a.heap.now.roots.now a.heap.now.sinks.now a.heap.now.sets.now a.image.now c.in_ok-heap_refusal.ensures _ _ refl refl in
     (S.heap.room.most, S.heap.room.recs-long)
 
 pub sinks_count-listed-requires : goal.sinks_count-listed-requires
 sinks_count-listed-requires c =
     let a = c.args in
-    (savable a.c a.records.now a.slots.now a.roots.now a.sinks.now a.sets.now a.image.now c.in_ok-heap_refusal.ensures _ _ refl refl).list-long
+    (savable a.c a.heap.now.records.now a.heap.now.slots.now a.heap.now.roots.now a.heap.now.sinks.now a.heap.now.sets.now a.image.now c.in_ok-heap_refusal.ensures _ _ refl refl).list-long
 
 pub overflow_add-length : goal.overflow_add-length
 overflow_add-length c =
     let a = c.args in
     omega (
       arith,
-      image-most a.c a.records.now a.slots.now a.roots.now a.sinks.now a.sets.now a.image.now c.in_ok-heap_refusal.ensures _ _
+      image-most a.c a.heap.now.records.now a.heap.now.slots.now a.heap.now.roots.now a.heap.now.sinks.now a.heap.now.sets.now a.image.now c.in_ok-heap_refusal.ensures _ _
           c.objects_len-objects.ensures c.sinks_count-listed.ensures,
     )
 
@@ -33,7 +33,7 @@ overflow_mul-length c =
     let a = c.args in
     omega (
       arith,
-      image-most a.c a.records.now a.slots.now a.roots.now a.sinks.now a.sets.now a.image.now c.in_ok-heap_refusal.ensures _ _
+      image-most a.c a.heap.now.records.now a.heap.now.slots.now a.heap.now.roots.now a.heap.now.sinks.now a.heap.now.sets.now a.image.now c.in_ok-heap_refusal.ensures _ _
           c.objects_len-objects.ensures c.sinks_count-listed.ensures,
     )
 
@@ -42,7 +42,7 @@ overflow_add-length-2 c =
     let a = c.args in
     omega (
       arith,
-      image-most a.c a.records.now a.slots.now a.roots.now a.sinks.now a.sets.now a.image.now c.in_ok-heap_refusal.ensures _ _
+      image-most a.c a.heap.now.records.now a.heap.now.slots.now a.heap.now.roots.now a.heap.now.sinks.now a.heap.now.sets.now a.image.now c.in_ok-heap_refusal.ensures _ _
           c.objects_len-objects.ensures c.sinks_count-listed.ensures,
     )
 
@@ -50,7 +50,7 @@ pub sinks_len-requires : goal.sinks_len-requires
 sinks_len-requires c =
     let a = c.args in
     list-few _ _ _ _ _ _ _
-    (savable a.c a.records.now a.slots.now a.roots.now a.sinks.now a.sets.now a.image.now c.in_ok-heap_refusal.ensures _ _
+    (savable a.c a.heap.now.records.now a.heap.now.slots.now a.heap.now.roots.now a.heap.now.sinks.now a.heap.now.sets.now a.image.now c.in_ok-heap_refusal.ensures _ _
     c.objects_len-objects.ensures c.sinks_count-listed.ensures)
 
 pub overflow_add-length-3 : goal.overflow_add-length-3
@@ -58,7 +58,7 @@ overflow_add-length-3 c =
     let a = c.args in
     omega (
       arith,
-      image-most a.c a.records.now a.slots.now a.roots.now a.sinks.now a.sets.now a.image.now c.in_ok-heap_refusal.ensures _ _
+      image-most a.c a.heap.now.records.now a.heap.now.slots.now a.heap.now.roots.now a.heap.now.sinks.now a.heap.now.sets.now a.image.now c.in_ok-heap_refusal.ensures _ _
           c.objects_len-objects.ensures c.sinks_count-listed.ensures,
       c.sinks_len.ensures,
     )
@@ -69,7 +69,7 @@ returns-then-image-length c = too_small _ _ _ _ _ _ _ c.in_ok-heap_refusal.ensur
 pub put_image-requires : goal.put_image-requires
 put_image-requires c =
     let a = c.args in (
-      savable a.c a.records.now a.slots.now a.roots.now a.sinks.now a.sets.now a.image.now c.in_ok-heap_refusal.ensures _ _
+      savable a.c a.heap.now.records.now a.heap.now.slots.now a.heap.now.roots.now a.heap.now.sinks.now a.heap.now.sets.now a.image.now c.in_ok-heap_refusal.ensures _ _
           c.objects_len-objects.ensures c.sinks_count-listed.ensures,
       omega (arith, c.if-image-length.false, c.sinks_len.ensures),
     )

@@ -6,8 +6,8 @@ use Rattle.wellformed.proofs.well_formed.Goals as goal
 
 pub formed_ok-requires : goal.formed_ok-requires
 formed_ok-requires c =
-    let a = c.args in
-    let s = in-size a.c a.records.now a.slots.now a.roots.now a.sinks.now a.sets.now _ (search rules) c.if-not-short_heap.true in
+    let a = c.args.heap.now in
+    let s = in-size c.args.c a.records.now a.slots.now a.roots.now a.sinks.now a.sets.now _ (search rules) c.if-not-short_heap.true in
     record {
       room = room_of_lem _ _ _ _ _ _ _ s.1 s.0;
       r_in_bounds = (heap-long _ _ _ _ _ _ _ s.1).roots-long;
@@ -15,12 +15,12 @@ formed_ok-requires c =
 
 pub returns-then-list_ok : goal.returns-then-list_ok
 returns-then-list_ok c =
-    let a = c.args in
-    by-sets a.c a.records.now a.slots.now a.roots.now a.sinks.now a.sets.now c.if-c-le-OBJECT_MAX.value c.if-not-short_heap.value _
+    let a = c.args.heap.now in
+    by-sets c.args.c a.records.now a.slots.now a.roots.now a.sinks.now a.sets.now c.if-c-le-OBJECT_MAX.value c.if-not-short_heap.value _
     (search rules) (search rules) (search rules) c.if-list_ok.true _ c.sets_ok.ensures
 
 pub returns-else-list_ok : goal.returns-else-list_ok
 returns-else-list_ok c =
-    let a = c.args in
-    broken a.c a.records.now a.slots.now a.roots.now a.sinks.now a.sets.now c.if-c-le-OBJECT_MAX.value c.if-not-short_heap.value _
+    let a = c.args.heap.now in
+    broken c.args.c a.records.now a.slots.now a.roots.now a.sinks.now a.sets.now c.if-c-le-OBJECT_MAX.value c.if-not-short_heap.value _
     (search rules) (search rules) (search rules) c.if-list_ok.false

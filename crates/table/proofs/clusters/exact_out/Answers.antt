@@ -1,30 +1,15 @@
--- `table::clusters::exact_out` meets its contract. Assumes nothing.
-use native.Mathlib.Omega.{arith}
-use mathlib.Core.Path.{◌≡◌, ◌∙◌}
-use borrow.Author.Tests.{le-ltb}
-use lib.Dec.{ltb}
-use mathlib.Core.Bool.{false}
-use Rattle.layout.specs.Limits.{slots_len}
-use Rattle.table.proofs.ClusterLaws.{loose-in, member-low, out-by, none-left}
+-- `table::clusters::exact_out` asks the used words of an object with a cluster. Assumes nothing.
+use Rattle.std.proofs.Common.{rules}
+use Rattle.std.proofs.lemmas.Iterator.{YieldsList-from_slice}
+use Rattle.std.proofs.lemmas.Iterator.Search.{any_from_yields_List}
+use Rattle.table.specs.Clusters.{word_leaves}
+use Rattle.table.proofs.ClusterLaws.{out-loose, out-used}
 use Rattle.table.proofs.clusters.exact_out.Goals as goal
 
-pub returns-then-c-eq0 : goal.returns-then-c-eq0
-returns-then-c-eq0 c = loose-in _ _ _ _ _ _ c.record_of-r.ensures c.cluster_of-c.ensures c.if-c-eq0.true
+pub returns-then-c-ne0 : goal.returns-then-c-ne0
+returns-then-c-ne0 c =
+    out-used _ _ _ _ _ _ c.record_of-r.ensures c.cluster_of-c.ensures c.if-c-ne0.true _ c.used_words.result.now c.used_words.ensures
+    (any_from_yields_List (word_leaves c.args.n c.args.records.now c.cluster_of-c.result) _ _ c.any.result c.any.ensures.ran (YieldsList-from_slice c.used_words.result.now cc) (λ w b q k. search rules))
 
-pub overflow_sub-x : goal.overflow_sub-x
-overflow_sub-x c = member-low _ _ _ _ _ c.record_of-r.ensures c.cluster_of-c.ensures c.if-c-eq0.false
-
-pub overflow_add-from : goal.overflow_add-from
-unfolding slots_len
-overflow_add-from c = omega (arith, c.slots_len-from.ensures, c.min-used.ensures)
-
-pub returns-then-from-to : goal.returns-then-from-to
-returns-then-from-to c =
-    c.any_leaves.ensures
-    ∙ out-by _ _ _ _ _ _ _ c.record_of-r.ensures c.cluster_of-c.ensures c.if-c-eq0.false c.width_of.ensures _ c.slots_len-from.ensures _ _ c.min-used.ensures c.min-to.ensures
-
-pub returns-else-from-to : goal.returns-else-from-to
-returns-else-from-to c =
-    let f : ltb c.slots_len-from.result c.min-to.result ≡ false = le-ltb _ _ c.if-from-to.false in
-    f ∙ none-left _ _ _ _ _ c.args.slots.now c.if-from-to.false
-    ∙ out-by _ _ _ _ _ _ _ c.record_of-r.ensures c.cluster_of-c.ensures c.if-c-eq0.false c.width_of.ensures _ c.slots_len-from.ensures _ _ c.min-used.ensures c.min-to.ensures
+pub returns-else-c-ne0 : goal.returns-else-c-ne0
+returns-else-c-ne0 c = out-loose _ _ _ _ _ _ c.record_of-r.ensures c.cluster_of-c.ensures c.if-c-ne0.false

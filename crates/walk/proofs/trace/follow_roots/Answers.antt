@@ -19,7 +19,7 @@ follow-requires c =
     let a = c.args in
     record {
       ready = l.invariant.0.ready;
-      obj = root-object (way_of a.heap.now) a.heap.now.n a.heap.now.slots.now a.records.now a.roots.now a.r l.i test.true c.requires.r_in_bounds.0 c.requires.r_in_bounds.1 c.if-w-ne0.true;
+      obj = root-object (way_of a.heap) a.heap.n a.heap.slots.now a.records.now a.roots.now a.r l.i test.true c.requires.r_in_bounds.0 c.requires.r_in_bounds.1 c.if-w-ne0.true;
     }
 
 pub loop-i-preserved : goal.loop-i-preserved
@@ -28,20 +28,20 @@ loop-i-preserved c =
     let a = c.args in
     let b = c.requires.r_in_bounds in
     elim c.if-w-ne0.branch [
-        then-w-ne0 w ↦
-            rw (w.records-is, w.work-is) (
-              root-followed (way_of a.heap.now) a.heap.now.n a.heap.now.slots.now a.records.now a.roots.now a.r l.i c.loop-i-test.true b.0 b.1 w.if-w-ne0.true
-                  l.records l.work _ _ l.invariant.0 w.follow.ensures,
-              w.follow.auto.records ∙ l.invariant.1,
-              w.follow.auto.work ∙ l.invariant.2,
-            )
+      | then-w-ne0 w ↦
+          rw (w.records-is, w.work-is) (
+            root-followed (way_of a.heap) a.heap.n a.heap.slots.now a.records.now a.roots.now a.r l.i c.loop-i-test.true b.0 b.1 w.if-w-ne0.true
+                l.records l.work _ _ l.invariant.0 w.follow.ensures,
+            w.follow.auto.records ∙ l.invariant.1,
+            w.follow.auto.work ∙ l.invariant.2,
+          )
       | else-w-ne0 w ↦
-            rw (w.records-is, w.work-is) (
-              root-passed (way_of a.heap.now) a.heap.now.n a.heap.now.slots.now a.records.now a.roots.now a.r l.i c.loop-i-test.true b.0 b.1 w.if-w-ne0.false
-                  l.records l.work l.invariant.0,
-              l.invariant.1,
-              l.invariant.2,
-            )
+          rw (w.records-is, w.work-is) (
+            root-passed (way_of a.heap) a.heap.n a.heap.slots.now a.records.now a.roots.now a.r l.i c.loop-i-test.true b.0 b.1 w.if-w-ne0.false
+                l.records l.work l.invariant.0,
+            l.invariant.1,
+            l.invariant.2,
+          )
     ]
 
 pub shape_of-records : goal.shape_of-records
