@@ -25,6 +25,7 @@ use layout::control::with_analysis;
 use layout::limits::work_len;
 use places::fill_sets;
 use table::buffers::zero;
+use table::room::Buffers;
 use wellformed::heap_refusal;
 
 // The clusters are formed, and those that do not stay dissolved, with work words of just the length that this takes.
@@ -70,7 +71,14 @@ pub fn analyse(
     ensures { gives result records.new sets.new work.new ≡ Rules.analyse c records.old slots.now roots.now sinks.now sets.old work.old }
 {
     let cap = work_len(c.n);
-    if let Err(e) = heap_refusal(c, records, slots, roots, sinks, sets, work.len() < cap) {
+    let lent = Buffers {
+        records,
+        slots,
+        roots,
+        sinks,
+        sets,
+    };
+    if let Err(e) = heap_refusal(c, &lent, work.len() < cap) {
         return Analysed {
             refusal: u32::from(e),
             clusters: 0,
