@@ -17,13 +17,11 @@ use Rattle.layout.specs.Limits.{object_max, width_max, sink_max, slots_len}
 use Rattle.records.specs.Record.{width, cluster, free, legal, damaged, is_out, with_out, with_written, loose}
 use Rattle.layout.specs.Word.{is_nil, is_pointer, legal_word, sort_of}
 use Rattle.layout.specs.ControlRecord.{bad_control, with_write_loss}
-use Rattle.std.specs.Prelude.{Result, Ok, Err}
 use Rattle.layout.specs.declared.refusals.Refusal.{Refusal}
-use Rattle.layout.specs.declared.refusals.Refusal.TheVariants.{LossFull}
 use Rattle.writes.specs.declared.write.Tried.{Tried}
-use Rattle.writes.specs.declared.write.Tried.TheVariants.{Stored, Elsewhere}
+use Rattle.writes.specs.declared.write.Tried.TheVariants.{Stored, Elsewhere, Refused}
 use Rattle.writes.specs.declared.write.Store.{Store}
-use Rattle.writes.specs.declared.write.Store.TheVariants.{Made, Asks}
+use Rattle.writes.specs.declared.write.Store.TheVariants.{Made, Asks, Overflows}
 use Rattle.layout.specs.Refusal.{Test, number, first}
 use Rattle.layout.proofs.LimitLaws.{within-true, below-within, above_within}
 use Rattle.layout.proofs.ControlLaws.{control-facts, writes-sound, facts-control}
@@ -508,7 +506,7 @@ module _ (c : Control) (i k w : ℕ) (recs slots list sets : List ℕ) where
 
 -- the store to an object in the cluster that is asked for, after the tests
 pub stored-in : (c : Control) (i k w : ℕ) (recs slots : List ℕ) (x : ℕ) → 0 ≡ first (front_tests c i k w recs slots x) → (o : ℕ) → o ≡ x
-    → (r d : ℕ) → r ≡ rec_of c.n recs i → d ≡ cluster r → (a : Result Tried Refusal) (rs ss : List ℕ) → Attempted c i k w recs slots o d a rs ss
+    → (r d : ℕ) → r ≡ rec_of c.n recs i → d ≡ cluster r → (a : Tried) (rs ss : List ℕ) → Attempted c i k w recs slots o d a rs ss
     → (rs ≡ set recs (i - 1) (with_written true (rec_of c.n recs i))) × (ss ≡ set slots (8 * (i - 1) + k) w)
 stored-in c i k w recs slots x e o g r d q h a rs ss (refuses y _ f _ _) = absurd (numbered y (f ∙ ap (λ (y : ℕ). first (front_tests c i k w recs slots y)) g ∙ sym e))
 stored-in c i k w recs slots x e o g r d q h a rs ss (passes _ z _ _ _) = absurd (z (sym (h ∙ ap cluster q)))
@@ -519,11 +517,11 @@ module _ (c : Control) (i k w : ℕ) (recs slots : List ℕ) (o : ℕ) (e : 0 �
   own-cluster : cluster_of c.n recs i ≡ d
   own-cluster = ap cluster (passed-named c i k w recs slots o e).rec-at ∙ sym f
 
-  pub ends-elsewhere : d ≢ h → Attempted c i k w recs slots o h (Ok Elsewhere) recs slots
+  pub ends-elsewhere : d ≢ h → Attempted c i k w recs slots o h Elsewhere recs slots
   ends-elsewhere q = passes e (λ y. q (sym own-cluster ∙ y)) refl refl refl
 
   pub ends-stored : d ≡ h → (rs ss : List ℕ) → rs ≡ set recs (i - 1) (with_written true (rec_of c.n recs i)) → ss ≡ set slots (8 * (i - 1) + k) w
-      → Attempted c i k w recs slots o h (Ok Stored) rs ss
+      → Attempted c i k w recs slots o h Stored rs ss
   ends-stored q rs ss = stores e (own-cluster ∙ q) refl
 
 -- one that stored nothing because the object is elsewhere
@@ -533,7 +531,7 @@ pub record Left (c : Control) (i k w : ℕ) (recs slots : List ℕ) (o : ℕ) (r
   pub passed : 0 ≡ first (front_tests c i k w recs slots o)
 
 pub left : (c : Control) (i k w : ℕ) (recs slots : List ℕ) (o h : ℕ) (rs ss : List ℕ)
-    → Attempted c i k w recs slots o h (Ok Elsewhere) rs ss → Left c i k w recs slots o rs ss
+    → Attempted c i k w recs slots o h Elsewhere rs ss → Left c i k w recs slots o rs ss
 left c i k w recs slots o h rs ss (refuses _ q _ _ _) = cc
 left c i k w recs slots o h rs ss (passes e _ _ x y) = record { records-left = x; slots-left = y; passed = e }
 left c i k w recs slots o h rs ss (stores _ _ q _ _) = cc
@@ -543,19 +541,19 @@ left c i k w recs slots o h rs ss (stores _ _ q _ _) = cc
 -- its ends
 module _ (c : Control) (i k w : ℕ) (recs slots list sets : List ℕ) (b : Bool) (f : b ≡ dissolves (view c.n recs slots) i k (target c.n w)) (may : Bool) where
   pub ends-kept : not b ≡ true → (rs ss ts : List ℕ) → rs ≡ encoded (store_by false (view c.n recs slots) i k (target c.n w)) recs
-      → ss ≡ set slots (8 * (i - 1) + k) w → ts ≡ sets_by false c.n i k w recs slots list sets → Settled c i k w recs slots list sets may (Ok Made) rs ss ts
+      → ss ≡ set slots (8 * (i - 1) + k) w → ts ≡ sets_by false c.n i k w recs slots list sets → Settled c i k w recs slots list sets may Made rs ss ts
   ends-kept t rs ss ts = keeps (sym (not-true b t) ∙ f) refl
 
   module _ (t : not b ≡ false) where
     pub ends-broken : may ≡ true → (rs ss ts : List ℕ) → rs ≡ encoded (store_by true (view c.n recs slots) i k (target c.n w)) recs
-        → ss ≡ set slots (8 * (i - 1) + k) w → ts ≡ sets_by true c.n i k w recs slots list sets → Settled c i k w recs slots list sets may (Ok Made) rs ss ts
+        → ss ≡ set slots (8 * (i - 1) + k) w → ts ≡ sets_by true c.n i k w recs slots list sets → Settled c i k w recs slots list sets may Made rs ss ts
     ends-broken o rs ss ts = breaks (sym (not-false b t) ∙ f) o refl
 
     module _ (o : may ≡ false) (l : ℕ) (g : l ≡ c.write_loss + members_of c.n recs (cluster_of c.n recs i)) where
-      pub ends-full : c.n < l → Settled c i k w recs slots list sets may (Err LossFull) recs slots sets
+      pub ends-full : c.n < l → Settled c i k w recs slots list sets may Overflows recs slots sets
       ends-full h = overflows (sym (not-false b t) ∙ f) o l g h refl refl refl refl
 
-      pub ends_asked : l ≤ c.n → Settled c i k w recs slots list sets may (Ok (Asks l)) recs slots sets
+      pub ends_asked : l ≤ c.n → Settled c i k w recs slots list sets may (Asks l) recs slots sets
       ends_asked h = asks (sym (not-false b t) ∙ f) o l g h refl refl refl refl
 
 -- what is known once it asked
@@ -597,19 +595,19 @@ module _ (c : Control) (i k w : ℕ) (recs slots list sets : List ℕ) where
 
   module _ (o : ℕ) (g : o ≡ others) (rs₁ ss₁ : List ℕ) where
     -- an attempt that stored
-    pub answered : Attempted c i k w recs slots o 0 (Ok Stored) rs₁ ss₁ → outcome c 0 rs₁ ss₁ sets
-    answered t = go (subst (λ (x : ℕ). Attempted c i k w recs slots x 0 (Ok Stored) rs₁ ss₁) g t)
+    pub answered : Attempted c i k w recs slots o 0 Stored rs₁ ss₁ → outcome c 0 rs₁ ss₁ sets
+    answered t = go (subst (λ (x : ℕ). Attempted c i k w recs slots x 0 Stored rs₁ ss₁) g t)
       where
-        go : Attempted c i k w recs slots others 0 (Ok Stored) rs₁ ss₁ → outcome c 0 rs₁ ss₁ sets
+        go : Attempted c i k w recs slots others 0 Stored rs₁ ss₁ → outcome c 0 rs₁ ss₁ sets
         go (refuses _ q _ _ _) = cc
         go (passes _ _ q _ _) = cc
         go (stores e q _ x y) = loose-stored e q rs₁ ss₁ x y
 
     -- or refused
-    pub turned_down : (r : Refusal) → Attempted c i k w recs slots o 0 (Err r) rs₁ ss₁ → (m : ℕ) → m ≡ number r → outcome c m rs₁ ss₁ sets
-    turned_down r t m f = go (subst (λ (x : ℕ). Attempted c i k w recs slots x 0 (Err r) rs₁ ss₁) g t)
+    pub turned_down : (r : Refusal) → Attempted c i k w recs slots o 0 (Refused r) rs₁ ss₁ → (m : ℕ) → m ≡ number r → outcome c m rs₁ ss₁ sets
+    turned_down r t m f = go (subst (λ (x : ℕ). Attempted c i k w recs slots x 0 (Refused r) rs₁ ss₁) g t)
       where
-        go : Attempted c i k w recs slots others 0 (Err r) rs₁ ss₁ → outcome c m rs₁ ss₁ sets
+        go : Attempted c i k w recs slots others 0 (Refused r) rs₁ ss₁ → outcome c m rs₁ ss₁ sets
         go (refuses s q e x y) =
             let g : r ≡ s = cc in
             let h : m ≡ number s = f ∙ ap number g in
@@ -618,47 +616,45 @@ module _ (c : Control) (i k w : ℕ) (recs slots list sets : List ℕ) where
         go (stores _ _ q _ _) = cc
 
     -- one that left a member to its own store
-    module _ (t : Attempted c i k w recs slots o 0 (Ok Elsewhere) rs₁ ss₁) where
+    module _ (t : Attempted c i k w recs slots o 0 Elsewhere rs₁ ss₁) where
       L : Left c i k w recs slots others rs₁ ss₁
-      L = left c i k w recs slots others 0 rs₁ ss₁ (subst (λ (x : ℕ). Attempted c i k w recs slots x 0 (Ok Elsewhere) rs₁ ss₁) g t)
+      L = left c i k w recs slots others 0 rs₁ ss₁ (subst (λ (x : ℕ). Attempted c i k w recs slots x 0 Elsewhere rs₁ ss₁) g t)
 
       pub passed_on : 0 ≡ first (front_tests c i k w rs₁ ss₁ others)
       passed_on = L.passed ∙ ap₂ (λ (x y : List ℕ). first (front_tests c i k w x y others)) (sym L.records-left) (sym L.slots-left)
 
       module _ (rs₂ ss₂ ts₂ : List ℕ) where
-        same : (a : Result Store Refusal) → Settled c i k w rs₁ ss₁ list sets false a rs₂ ss₂ ts₂ → Settled c i k w recs slots list sets false a rs₂ ss₂ ts₂
+        same : (a : Store) → Settled c i k w rs₁ ss₁ list sets false a rs₂ ss₂ ts₂ → Settled c i k w recs slots list sets false a rs₂ ss₂ ts₂
         same a u =
             subst (λ (x : List ℕ). Settled c i k w x slots list sets false a rs₂ ss₂ ts₂) L.records-left
             (subst (λ (y : List ℕ). Settled c i k w rs₁ y list sets false a rs₂ ss₂ ts₂) L.slots-left u)
 
         -- it did not ask
-        pub settled : Settled c i k w rs₁ ss₁ list sets false (Ok Made) rs₂ ss₂ ts₂ → outcome c 0 rs₂ ss₂ ts₂
-        settled u = go (same (Ok Made) u)
+        pub settled : Settled c i k w rs₁ ss₁ list sets false Made rs₂ ss₂ ts₂ → outcome c 0 rs₂ ss₂ ts₂
+        settled u = go (same Made u)
           where
-            go : Settled c i k w recs slots list sets false (Ok Made) rs₂ ss₂ ts₂ → outcome c 0 rs₂ ss₂ ts₂
+            go : Settled c i k w recs slots list sets false Made rs₂ ss₂ ts₂ → outcome c 0 rs₂ ss₂ ts₂
             go (keeps f _ p q r) = stayed c i k w recs slots list sets L.passed false f refl rs₂ ss₂ ts₂ p q r
             go (overflows _ _ _ _ _ z _ _ _) = cc
             go (asks _ _ _ _ _ z _ _ _) = cc
             go (breaks _ m _ _ _ _) = absurd (true≢false (sym m))
 
-        pub overfull : (e : Refusal) → Settled c i k w rs₁ ss₁ list sets false (Err e) rs₂ ss₂ ts₂ → (m : ℕ) → m ≡ number e → outcome c m rs₂ ss₂ ts₂
-        overfull e u m y = go (same (Err e) u)
+        pub overfull : Settled c i k w rs₁ ss₁ list sets false Overflows rs₂ ss₂ ts₂ → outcome c 25 rs₂ ss₂ ts₂
+        overfull u = go (same Overflows u)
           where
-            go : Settled c i k w recs slots list sets false (Err e) rs₂ ss₂ ts₂ → outcome c m rs₂ ss₂ ts₂
+            go : Settled c i k w recs slots list sets false Overflows rs₂ ss₂ ts₂ → outcome c 25 rs₂ ss₂ ts₂
             go (keeps _ z _ _ _) = cc
             go (overflows f n l v o z p q r) =
-                let g : e ≡ LossFull = cc in
-                let h : m ≡ 25 = y ∙ ap number g in
-                (λ j. Write.gives (record { refusal = h j; control = c }) (p j) (q j) (r j)) ∙ too_many c i k w recs slots list sets L.passed true f refl l v o
+                (λ j. Write.gives (record { refusal = 25; control = c }) (p j) (q j) (r j)) ∙ too_many c i k w recs slots list sets L.passed true f refl l v o
             go (asks _ _ _ _ _ z _ _ _) = cc
             go (breaks _ _ z _ _ _) = cc
 
         -- it asked: nothing was stored, and the tests pass with the loss too
-        module _ (l : ℕ) (u : Settled c i k w rs₁ ss₁ list sets false (Ok (Asks l)) rs₂ ss₂ ts₂) (d : Control) (y : d ≡ with_write_loss l c) where
+        module _ (l : ℕ) (u : Settled c i k w rs₁ ss₁ list sets false (Asks l) rs₂ ss₂ ts₂) (d : Control) (y : d ≡ with_write_loss l c) where
           asked : Asked c i k w recs slots list sets l rs₂ ss₂ ts₂
-          asked = go (same (Ok (Asks l)) u)
+          asked = go (same (Asks l) u)
             where
-              go : Settled c i k w recs slots list sets false (Ok (Asks l)) rs₂ ss₂ ts₂ → Asked c i k w recs slots list sets l rs₂ ss₂ ts₂
+              go : Settled c i k w recs slots list sets false (Asks l) rs₂ ss₂ ts₂ → Asked c i k w recs slots list sets l rs₂ ss₂ ts₂
               go (keeps _ z _ _ _) = cc
               go (overflows _ _ _ _ _ z _ _ _) = cc
               go (breaks _ _ z _ _ _) = cc
@@ -673,7 +669,7 @@ module _ (c : Control) (i k w : ℕ) (recs slots list sets : List ℕ) where
               ∙ (λ j. first (front_tests (with_write_loss l c) i k w (A.records-left j) (A.slots-left j) (others_of list (A.sets-left j))))
               ∙ with-loss c i k w recs slots others l L.passed A.fits)
 
-          module _ (a : Result Store Refusal) (rs ss ts : List ℕ) (v : Settled d i k w rs₂ ss₂ list ts₂ true a rs ss ts) where
+          module _ (a : Store) (rs ss ts : List ℕ) (v : Settled d i k w rs₂ ss₂ list ts₂ true a rs ss ts) where
             again : Settled (with_write_loss l c) i k w recs slots list sets true a rs ss ts
             again =
                 let A = asked in

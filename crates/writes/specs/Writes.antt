@@ -1,11 +1,10 @@
 -- What the functions of a write are held to.
-use Rattle.std.specs.Prelude.{ℕ, ◌+◌, ◌-◌, ◌*◌, ◌≤◌, ◌<◌, ◌≡◌, ◌≢◌, Bool, true, false, not, cond, ◌&&◌, List, [], ◌∷◌, ◌++◌, eqb, leb, length, set, Result, Ok, Err}
+use Rattle.std.specs.Prelude.{ℕ, ◌+◌, ◌-◌, ◌*◌, ◌≤◌, ◌<◌, ◌≡◌, ◌≢◌, Bool, true, false, not, cond, ◌&&◌, List, [], ◌∷◌, ◌++◌, eqb, leb, length, set}
 use Rattle.layout.specs.declared.answers.Control.{Control}
 use Rattle.layout.specs.Limits.{width_max, sink_max}
 use Rattle.records.specs.Record.{width, legal, with_written}
 use Rattle.layout.specs.Word.{is_pointer, legal_word}
 use Rattle.layout.specs.declared.refusals.Refusal.{Refusal}
-use Rattle.layout.specs.declared.refusals.Refusal.TheVariants.{LossFull}
 use Rattle.layout.specs.Refusal.{Test, number, first}
 use Rattle.graph.specs.Heap.{Heap}
 use Rattle.graph.specs.Writes.{dissolves, store_by}
@@ -15,9 +14,9 @@ use Rattle.table.specs.Named.{named_tests}
 use Rattle.table.specs.Room.{Room}
 use Rattle.table.specs.Clusters.{cluster_of, members_of}
 use Rattle.writes.specs.declared.write.Tried.{Tried}
-use Rattle.writes.specs.declared.write.Tried.TheVariants.{Stored, Elsewhere}
+use Rattle.writes.specs.declared.write.Tried.TheVariants.{Stored, Elsewhere, Refused}
 use Rattle.writes.specs.declared.write.Store.{Store}
-use Rattle.writes.specs.declared.write.Store.TheVariants.{Made, Asks}
+use Rattle.writes.specs.declared.write.Store.TheVariants.{Made, Asks, Overflows}
 
 -- the tests of the word that is to be stored
 unfoldable pub word_tests : ℕ → ℕ → List ℕ → List Test
@@ -48,26 +47,26 @@ unfoldable pub sets_by : Bool → ℕ → ℕ → ℕ → ℕ → List ℕ → L
 sets_by d n i k w recs slots list sets = with_set (store_by d (heap_in n recs slots list) i k (target n w)) (cluster_of n recs i) sets
 
 -- what an attempt at a write answers and leaves: a refusal, or that the object is not in cluster h, or the word stored
-pub data Attempted (c : Control) (i k w : ℕ) (recs slots : List ℕ) (others h : ℕ) (a : Result Tried Refusal) (rs ss : List ℕ) : Type 0 where
-  refuses : (e : Refusal) → a ≡ Err e → number e ≡ first (front_tests c i k w recs slots others) → rs ≡ recs → ss ≡ slots
+pub data Attempted (c : Control) (i k w : ℕ) (recs slots : List ℕ) (others h : ℕ) (a : Tried) (rs ss : List ℕ) : Type 0 where
+  refuses : (e : Refusal) → a ≡ Refused e → number e ≡ first (front_tests c i k w recs slots others) → rs ≡ recs → ss ≡ slots
       → Attempted c i k w recs slots others h a rs ss
-  passes : 0 ≡ first (front_tests c i k w recs slots others) → cluster_of c.n recs i ≢ h → a ≡ Ok Elsewhere → rs ≡ recs → ss ≡ slots
+  passes : 0 ≡ first (front_tests c i k w recs slots others) → cluster_of c.n recs i ≢ h → a ≡ Elsewhere → rs ≡ recs → ss ≡ slots
       → Attempted c i k w recs slots others h a rs ss
-  stores : 0 ≡ first (front_tests c i k w recs slots others) → cluster_of c.n recs i ≡ h → a ≡ Ok Stored
+  stores : 0 ≡ first (front_tests c i k w recs slots others) → cluster_of c.n recs i ≡ h → a ≡ Stored
       → rs ≡ set recs (i - 1) (with_written true (rec_of c.n recs i)) → ss ≡ set slots (width_max * (i - 1) + k) w
       → Attempted c i k w recs slots others h a rs ss
 
 -- what a store to a member answers and leaves: the word stored, with the cluster or without it, or the loss after a store that may not dissolve yet
-pub data Settled (c : Control) (i k w : ℕ) (recs slots list sets : List ℕ) (may : Bool) (a : Result Store Refusal) (rs ss ts : List ℕ) : Type 0 where
-  keeps : false ≡ dissolves (view c.n recs slots) i k (target c.n w) → a ≡ Ok Made
+pub data Settled (c : Control) (i k w : ℕ) (recs slots list sets : List ℕ) (may : Bool) (a : Store) (rs ss ts : List ℕ) : Type 0 where
+  keeps : false ≡ dissolves (view c.n recs slots) i k (target c.n w) → a ≡ Made
       → rs ≡ encoded (store_by false (view c.n recs slots) i k (target c.n w)) recs → ss ≡ set slots (width_max * (i - 1) + k) w
       → ts ≡ sets_by false c.n i k w recs slots list sets → Settled c i k w recs slots list sets may a rs ss ts
   overflows : true ≡ dissolves (view c.n recs slots) i k (target c.n w) → may ≡ false
-      → (l : ℕ) → l ≡ c.write_loss + members_of c.n recs (cluster_of c.n recs i) → c.n < l → a ≡ Err LossFull → rs ≡ recs → ss ≡ slots → ts ≡ sets
+      → (l : ℕ) → l ≡ c.write_loss + members_of c.n recs (cluster_of c.n recs i) → c.n < l → a ≡ Overflows → rs ≡ recs → ss ≡ slots → ts ≡ sets
       → Settled c i k w recs slots list sets may a rs ss ts
   asks : true ≡ dissolves (view c.n recs slots) i k (target c.n w) → may ≡ false
-      → (l : ℕ) → l ≡ c.write_loss + members_of c.n recs (cluster_of c.n recs i) → l ≤ c.n → a ≡ Ok (Asks l) → rs ≡ recs → ss ≡ slots → ts ≡ sets
+      → (l : ℕ) → l ≡ c.write_loss + members_of c.n recs (cluster_of c.n recs i) → l ≤ c.n → a ≡ Asks l → rs ≡ recs → ss ≡ slots → ts ≡ sets
       → Settled c i k w recs slots list sets may a rs ss ts
-  breaks : true ≡ dissolves (view c.n recs slots) i k (target c.n w) → may ≡ true → a ≡ Ok Made
+  breaks : true ≡ dissolves (view c.n recs slots) i k (target c.n w) → may ≡ true → a ≡ Made
       → rs ≡ encoded (store_by true (view c.n recs slots) i k (target c.n w)) recs → ss ≡ set slots (width_max * (i - 1) + k) w
       → ts ≡ sets_by true c.n i k w recs slots list sets → Settled c i k w recs slots list sets may a rs ss ts

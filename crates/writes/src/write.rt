@@ -194,24 +194,28 @@ fn store_staying(
 
 // ---- the call
 
-// What `attempt` comes to where no test refuses.
+// What `attempt` comes to.
 #[derive(Clone, Copy)]
 enum Tried {
     Stored,
     // The object is in another cluster, and nothing is stored.
     Elsewhere,
+    Refused(Refusal),
 }
 
-// What `store_member` comes to where it is not refused.
+// What `store_member` comes to. Like the other it goes by registers, as a `Result` of a number or a refusal would not.
 #[derive(Clone, Copy)]
 enum Store {
     Made,
     // The store would dissolve the cluster, with this write loss after it, and is not made.
     Asks(u32),
+    // Nor is it made with a write loss that is too large.
+    Overflows,
 }
 
 // The tests, and then the store, where the object is in this cluster: 0 is for none. An object in no cluster has no out bit, and there
 // is no set to make.
+#[inline(never)]
 fn attempt(
     c: Control,
     object: u32,
@@ -221,15 +225,17 @@ fn attempt(
     slots: &mut [u32],
     others: usize,
     cluster: u32,
-) -> Result<Tried, Refusal>
+) -> Tried
     ensures { Attempted c object slot word records.old slots.old others cluster result records.new slots.new }
 {
-    write_refusal(c, object, slot, word, records, slots, others)?;
+    if let Err(e) = write_refusal(c, object, slot, word, records, slots, others) {
+        return Tried::Refused(e);
+    }
     if cluster_of(records[(object - 1) as usize]) != cluster {
-        return Ok(Tried::Elsewhere);
+        return Tried::Elsewhere;
     }
     store_word(c.n, object, slot, word, records, slots);
-    Ok(Tried::Stored)
+    Tried::Stored
 }
 
 // A store that dissolves the object's cluster: every member becomes loose, and the set is empty. The word is stored by `attempt`,
@@ -258,6 +264,7 @@ fn store_dissolving(
 }
 
 // The store to a member of a cluster, after the tests. One that dissolves the cluster is made only where it `may`.
+#[inline(never)]
 fn store_member(
     c: Control,
     object: u32,
@@ -268,29 +275,30 @@ fn store_member(
     sinks: &[u32],
     sets: &mut [u64],
     may: bool,
-) -> Result<Store, Refusal>
+) -> Store
     requires { 0 ≡ first (front_tests c object slot word records.old slots.old (others_of sinks.now sets.old)) }
     ensures { Settled c object slot word records.old slots.old sinks.now sets.old may result
         records.new slots.new sets.new }
 {
     if !does_dissolve(c.n, object, slot, word, records, slots) {
         store_staying(c.n, object, slot, word, records, slots, &sinks[..], sets);
-        return Ok(Store::Made);
+        return Store::Made;
     }
     if may {
         store_dissolving(c, object, slot, word, records, slots, &sinks[..], sets);
-        return Ok(Store::Made);
+        return Store::Made;
     }
     let loss = loss_after(c, object, records);
     if c.n < loss {
-        return Err(Refusal::LossFull);
+        return Store::Overflows;
     }
-    Ok(Store::Asks(loss))
+    Store::Asks(loss)
 }
 
 // Most writes are to objects in no cluster, and `attempt` makes them. A store that dissolves a cluster is tried a second time, with its
 // loss in the control record, set in place. What is called in two places the compiler leaves a function; so it puts this one into both
 // exports, and copies a record that stays whole (docs/BENCHMARK.md, "Write").
+#[inline]
 pub fn write(
     c: Control,
     object: u32,
@@ -308,21 +316,19 @@ pub fn write(
     let mut d = c;
     let room = others(list, sets);
     let refusal = match attempt(d, object, slot, word, records, slots, room, 0) {
-        Ok(Tried::Stored) => 0,
-        Ok(Tried::Elsewhere) => {
+        Tried::Stored => 0,
+        Tried::Refused(e) => u32::from(e),
+        Tried::Elsewhere => {
             match store_member(d, object, slot, word, records, slots, list, sets, false) {
-                Ok(Store::Made) => 0,
-                Ok(Store::Asks(loss)) => {
+                Store::Made => 0,
+                Store::Overflows => u32::from(Refusal::LossFull),
+                Store::Asks(loss) => {
                     d.write_loss = loss;
-                    match store_member(d, object, slot, word, records, slots, list, sets, true) {
-                        Ok(_) => 0,
-                        Err(e) => u32::from(e),
-                    }
+                    let _ = store_member(d, object, slot, word, records, slots, list, sets, true);
+                    0
                 }
-                Err(e) => u32::from(e),
             }
         }
-        Err(e) => u32::from(e),
     };
     Done {
         refusal: refusal,

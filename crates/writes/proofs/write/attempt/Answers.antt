@@ -1,33 +1,29 @@
 -- `writes::write::attempt` meets its contract: one case for each of its ends. Assumes nothing.
-use mathlib.Core.Path.{refl, ap, ◌∙◌}
+use mathlib.Core.Path.{refl}
 use native.Mathlib.Omega.{arith}
-use Rattle.std.proofs.lemmas.Result.{err_from_is_err_and}
-use Rattle.layout.specs.Refusal.{number}
 use Rattle.writes.specs.Writes.{refuses}
 use Rattle.writes.proofs.WriteLaws.{slot-there, ends-elsewhere, ends-stored}
 use Rattle.writes.proofs.write.attempt.Goals as goal
 
-pub returns-in_err-write_refusal : goal.returns-in_err-write_refusal
-returns-in_err-write_refusal c =
-    let p = err_from_is_err_and c.from_residual.result c.from_residual.ensures.1 in
-    refuses p.0 p.1 (ap number p.2 ∙ c.in_err-write_refusal.ensures) refl refl
+pub returns-in-Err : goal.returns-in-Err
+returns-in-Err c = refuses c.in-Err.e refl c.in-Err.ensures refl refl
 
 pub overflow_sub-object : goal.overflow_sub-object
-overflow_sub-object c = (slot-there _ _ _ _ _ _ _ c.in_ok-write_refusal.ensures).low
+overflow_sub-object c = (slot-there _ _ _ _ _ _ _ c.in_default.ensures).low
 
 pub bounds-records-object : goal.bounds-records-object
 bounds-records-object c =
-    let s = slot-there _ _ _ _ _ _ _ c.in_ok-write_refusal.ensures in
+    let s = slot-there _ _ _ _ _ _ _ c.in_default.ensures in
     omega (arith, s.low, s.high, s.room.recs-long)
 
 pub returns-then-cluster_of-cluster : goal.returns-then-cluster_of-cluster
 returns-then-cluster_of-cluster c =
-    ends-elsewhere _ _ _ _ _ _ _ c.in_ok-write_refusal.ensures _ _ c.cluster_of.ensures c.if-cluster_of-cluster.true
+    ends-elsewhere _ _ _ _ _ _ _ c.in_default.ensures _ _ c.cluster_of.ensures c.if-cluster_of-cluster.true
 
 pub store_word-requires : goal.store_word-requires
-store_word-requires c = slot-there _ _ _ _ _ _ _ c.in_ok-write_refusal.ensures
+store_word-requires c = slot-there _ _ _ _ _ _ _ c.in_default.ensures
 
 pub returns : goal.returns
 returns c =
     let e = c.store_word.ensures in
-    ends-stored _ _ _ _ _ _ _ c.in_ok-write_refusal.ensures _ _ c.cluster_of.ensures c.if-cluster_of-cluster.false _ _ e.0 e.1
+    ends-stored _ _ _ _ _ _ _ c.in_default.ensures _ _ c.cluster_of.ensures c.if-cluster_of-cluster.false _ _ e.0 e.1
