@@ -12,7 +12,7 @@ use Rattle.compare.specs.Answers.{same_kind}
 abbrev pub freed : ℕ
 freed = 65535
 
--- no place
+-- a word has no room for a place from here on
 abbrev pub nowhere : ℕ
 nowhere = 65535
 

@@ -16,7 +16,7 @@ pub const FREED: u64 = 65535;
 // The places of roots begin here; those of slots are below.
 pub const ROOT_PLACE: usize = 32768;
 
-// No place.
+// A word has no room for a place from here on.
 const NOWHERE: usize = 65535;
 
 // The first line number that has no room in a word; a list ends long before.
