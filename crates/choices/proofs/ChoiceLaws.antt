@@ -9,12 +9,10 @@ use native.Mathlib.Nat.{mul-le-mul}
 use native.Mathlib.Omega.{arith}
 use lib.Dec.{ltb, leb}
 use borrow.Author.Tests.{ne_eqb, le-ltb, lt-ltb, le-leb, lt-leb}
-use Rattle.layout.specs.declared.answers.Control.{Control}
 use Rattle.layout.specs.declared.answers.Tuning.{Tuning}
 use Rattle.layout.proofs.FieldLaws.{flag-stays, flag-put-other}
 use Rattle.records.specs.Record.{is_written, is_sink, with_cluster, with_out, with_written}
 use Rattle.rules.specs.View.{encoded_record}
-use Rattle.rules.specs.Analyse.{sixteenth, half, clamped, next_limit}
 use Rattle.rules.proofs.BoolLaws.{cond-not}
 use Rattle.choices.specs.Choices.{joined, goes_by, over_by, lasts, loss_by, settled}
 

@@ -1,5 +1,4 @@
 -- `from_roots` meets its contract. Assumes nothing.
-use Prim.Native.Nat.{◌-◌, ◌≤◌}
 use mathlib.Core.Path.{◌≡◌}
 use lib.ListN.{length, take}
 use Rattle.analyse.specs.Starts.{GoesOn}

@@ -1,5 +1,5 @@
 -- `put_states` meets its contract. Assumes nothing.
-use Prim.Native.Nat.{◌*◌, ◌-◌, ◌≤◌}
+use Prim.Native.Nat.{◌*◌, ◌-◌}
 use Rattle.table.specs.Clusters.{cluster_of}
 use Rattle.analyse.specs.Filling.{Filling}
 use Rattle.analyse.proofs.form.put_states.Given as goal

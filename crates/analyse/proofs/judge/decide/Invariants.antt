@@ -1,5 +1,5 @@
 -- `decide` meets its contract. Assumes nothing.
-use Prim.Native.Nat.{◌-◌, ◌≤◌}
+use Prim.Native.Nat.{◌-◌}
 use Rattle.analyse.specs.Filling.{Filling}
 use Rattle.analyse.specs.Judge.{left_word}
 use Rattle.analyse.proofs.judge.decide.Given as goal

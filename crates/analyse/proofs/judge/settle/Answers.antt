@@ -1,5 +1,5 @@
 -- `settle` meets its contract. Assumes nothing.
-use Prim.Native.Nat.{◌+◌, ◌%◌}
+use Prim.Native.Nat.{◌%◌}
 use mathlib.Core.Path.{◌∙◌}
 use mathlib.Core.Bool.{not, ◌&&◌}
 use lib.Dec.{eqb}

@@ -1,5 +1,4 @@
 -- `count` meets its contract. Assumes nothing.
-use native.Mathlib.Omega.{arith}
 use Rattle.analyse.proofs.MemoryLaws.{count_fits, counted, not-counted}
 use Rattle.analyse.proofs.walk.count.Goals as goal
 

@@ -1,7 +1,7 @@
 -- `push_kids` meets its contract. Assumes nothing.
 use mathlib.Core.Path.{ap, ◌∙◌}
 use Rattle.records.specs.Record.{width}
-use Rattle.analyse.proofs.PushLaws.{target_fits, slots-there, pushing-start, spot-left, spot-there, slot-there, pushing-turn, pushing-end}
+use Rattle.analyse.proofs.PushLaws.{target_fits, pushing-start, spot-left, spot-there, slot-there, pushing-turn, pushing-end}
 use native.Mathlib.Omega.{arith}
 use Rattle.analyse.proofs.walk.push_kids.Goals as goal
 

@@ -1,5 +1,4 @@
 -- `push_kids` meets its contract. Assumes nothing.
-use Prim.Native.Nat.{◌-◌}
 use lib.ListN.{drop}
 use Rattle.analyse.proofs.PushLaws.{Pushing}
 use Rattle.analyse.proofs.walk.push_kids.Given as goal

@@ -1,5 +1,4 @@
 -- `follow_roots` meets its contract. The loop's invariant: the first i roots were followed.
-use Prim.Native.Nat.{◌-◌, ◌≤◌}
 use mathlib.Core.Path.{◌≡◌}
 use lib.ListN.{length, take}
 use Rattle.graph.specs.Heap.{pointers}
