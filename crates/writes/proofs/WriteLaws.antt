@@ -17,12 +17,12 @@ use Rattle.layout.specs.Limits.{object_max, width_max, sink_max, slots_len}
 use Rattle.records.specs.Record.{width, cluster, free, legal, damaged, is_out, with_out, with_written, loose}
 use Rattle.layout.specs.Word.{is_nil, is_pointer, legal_word, sort_of}
 use Rattle.layout.specs.ControlRecord.{bad_control, with_write_loss}
+use Rattle.std.specs.Prelude.{Result, Ok, Err}
 use Rattle.layout.specs.declared.refusals.Refusal.{Refusal}
+use Rattle.layout.specs.declared.refusals.Refusal.TheVariants.{LossFull}
 use Rattle.writes.specs.declared.write.Tried.{Tried}
 use Rattle.writes.specs.declared.write.Tried.TheVariants.{Stored, Elsewhere, Refused}
-use Rattle.writes.specs.declared.write.Store.{Store}
-use Rattle.writes.specs.declared.write.Store.TheVariants.{Made, Asks, Overflows}
-use Rattle.layout.specs.Refusal.{Test, number, first}
+use Rattle.layout.specs.Refusal.{Test, number, refusal_of, first}
 use Rattle.layout.proofs.LimitLaws.{within-true, below-within, above_within}
 use Rattle.layout.proofs.ControlLaws.{control-facts, writes-sound, facts-control}
 use Rattle.layout.proofs.WordLaws.{Says, sort-says, pointer-legal, immediate-bounds}
@@ -42,7 +42,7 @@ use Rattle.rules.proofs.StoreLaws.{rec_of-set-same, rec_of-set-alike, store-stay
 use Rattle.records.proofs.RecordLaws.{Legal, width-put-flag, cluster-put-flag}
 use Rattle.table.specs.Named.{named_tests}
 use Rattle.table.specs.Clusters.{cluster_of, members_of, dissolved_record, dissolved}
-use Rattle.writes.specs.Writes.{word_tests, others_of, front_tests, Slot, with_set, sets_by, Attempted, refuses, passes, stores, Settled, keeps, overflows, asks, breaks}
+use Rattle.writes.specs.Writes.{word_tests, others_of, front_tests, Slot, with_set, sets_by, Attempted, refuses, passes, stores, Settled, keeps, overflows, breaks}
 use Rattle.table.proofs.NamedLaws.{Named, named, named-rest}
 
 -- ---- the tests of the word
@@ -539,39 +539,19 @@ left c i k w recs slots o h rs ss (stores _ _ q _ _) = cc
 -- ---- the store to a member
 
 -- its ends
-module _ (c : Control) (i k w : ℕ) (recs slots list sets : List ℕ) (b : Bool) (f : b ≡ dissolves (view c.n recs slots) i k (target c.n w)) (may : Bool) where
+module _ (c : Control) (i k w : ℕ) (recs slots list sets : List ℕ) (b : Bool) (f : b ≡ dissolves (view c.n recs slots) i k (target c.n w)) where
   pub ends-kept : not b ≡ true → (rs ss ts : List ℕ) → rs ≡ encoded (store_by false (view c.n recs slots) i k (target c.n w)) recs
-      → ss ≡ set slots (8 * (i - 1) + k) w → ts ≡ sets_by false c.n i k w recs slots list sets → Settled c i k w recs slots list sets may Made rs ss ts
-  ends-kept t rs ss ts = keeps (sym (not-true b t) ∙ f) refl
+      → ss ≡ set slots (8 * (i - 1) + k) w → ts ≡ sets_by false c.n i k w recs slots list sets → Settled c i k w recs slots list sets (Ok tt) rs ss ts c
+  ends-kept t rs ss ts p q r = keeps (sym (not-true b t) ∙ f) refl p q r refl
 
-  module _ (t : not b ≡ false) where
-    pub ends-broken : may ≡ true → (rs ss ts : List ℕ) → rs ≡ encoded (store_by true (view c.n recs slots) i k (target c.n w)) recs
-        → ss ≡ set slots (8 * (i - 1) + k) w → ts ≡ sets_by true c.n i k w recs slots list sets → Settled c i k w recs slots list sets may Made rs ss ts
-    ends-broken o rs ss ts = breaks (sym (not-false b t) ∙ f) o refl
+  module _ (t : not b ≡ false) (l : ℕ) (g : l ≡ c.write_loss + members_of c.n recs (cluster_of c.n recs i)) where
+    pub ends-full : c.n < l → Settled c i k w recs slots list sets (Err LossFull) recs slots sets c
+    ends-full h = overflows (sym (not-false b t) ∙ f) l g h refl refl refl refl refl
 
-    module _ (o : may ≡ false) (l : ℕ) (g : l ≡ c.write_loss + members_of c.n recs (cluster_of c.n recs i)) where
-      pub ends-full : c.n < l → Settled c i k w recs slots list sets may Overflows recs slots sets
-      ends-full h = overflows (sym (not-false b t) ∙ f) o l g h refl refl refl refl
-
-      pub ends_asked : l ≤ c.n → Settled c i k w recs slots list sets may (Asks l) recs slots sets
-      ends_asked h = asks (sym (not-false b t) ∙ f) o l g h refl refl refl refl
-
--- what is known once it asked
-record Asked (c : Control) (i k w : ℕ) (recs slots list sets : List ℕ) (l : ℕ) (rs ss ts : List ℕ) : Type 0 where
-  dissolving : true ≡ dissolves (view c.n recs slots) i k (target c.n w)
-  loss : l ≡ c.write_loss + members_of c.n recs (cluster_of c.n recs i)
-  fits : l ≤ c.n
-  records-left : rs ≡ recs
-  slots-left : ss ≡ slots
-  sets-left : ts ≡ sets
-
--- the tests pass with a loss that is not above n, too
-with-loss : (c : Control) (i k w : ℕ) (recs slots : List ℕ) (o l : ℕ) → 0 ≡ first (front_tests c i k w recs slots o) → l ≤ c.n
-    → first (front_tests (with_write_loss l c) i k w recs slots o) ≡ 0
-unfolding front_tests named_tests with_write_loss
-with-loss c i k w recs slots o l e h =
-    let s = (passed-named c i k w recs slots o e).sound in
-    first-fails 20 _ _ (facts-control _ (writes-sound c s l h)) ∙ (first-passed 19 _ _ (sym e)).1
+    pub ends-broken : l ≤ c.n → (rs ss ts : List ℕ) → rs ≡ encoded (store_by true (view c.n recs slots) i k (target c.n w)) recs
+        → ss ≡ set slots (8 * (i - 1) + k) w → ts ≡ sets_by true c.n i k w recs slots list sets
+        → (d : Control) → d ≡ with_write_loss l c → Settled c i k w recs slots list sets (Ok tt) rs ss ts d
+    ends-broken h rs ss ts p q r d = breaks (sym (not-false b t) ∙ f) l g h refl p q r
 
 -- ---- the answer
 
@@ -623,72 +603,18 @@ module _ (c : Control) (i k w : ℕ) (recs slots list sets : List ℕ) where
       pub passed_on : 0 ≡ first (front_tests c i k w rs₁ ss₁ others)
       passed_on = L.passed ∙ ap₂ (λ (x y : List ℕ). first (front_tests c i k w x y others)) (sym L.records-left) (sym L.slots-left)
 
-      module _ (rs₂ ss₂ ts₂ : List ℕ) where
-        same : (a : Store) → Settled c i k w rs₁ ss₁ list sets false a rs₂ ss₂ ts₂ → Settled c i k w recs slots list sets false a rs₂ ss₂ ts₂
-        same a u =
-            subst (λ (x : List ℕ). Settled c i k w x slots list sets false a rs₂ ss₂ ts₂) L.records-left
-            (subst (λ (y : List ℕ). Settled c i k w rs₁ y list sets false a rs₂ ss₂ ts₂) L.slots-left u)
-
-        -- it did not ask
-        pub settled : Settled c i k w rs₁ ss₁ list sets false Made rs₂ ss₂ ts₂ → outcome c 0 rs₂ ss₂ ts₂
-        settled u = go (same Made u)
-          where
-            go : Settled c i k w recs slots list sets false Made rs₂ ss₂ ts₂ → outcome c 0 rs₂ ss₂ ts₂
-            go (keeps f _ p q r) = stayed c i k w recs slots list sets L.passed false f refl rs₂ ss₂ ts₂ p q r
-            go (overflows _ _ _ _ _ z _ _ _) = cc
-            go (asks _ _ _ _ _ z _ _ _) = cc
-            go (breaks _ m _ _ _ _) = absurd (true≢false (sym m))
-
-        pub overfull : Settled c i k w rs₁ ss₁ list sets false Overflows rs₂ ss₂ ts₂ → outcome c 25 rs₂ ss₂ ts₂
-        overfull u = go (same Overflows u)
-          where
-            go : Settled c i k w recs slots list sets false Overflows rs₂ ss₂ ts₂ → outcome c 25 rs₂ ss₂ ts₂
-            go (keeps _ z _ _ _) = cc
-            go (overflows f n l v o z p q r) =
-                (λ j. Write.gives (record { refusal = 25; control = c }) (p j) (q j) (r j)) ∙ too_many c i k w recs slots list sets L.passed true f refl l v o
-            go (asks _ _ _ _ _ z _ _ _) = cc
-            go (breaks _ _ z _ _ _) = cc
-
-        -- it asked: nothing was stored, and the tests pass with the loss too
-        module _ (l : ℕ) (u : Settled c i k w rs₁ ss₁ list sets false (Asks l) rs₂ ss₂ ts₂) (d : Control) (y : d ≡ with_write_loss l c) where
-          asked : Asked c i k w recs slots list sets l rs₂ ss₂ ts₂
-          asked = go (same (Asks l) u)
-            where
-              go : Settled c i k w recs slots list sets false (Asks l) rs₂ ss₂ ts₂ → Asked c i k w recs slots list sets l rs₂ ss₂ ts₂
-              go (keeps _ z _ _ _) = cc
-              go (overflows _ _ _ _ _ z _ _ _) = cc
-              go (breaks _ _ z _ _ _) = cc
-              go (asks f _ n v o z p q r) =
-                  let s : l ≡ n = cc in
-                  record { dissolving = f; loss = s ∙ v; fits = omega arith; records-left = p; slots-left = q; sets-left = r }
-
-          pub passed-again : 0 ≡ first (front_tests d i k w rs₂ ss₂ (others_of list ts₂))
-          passed-again =
-              let A = asked in
-              sym (ap (λ (x : Control). first (front_tests x i k w rs₂ ss₂ (others_of list ts₂))) y
-              ∙ (λ j. first (front_tests (with_write_loss l c) i k w (A.records-left j) (A.slots-left j) (others_of list (A.sets-left j))))
-              ∙ with-loss c i k w recs slots others l L.passed A.fits)
-
-          module _ (a : Store) (rs ss ts : List ℕ) (v : Settled d i k w rs₂ ss₂ list ts₂ true a rs ss ts) where
-            again : Settled (with_write_loss l c) i k w recs slots list sets true a rs ss ts
-            again =
-                let A = asked in
-                subst (λ (x : Control). Settled x i k w recs slots list sets true a rs ss ts) y
-                (subst (λ (x : List ℕ). Settled d i k w x slots list sets true a rs ss ts) A.records-left
-                (subst (λ (x : List ℕ). Settled d i k w rs₂ x list sets true a rs ss ts) A.slots-left
-                (subst (λ (x : List ℕ). Settled d i k w rs₂ ss₂ list x true a rs ss ts) A.sets-left v)))
-
-            -- the second time it is made
-            pub settled-again : outcome d 0 rs ss ts
-            unfolding with_write_loss
-            settled-again = go again
-              where
-                A : Asked c i k w recs slots list sets l rs₂ ss₂ ts₂
-                A = asked
-
-                go : Settled (with_write_loss l c) i k w recs slots list sets true a rs ss ts → outcome d 0 rs ss ts
-                go (keeps f _ _ _ _) = absurd (true≢false (A.dissolving ∙ sym f))
-                go (overflows _ m _ _ _ _ _ _ _) = absurd (true≢false m)
-                go (asks _ m _ _ _ _ _ _ _) = absurd (true≢false m)
-                go (breaks f m z p q r) =
-                    dissolved-all c i k w recs slots list sets L.passed true A.dissolving refl l A.loss A.fits d y rs ss ts p q r
+      -- and what that store answers
+      pub settled : (a : Result Unit Refusal) (rs ss ts : List ℕ) (d : Control) → Settled c i k w rs₁ ss₁ list sets a rs ss ts d
+          → (m : ℕ) → m ≡ refusal_of a → outcome d m rs ss ts
+      settled a rs ss ts d u m e =
+          go (subst (λ (x : List ℕ). Settled c i k w x slots list sets a rs ss ts d) L.records-left
+          (subst (λ (y : List ℕ). Settled c i k w rs₁ y list sets a rs ss ts d) L.slots-left u))
+        where
+          go : Settled c i k w recs slots list sets a rs ss ts d → outcome d m rs ss ts
+          go (keeps f z p q r y) =
+              (λ j. Write.gives (record { refusal = (e ∙ sym z) j; control = y j }) rs ss ts) ∙ stayed c i k w recs slots list sets L.passed false f refl rs ss ts p q r
+          go (overflows f l v o z p q r y) =
+              (λ j. Write.gives (record { refusal = (e ∙ sym z) j; control = y j }) (p j) (q j) (r j)) ∙ too_many c i k w recs slots list sets L.passed true f refl l v o
+          go (breaks f l v o z p q r y) =
+              ap (λ (x : ℕ). Write.gives (record { refusal = x; control = d }) rs ss ts) (e ∙ sym z)
+              ∙ dissolved-all c i k w recs slots list sets L.passed true f refl l v o d y rs ss ts p q r

@@ -1,11 +1,12 @@
 -- What the functions of a write are held to.
-use Rattle.std.specs.Prelude.{ℕ, ◌+◌, ◌-◌, ◌*◌, ◌≤◌, ◌<◌, ◌≡◌, ◌≢◌, Bool, true, false, not, cond, ◌&&◌, List, [], ◌∷◌, ◌++◌, eqb, leb, length, set}
+use Rattle.std.specs.Prelude.{ℕ, ◌+◌, ◌-◌, ◌*◌, ◌≤◌, ◌<◌, ◌≡◌, ◌≢◌, Bool, true, false, not, cond, ◌&&◌, List, [], ◌∷◌, ◌++◌, eqb, leb, length, set, Result}
 use Rattle.layout.specs.declared.answers.Control.{Control}
 use Rattle.layout.specs.Limits.{width_max, sink_max}
 use Rattle.records.specs.Record.{width, legal, with_written}
 use Rattle.layout.specs.Word.{is_pointer, legal_word}
 use Rattle.layout.specs.declared.refusals.Refusal.{Refusal}
-use Rattle.layout.specs.Refusal.{Test, number, first}
+use Rattle.layout.specs.ControlRecord.{with_write_loss}
+use Rattle.layout.specs.Refusal.{Test, number, refusal_of, first}
 use Rattle.graph.specs.Heap.{Heap}
 use Rattle.graph.specs.Writes.{dissolves, store_by}
 use Rattle.rules.specs.Buffers.{short, rec_of}
@@ -15,8 +16,6 @@ use Rattle.table.specs.Room.{Room}
 use Rattle.table.specs.Clusters.{cluster_of, members_of}
 use Rattle.writes.specs.declared.write.Tried.{Tried}
 use Rattle.writes.specs.declared.write.Tried.TheVariants.{Stored, Elsewhere, Refused}
-use Rattle.writes.specs.declared.write.Store.{Store}
-use Rattle.writes.specs.declared.write.Store.TheVariants.{Made, Asks, Overflows}
 
 -- the tests of the word that is to be stored
 unfoldable pub word_tests : ℕ → ℕ → List ℕ → List Test
@@ -56,17 +55,15 @@ pub data Attempted (c : Control) (i k w : ℕ) (recs slots : List ℕ) (others h
       → rs ≡ set recs (i - 1) (with_written true (rec_of c.n recs i)) → ss ≡ set slots (width_max * (i - 1) + k) w
       → Attempted c i k w recs slots others h a rs ss
 
--- what a store to a member answers and leaves: the word stored, with the cluster or without it, or the loss after a store that may not dissolve yet
-pub data Settled (c : Control) (i k w : ℕ) (recs slots list sets : List ℕ) (may : Bool) (a : Store) (rs ss ts : List ℕ) : Type 0 where
-  keeps : false ≡ dissolves (view c.n recs slots) i k (target c.n w) → a ≡ Made
+-- what a store to a member answers and leaves: the word stored, with the cluster or without it and its loss counted, or a loss too large
+pub data Settled (c : Control) (i k w : ℕ) (recs slots list sets : List ℕ) (a : Result Unit Refusal) (rs ss ts : List ℕ) (d : Control) : Type 0 where
+  keeps : false ≡ dissolves (view c.n recs slots) i k (target c.n w) → 0 ≡ refusal_of a
       → rs ≡ encoded (store_by false (view c.n recs slots) i k (target c.n w)) recs → ss ≡ set slots (width_max * (i - 1) + k) w
-      → ts ≡ sets_by false c.n i k w recs slots list sets → Settled c i k w recs slots list sets may a rs ss ts
-  overflows : true ≡ dissolves (view c.n recs slots) i k (target c.n w) → may ≡ false
-      → (l : ℕ) → l ≡ c.write_loss + members_of c.n recs (cluster_of c.n recs i) → c.n < l → a ≡ Overflows → rs ≡ recs → ss ≡ slots → ts ≡ sets
-      → Settled c i k w recs slots list sets may a rs ss ts
-  asks : true ≡ dissolves (view c.n recs slots) i k (target c.n w) → may ≡ false
-      → (l : ℕ) → l ≡ c.write_loss + members_of c.n recs (cluster_of c.n recs i) → l ≤ c.n → a ≡ Asks l → rs ≡ recs → ss ≡ slots → ts ≡ sets
-      → Settled c i k w recs slots list sets may a rs ss ts
-  breaks : true ≡ dissolves (view c.n recs slots) i k (target c.n w) → may ≡ true → a ≡ Made
+      → ts ≡ sets_by false c.n i k w recs slots list sets → d ≡ c → Settled c i k w recs slots list sets a rs ss ts d
+  overflows : true ≡ dissolves (view c.n recs slots) i k (target c.n w)
+      → (l : ℕ) → l ≡ c.write_loss + members_of c.n recs (cluster_of c.n recs i) → c.n < l → 25 ≡ refusal_of a → rs ≡ recs → ss ≡ slots → ts ≡ sets
+      → d ≡ c → Settled c i k w recs slots list sets a rs ss ts d
+  breaks : true ≡ dissolves (view c.n recs slots) i k (target c.n w)
+      → (l : ℕ) → l ≡ c.write_loss + members_of c.n recs (cluster_of c.n recs i) → l ≤ c.n → 0 ≡ refusal_of a
       → rs ≡ encoded (store_by true (view c.n recs slots) i k (target c.n w)) recs → ss ≡ set slots (width_max * (i - 1) + k) w
-      → ts ≡ sets_by true c.n i k w recs slots list sets → Settled c i k w recs slots list sets may a rs ss ts
+      → ts ≡ sets_by true c.n i k w recs slots list sets → d ≡ with_write_loss l c → Settled c i k w recs slots list sets a rs ss ts d

@@ -13,7 +13,7 @@ ghost use Rattle.writes.specs.Writes.{word_tests, others_of, front_tests, Slot, 
 
 use layout::answers::{Control, Done};
 use layout::limits::{SINK_MAX, slots_len};
-use layout::refusals::Refusal;
+use layout::refusals::{Refusal, refusal_of};
 use layout::words::{Word, sort_word};
 use places::cluster_set;
 use records::{cluster_of, legal, width_of, with_out, with_written};
@@ -203,16 +203,6 @@ enum Tried {
     Refused(Refusal),
 }
 
-// What `store_member` comes to. Like the other it goes by registers, as a `Result` of a number or a refusal would not.
-#[derive(Clone, Copy)]
-enum Store {
-    Made,
-    // The store would dissolve the cluster, with this write loss after it, and is not made.
-    Asks(u32),
-    // Nor is it made with a write loss that is too large.
-    Overflows,
-}
-
 // The tests, and then the store, where the object is in this cluster: 0 is for none. An object in no cluster has no out bit, and there
 // is no set to make.
 #[inline(never)]
@@ -238,8 +228,7 @@ fn attempt(
     Tried::Stored
 }
 
-// A store that dissolves the object's cluster: every member becomes loose, and the set is empty. The word is stored by `attempt`,
-// which stays a function because it is called here too (docs/BENCHMARK.md, "Write").
+// A store that dissolves the object's cluster: every member becomes loose, and the set is empty.
 fn store_dissolving(
     c: Control,
     object: u32,
@@ -263,10 +252,10 @@ fn store_dissolving(
     put_set(h, 0, sets);
 }
 
-// The store to a member of a cluster, after the tests. One that dissolves the cluster is made only where it `may`.
+// The store to a member of a cluster, after the other tests. The loss of one that dissolves the cluster is set in the control record.
 #[inline(never)]
 fn store_member(
-    c: Control,
+    c: &mut Control,
     object: u32,
     slot: u32,
     word: u32,
@@ -274,31 +263,26 @@ fn store_member(
     slots: &mut [u32],
     sinks: &[u32],
     sets: &mut [u64],
-    may: bool,
-) -> Store
-    requires { 0 ≡ first (front_tests c object slot word records.old slots.old (others_of sinks.now sets.old)) }
-    ensures { Settled c object slot word records.old slots.old sinks.now sets.old may result
-        records.new slots.new sets.new }
+) -> Result<(), Refusal>
+    requires { 0 ≡ first (front_tests c.old object slot word records.old slots.old (others_of sinks.now sets.old)) }
+    ensures { Settled c.old object slot word records.old slots.old sinks.now sets.old result
+        records.new slots.new sets.new c.new }
 {
     if !does_dissolve(c.n, object, slot, word, records, slots) {
         store_staying(c.n, object, slot, word, records, slots, &sinks[..], sets);
-        return Store::Made;
+        return Ok(());
     }
-    if may {
-        store_dissolving(c, object, slot, word, records, slots, &sinks[..], sets);
-        return Store::Made;
-    }
-    let loss = loss_after(c, object, records);
+    let loss = loss_after(*c, object, records);
     if c.n < loss {
-        return Store::Overflows;
+        return Err(Refusal::LossFull);
     }
-    Store::Asks(loss)
+    store_dissolving(*c, object, slot, word, records, slots, &sinks[..], sets);
+    c.write_loss = loss;
+    Ok(())
 }
 
-// Most writes are to objects in no cluster, and `attempt` makes them. A store that dissolves a cluster is tried a second time, with its
-// loss in the control record, set in place. What is called in two places the compiler leaves a function; so it puts this one into both
-// exports, and copies a record that stays whole (docs/BENCHMARK.md, "Write").
-#[inline]
+// Most writes are to objects in no cluster, and `attempt` makes them. It and `store_member` stay functions that take the control record
+// where it is: so this one is short enough to be put into both exports, and copies a record that stays whole (docs/BENCHMARK.md, "Write").
 pub fn write(
     c: Control,
     object: u32,
@@ -317,18 +301,10 @@ pub fn write(
     let room = others(list, sets);
     let refusal = match attempt(d, object, slot, word, records, slots, room, 0) {
         Tried::Stored => 0,
-        Tried::Refused(e) => u32::from(e),
         Tried::Elsewhere => {
-            match store_member(d, object, slot, word, records, slots, list, sets, false) {
-                Store::Made => 0,
-                Store::Overflows => u32::from(Refusal::LossFull),
-                Store::Asks(loss) => {
-                    d.write_loss = loss;
-                    let _ = store_member(d, object, slot, word, records, slots, list, sets, true);
-                    0
-                }
-            }
+            refusal_of(store_member(&mut d, object, slot, word, records, slots, list, sets))
         }
+        Tried::Refused(e) => u32::from(e),
     };
     Done {
         refusal: refusal,
