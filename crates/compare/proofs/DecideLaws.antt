@@ -10,6 +10,7 @@ use lib.Dec.{eqb, leb}
 use lib.ListN.{length, get_or, set, take, length-set, length-take}
 use Rattle.std.proofs.Common.{Some, None, nat_lt, ◌==◌}
 use Rattle.std.specs.List.{position_or_len}
+use lib.Seq.{set_out}
 use borrow.Author.Tests.{le-leb, lt-leb, ltb-true}
 use Rattle.bitmap.specs.Bits.{holds}
 use Rattle.compare.specs.Answers.{same_list, part, same_part}
@@ -87,3 +88,5 @@ module _ (left : Bool) (map : List ℕ) (i : ℕ) (h : List ℕ) where
 pub ruleset everies = (every_step, every_stop, every_end)
 
 pub ruleset keeps = (keep_step, keep_end, keep_length)
+
+pub ruleset stores = (set_out)

@@ -65,6 +65,7 @@ pub fn hand_of(hands: &[u64], is_left: bool, x: u32) -> u64
 }
 
 // Stores the word of object x of a column, nothing past the end.
+#[tactic(auto, using(crate::proofs::DecideLaws::stores))]
 fn set_hand(hands: &mut [u64], is_left: bool, x: u32, word: u64)
     ensures { hands.new ≡ set hands.old (word_of is_left x) word }
 {
