@@ -71,7 +71,7 @@ impl Page {
         }
     }
 
-    pub(crate) fn line<R: Print + Eprint, D: Display + Drop>(&mut self, rt: &R, line: D) {
+    pub(crate) fn line<R: Print + Eprint>(&mut self, rt: &R, line: impl Display + Drop) {
         self.text.put(line);
         self.end_line(rt);
     }
@@ -118,12 +118,12 @@ impl Page {
     }
 
     // Puts a row. The longest call is a pair of two, and the longest answer names 4,095 freed objects.
-    pub(crate) fn row<R: Print + Eprint, C: Display + Drop, A: Display + Drop, B: Display + Drop>(
+    pub(crate) fn row<R: Print + Eprint>(
         &mut self,
         rt: &R,
-        call: C,
-        left: A,
-        right: B,
+        call: impl Display + Drop,
+        left: impl Display + Drop,
+        right: impl Display + Drop,
     ) {
         let mut first = Text::<256>::new();
         let mut second = Text::<32768>::new();
