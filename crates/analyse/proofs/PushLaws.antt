@@ -73,9 +73,6 @@ module _ (n c : ℕ) (recs slots work₀ : List ℕ) (z : Sized n recs slots wor
     pub spot-there : top ≤ stack_end n → at - 1 < length work
     spot-there h = omega (arith, g.spot, g.most, g.long, z.work-long, spot-left)
 
-    pub slot-there : 8 * (x - 1) + (j - 1) < length slots
-    slot-there = omega (arith, slots-there, g.most)
-
   pub pushing-turn : (work : List ℕ) (j at t : ℕ) → top ≤ stack_end n → Pushing n c s k work₀ top work j at → 0 < j
       → t ≡ target n (get_or slots (8 * (x - 1) + (j - 1)) 0) → Pushing n c s k work₀ top (set work (at - 1) (t + 4096 * c)) (j - 1) (at - 1)
   unfolding visit_words

@@ -38,22 +38,17 @@ pub fn next_limit(c: Control, used: u32) -> u32
 // ---- the cluster of an object
 
 // The cluster that object o, with the record r and in no cluster, gets when c, with `size` members, is passed to it; 0 for none.
+#[tactic(auto, unfolding(crate::specs::Choices::goes_by, crate::specs::Choices::joined))]
 pub fn choose(limit: u32, r: u32, size: u32, o: u32, c: u32) -> u32
     ensures { result ≡ goes_by limit r size o c }
 {
-    if is_written(r) {
-        return 0;
+    if is_written(r) || is_sink(r) {
+        0
+    } else if c != 0 && size < limit {
+        c
+    } else {
+        o
     }
-    if is_sink(r) {
-        return 0;
-    }
-    if c == 0 {
-        return o;
-    }
-    if size < limit {
-        return c;
-    }
-    o
 }
 
 // ---- a new cluster of s members with p out pointers
@@ -66,6 +61,7 @@ pub fn is_over(t: Tuning, s: u32, p: u32) -> bool
 }
 
 // Whether it stays.
+#[tactic(auto, unfolding(crate::specs::Choices::lasts))]
 pub fn stays(t: Tuning, s: u32, p: u32) -> bool
     ensures { result ≡ lasts t s p }
 {
@@ -73,7 +69,7 @@ pub fn stays(t: Tuning, s: u32, p: u32) -> bool
 }
 
 // What it adds to the out loss: its members, where it has too many out pointers.
-#[tactic(auto, using(crate::proofs::ChoiceLaws::losses))]
+#[tactic(auto, unfolding(crate::specs::Choices::loss_by))]
 pub fn loss(t: Tuning, s: u32, p: u32) -> u32
     ensures { result ≡ loss_by t s p }
 {

@@ -27,14 +27,13 @@ fn cluster_seen(by: bool, n: u32, x: u32, records: &[u32]) -> u32
 }
 
 // Whether object x is marked, or its cluster reached: it need not wait.
+#[tactic(auto, unfolding(crate::specs::Marks::flags_of))]
 fn is_settled(by: bool, n: u32, x: u32, records: &[u32]) -> bool
     ensures { result ≡ (flags_of n records.now T.marked x
         || flags_of n records.now T.reached (cond by (cluster (rec_of n records.now x)) 0)) }
 {
-    if is_marked(record_of(n, x, records)) {
-        return true;
-    }
-    is_reached(record_of(n, cluster_seen(by, n, x, records), records))
+    is_marked(record_of(n, x, records))
+        || is_reached(record_of(n, cluster_seen(by, n, x, records), records))
 }
 
 // Visits h, the head of its cluster: the sinks of its set, then its out members.
@@ -86,13 +85,11 @@ pub(crate) fn visit(heap: Heap, records: &mut [u32], work: &mut [u32], top: usiz
 }
 
 // Whether object x is marked and in no cluster that is walked: then a visit does nothing.
+#[tactic(auto, unfolding(crate::specs::Marks::flags_of))]
 fn is_scanned(by: bool, n: u32, x: u32, records: &[u32]) -> bool
     ensures { result ≡ (eqb (cond by (cluster (rec_of n records.now x)) 0) 0 && flags_of n records.now T.marked x) }
 {
-    if cluster_seen(by, n, x, records) != 0 {
-        return false;
-    }
-    is_marked(record_of(n, x, records))
+    cluster_seen(by, n, x, records) == 0 && is_marked(record_of(n, x, records))
 }
 
 // Visits the pending object x. Most visits of a dense heap are to objects scanned before, so these are passed over without a call; those of a plain walk that

@@ -8,15 +8,6 @@ use Rattle.analyse.proofs.SlotLaws.{resized}
 use Rattle.analyse.proofs.OlderLaws.{member-room, member-out, member-plain}
 use Rattle.analyse.proofs.walk.member.Goals as goal
 
-pub overflow_mul-i : goal.overflow_mul-i
-overflow_mul-i c = omega arith
-
-pub overflow_add-i : goal.overflow_add-i
-overflow_add-i c = omega arith
-
-pub offset_bounds-work-i : goal.offset_bounds-work-i
-offset_bounds-work-i c = omega arith
-
 pub bounds-work-i : goal.bounds-work-i
 bounds-work-i c = omega (arith, c.requires.sized.work-long, c.requires.le_x.0, c.requires.le_x.1)
 

@@ -17,17 +17,8 @@ pub count-requires : goal.count-requires
 count-requires c =
     (c.requires.sized.room.most, c.requires.sized.work-long, place-fits _ _ _ _ _ _ c.requires.le_o.1 _ c.record_at.ensures _ c.choose-e.ensures c.requires.le_o.2, c.requires.by_index _)
 
-pub overflow_mul-i : goal.overflow_mul-i
-overflow_mul-i c = omega arith
-
-pub overflow_add-i : goal.overflow_add-i
-overflow_add-i c = omega arith
-
 pub overflow_add-work : goal.overflow_add-work
 overflow_add-work c = record { fits = omega (arith, c.requires.sized.room.most, place-fits _ _ _ _ _ _ c.requires.le_o.1 _ c.record_at.ensures _ c.choose-e.ensures c.requires.le_o.2) }
-
-pub offset_bounds-work-i : goal.offset_bounds-work-i
-offset_bounds-work-i c = omega arith
 
 pub bounds-work-i : goal.bounds-work-i
 bounds-work-i c = omega (arith, c.requires.sized.work-long, c.requires.le_o.0, c.requires.le_o.1, c.count.auto.work)

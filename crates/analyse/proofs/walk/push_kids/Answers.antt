@@ -1,7 +1,7 @@
 -- `push_kids` meets its contract. Assumes nothing.
 use mathlib.Core.Path.{ap, ◌∙◌}
 use Rattle.records.specs.Record.{width}
-use Rattle.analyse.proofs.PushLaws.{target_fits, pushing-start, spot-left, spot-there, slot-there, pushing-turn, pushing-end}
+use Rattle.analyse.proofs.PushLaws.{target_fits, slots-there, pushing-start, spot-left, spot-there, pushing-turn, pushing-end}
 use native.Mathlib.Omega.{arith}
 use Rattle.analyse.proofs.walk.push_kids.Goals as goal
 
@@ -15,7 +15,9 @@ pub overflow_sub-at : goal.overflow_sub-at
 overflow_sub-at c = spot-left _ _ _ _ _ c.requires.sized _ c.requires.le_x.0 c.requires.le_x.1 _ c.requires.le_x.4 _ (c.width_of-w.ensures ∙ ap width c.record_at.ensures) _ _ _ c.loop-j.invariant c.loop-j-test.true
 
 pub bounds-heap-from : goal.bounds-heap-from
-bounds-heap-from c = slot-there _ _ _ _ _ c.requires.sized _ c.requires.le_x.0 c.requires.le_x.1 _ c.requires.le_x.4 _ (c.width_of-w.ensures ∙ ap width c.record_at.ensures) _ _ _ c.loop-j.invariant c.loop-j-test.true
+bounds-heap-from c =
+    let r = slots-there _ c.args.c _ _ _ c.requires.sized _ c.requires.le_x.0 c.requires.le_x.1 _ c.requires.le_x.4 _ (c.width_of-w.ensures ∙ ap width c.record_at.ensures) in
+    omega (arith, r, c.loop-j.invariant.most)
 
 pub overflow_mul-work : goal.overflow_mul-work
 overflow_mul-work c = omega (arith, c.requires.sized.room.most, c.requires.le_x.2)
