@@ -283,6 +283,8 @@ fn store_member(
 
 // Most writes are to objects in no cluster, and `attempt` makes them. It and `store_member` stay functions that take the control record
 // where it is: so this one is short enough to be put into both exports, and copies a record that stays whole (docs/BENCHMARK.md, "Write").
+
+#[inline(always)]
 pub fn write(
     c: Control,
     object: u32,
@@ -299,7 +301,7 @@ pub fn write(
     let list = &sinks[..];
     let mut d = c;
     let room = others(list, sets);
-    let refusal = match attempt(d, object, slot, word, records, slots, room, 0) {
+    let refusal = match attempt(c, object, slot, word, records, slots, room, 0) {
         Tried::Stored => 0,
         Tried::Elsewhere => {
             refusal_of(store_member(&mut d, object, slot, word, records, slots, list, sets))
