@@ -74,10 +74,10 @@ fn complain<R: Eprint>(rt: &R, path: &str, wrong: Wrong) {
 
 // Keeps the second word of the line found, where no name is kept yet.
 fn keep_name(name: &mut Text<4096>, s: Source, input: &[u8; ROOM]) {
-    let line = input.get(s.start..s.stop).unwrap_or(&[]);
-    let first = next_word(line, 0);
-    let second = next_word(line, first.end);
     if name.is_empty() {
+        let line = input.get(s.start..s.stop).unwrap_or(&[]);
+        let first = next_word(line, 0);
+        let second = next_word(line, first.end);
         name.extend(line.get(second.start..second.end).unwrap_or(&[]));
     }
 }
@@ -87,6 +87,7 @@ fn check_lines(list: &mut List, names: &mut Names) -> Result<(), Wrong> {
     let mut input = [0; ROOM];
     let mut source = opened(0);
     let mut created = false;
+    // Counted, since nothing says how many lines a file has.
     for _ in 0..u64::MAX {
         source = next_line(source, list, &mut input);
         if source.state != State::Line {

@@ -100,6 +100,7 @@ pub(crate) struct Columns<'a> {
 impl<'a> Columns<'a> {
     // Runs both lists to their ends: a line of a column that is on its way to its next call, or else the next turn of both.
     pub(crate) fn play<R: Print + Eprint>(&mut self, rt: &R, page: &mut Page) {
+        // Counted, since nothing says how many lines a file has.
         for _ in 0..u64::MAX {
             if self.left.state == State::Reading {
                 self.left.next(rt);
@@ -111,8 +112,8 @@ impl<'a> Columns<'a> {
         }
     }
 
-    // The next turn of two columns that both wait: its row, what changed hands at it, and the first difference. Answers whether both lists are
-    // at their ends.
+    // The next turn of two columns that both wait: its row, what changed hands at it, and the first difference. Answers whether both lists
+    // are at their ends.
     fn turn<R: Print + Eprint>(&mut self, rt: &R, page: &mut Page) -> bool {
         let t = turn_of(&self.left, &self.right);
         put_turn(rt, page, self, t);

@@ -89,7 +89,8 @@ fn has_arg<R: Env>(rt: &R, i: usize) -> bool {
     !matches!(rt.arg(i, &mut [0; 1]), Err(FillError::NotPresent))
 }
 
-// Argument i, which is put into the buffer. Where it does not fit or is not UTF-8, standard error is told, and the argument is called `what`.
+// Argument i, which is put into the buffer. Where it does not fit or is not UTF-8, standard error is told, and the argument is called
+// `what`.
 fn arg<'a, R: Env + Eprint>(
     rt: &R,
     i: usize,
