@@ -43,9 +43,6 @@ unfolding numeral_of
 numeral-none base [] e = refl
 numeral-none base (x ∷ s) e = absurd (omega arith)
 
-pub grown-bound : (v base : ℕ) → v ≤ 2 ^ 32 → base ≤ 16 → v * base ≤ 2 ^ 36
-grown-bound v base h b = omega (arith, mul-le-mul_left v b)
-
 -- what is too large stays so
 large-grows : (base v d : ℕ) → 1 ≤ base → 2 ^ 32 ≤ v → 2 ^ 32 ≤ v * base + d
 large-grows base v d b h = omega (arith, mul-le-mul_left v b)
@@ -73,3 +70,5 @@ unfolding is_hex
 short_no_hex [] h = refl
 short_no_hex (x ∷ []) h = and-false (eqb x 48)
 short_no_hex (x ∷ y ∷ w) h = absurd (omega arith)
+
+pub ruleset numerals = (digits_step, digits-bad, digits_value, digits-too-large, digits-capped, numeral-some, numeral-none)

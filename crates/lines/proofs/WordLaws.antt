@@ -62,3 +62,5 @@ module _ (s : List ℕ) (from : ℕ) (w : Span) (e : w ≡ word_at s from) where
 
 pub text_none : (s : List ℕ) (w : Span) → w.start ≡ w.end → text s w ≡ []
 text_none s w e = let z : w.end - w.start ≡ 0 = omega arith in rw z
+
+pub ruleset runs = (run_step, run-stop, run_out)

@@ -7,7 +7,7 @@ use std::fmt;
 // The most numbers of a call.
 pub const MOST: usize = 5;
 
-// For each kind of line the first word, and how many numbers belong to it.
+// For each kind of line the first word, and how many numbers belong to it: a text, as in the definition of the table.
 pub const TABLE: [u8; 106] =
     *b"wrote 0 loaded 0 create 2 allocate 1 read 2 show 1 write 3 root 2 sink 1 analyse 0 collect 1 save 0 load 0";
 
@@ -75,6 +75,7 @@ pub enum Problem {
     NeverCreated,
     // A line that is too long.
     TooLong,
+    // A list that could not be read.
     Unreadable,
 }
 

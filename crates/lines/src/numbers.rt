@@ -20,6 +20,7 @@ fn digit(b: u8) -> u64
 }
 
 // The number that the digits write.
+#[tactic(auto, using(crate::proofs::NumeralLaws::numerals))]
 fn numeral(digits: &[u8], base: u64) -> Result<u32, Problem>
     requires { (1 ≤ base) × (base ≤ 16) }
     ensures { result ≡ numeral_of base digits.now }

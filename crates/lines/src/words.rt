@@ -2,7 +2,7 @@
 ghost use Rattle.std.specs.Prelude.{◌≡◌};
 ghost use Rattle.lines.specs.Word.{is_blank, has, run_end, word_at, line_end};
 
-// A word from start to end; where there is none, start is end.
+// A word from start to end; where there is none, start is end. No `Option`: the place counts there too, as `word_at` says.
 #[derive(Clone, Copy)]
 pub struct Span {
     pub start: usize,
@@ -36,6 +36,7 @@ fn belongs(kind: Kind, b: u8) -> bool
 }
 
 // Where the run of the kind that begins at from ends.
+#[tactic(auto, using(crate::proofs::WordLaws::runs))]
 fn run_end(kind: Kind, s: &[u8], from: usize) -> usize
     ensures { result ≡ run_end kind s.now from }
 {

@@ -57,6 +57,7 @@ fn link_all(outs: bool, n: u32, records: &[u32], work: &mut [u32])
 }
 
 // Writes the link words of n objects, `outs`: of the out members alone; nothing changes where n is above 4,095 or a slice is too short.
+#[tactic(auto, unfolding(crate::specs::Links::linkable, rules::specs::Buffers::short))]
 pub fn link(outs: bool, n: u32, records: &[u32], work: &mut [u32])
     ensures { work.new ≡ cond (linkable n records.now work.old) (links n (linked_at outs n records.now) work.old) work.old }
 {

@@ -65,7 +65,13 @@ fn sizes_refusal(image: &[u8]) -> Result<(), Refusal>
 }
 
 // Those of the second, which is at a place; the numbers of the listed objects go into the first set, and those of the sinks into the second.
-fn objects_refusal(n: u32, image: &[u8], at: usize, words: &mut [u64], sinks: &mut [u64]) -> Result<(), Refusal>
+fn objects_refusal(
+    n: u32,
+    image: &[u8],
+    at: usize,
+    words: &mut [u64],
+    sinks: &mut [u64],
+) -> Result<(), Refusal>
     requires { (n ≤ object_max) × (at ≤ length image.now) × Empty words.old × Empty sinks.old }
     ensures value { refusal_of result ≡ chunk_refusal 1 (drop at image.now) (not (objects_pass n (body_of (drop at image.now)))) }
     ensures listed { OnOk result (Listed n (body_of (drop at image.now)) words.new) }

@@ -10,7 +10,7 @@ use endian::get2;
 use layout::answers::{Control, Done, Tuning};
 use layout::control::{new_control, no_control, with_last};
 use layout::refusals::{Refusal, bad_tuning};
-use table::room::short_heap;
+use table::room::{Buffers, short_heap};
 
 mod bodies;
 mod chunks;
@@ -48,7 +48,14 @@ fn load_image(
     input_refusal(t, image)?;
     let n = get2(image, 8);
     let r = get2(image, 10);
-    if short_heap(n, r, records, slots, roots, sinks, sets) {
+    let heap = Buffers {
+        records,
+        slots,
+        roots,
+        sinks,
+        sets,
+    };
+    if short_heap(n, r, &heap) {
         return Err(Refusal::TooShort);
     }
     lay(n, r, image, records, slots, roots, sinks, sets);

@@ -1,8 +1,8 @@
 // The first reading of the lists: their lines are checked, and the names of the builds are kept.
 use crate::page::fail;
 use crate::text::Text;
-use files::*;
-use lines::kinds::*;
+use files::{ROOM, Source, State, call_of, end_problem, next_line, opened};
+use lines::kinds::{Kind, Problem, problem_of};
 use lines::words::next_word;
 use std::fs::File;
 use std::io;
@@ -49,8 +49,8 @@ impl Names {
 #[derive(Clone, Copy)]
 enum Wrong {
     Unreadable(io::Error),
-    Line(u64, u32),
-    Whole(u32),
+    Line(u64, Problem),
+    Whole(Problem),
 }
 
 impl From<io::Error> for Wrong {
@@ -59,44 +59,25 @@ impl From<io::Error> for Wrong {
     }
 }
 
-// What is wrong, in words.
-fn words_for(problem: u32) -> &'static str {
-    match problem {
-        A_CALL => "expected the name of a call",
-        A_NUMBER => "expected a number",
-        A_SMALL_NUMBER => "expected a number below 4294967296",
-        THE_END => "expected the end of the line",
-        A_WAY => "expected plain or clusters",
-        A_NAME => "expected a name",
-        NOT_CREATE => "expected create, which is the first call of a list",
-        SECOND_CREATE => "a second create, and a list has one",
-        NO_CREATE => "expected create, and the list has no call",
-        TOO_LONG => "the line is longer than 4096 bytes",
-        _ => "",
-    }
-}
-
 // Says on standard error why the list at path is not run.
 fn complain<R: Eprint>(rt: &R, path: &str, wrong: Wrong) {
     match wrong {
         Wrong::Unreadable(why) => fail(rt, path, why),
         Wrong::Line(number, problem) => {
-            let words = words_for(problem);
-            let _ = eprintln!(rt; "{path}, line {number}: {words}");
+            let _ = eprintln!(rt; "{path}, line {number}: {problem}");
         }
         Wrong::Whole(problem) => {
-            let words = words_for(problem);
-            let _ = eprintln!(rt; "{path}: {words}");
+            let _ = eprintln!(rt; "{path}: {problem}");
         }
     }
 }
 
 // Keeps the second word of the line found, where no name is kept yet.
 fn keep_name(name: &mut Text<4096>, s: Source, input: &[u8; ROOM]) {
-    let line = input.get(s.start..s.stop).unwrap_or(&[]);
-    let first = next_word(line, 0);
-    let second = next_word(line, first.end);
     if name.is_empty() {
+        let line = input.get(s.start..s.stop).unwrap_or(&[]);
+        let first = next_word(line, 0);
+        let second = next_word(line, first.end);
         name.extend(line.get(second.start..second.end).unwrap_or(&[]));
     }
 }
@@ -106,29 +87,32 @@ fn check_lines(list: &mut List, names: &mut Names) -> Result<(), Wrong> {
     let mut input = [0; ROOM];
     let mut source = opened(0);
     let mut created = false;
+    // Counted, since nothing says how many lines a file has.
     for _ in 0..u64::MAX {
         source = next_line(source, list, &mut input);
-        if source.state != LINE {
+        if source.state != State::Line {
             break;
         }
-        let call = call_of(source, &input);
-        let problem = problem_of(call, created);
-        if problem != 0 {
+        let line = call_of(source, &input);
+        if let Some(problem) = problem_of(line, created) {
             return Err(Wrong::Line(source.number, problem));
         }
+        let Ok(Some(call)) = line else {
+            continue;
+        };
         match call.kind {
-            CREATE => created = true,
-            WROTE => keep_name(&mut names.wrote, source, &input),
-            LOADED => keep_name(&mut names.loaded, source, &input),
+            Kind::Create => created = true,
+            Kind::Wrote => keep_name(&mut names.wrote, source, &input),
+            Kind::Loaded => keep_name(&mut names.loaded, source, &input),
             _ => {}
         }
     }
     list.last = source.number;
     match end_problem(source.state, created) {
-        0 => Ok(()),
-        UNREADABLE => Err(Wrong::Unreadable(list.why)),
-        NO_CREATE => Err(Wrong::Whole(NO_CREATE)),
-        problem => Err(Wrong::Line(source.number, problem)),
+        None => Ok(()),
+        Some(Problem::Unreadable) => Err(Wrong::Unreadable(list.why)),
+        Some(Problem::NeverCreated) => Err(Wrong::Whole(Problem::NeverCreated)),
+        Some(problem) => Err(Wrong::Line(source.number, problem)),
     }
 }
 

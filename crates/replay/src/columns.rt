@@ -1,57 +1,55 @@
 // Two lists that are run side by side, line by line, each on buffers of its own.
 use crate::checks::List;
-use crate::memory::Heap;
+use crate::memory::Memory;
 use crate::page::{Page, fail};
 use crate::pairs::{note_turn, put_turn, turn_of};
-use crate::wording::AnswerText;
 use calls::{Ran, answer, as_run, run};
-use compare::turns::*;
-use files::*;
+use compare::turns::{State, Verdict, is_over, noted, state_after};
+use files::{Source, call_of, next_line, opened};
 use layout::control::no_control;
-use lines::kinds::{Call, no_call};
+use lines::kinds::Call;
 
 // A list that is run, plainly or as it says: the call run last, and what it answered.
 #[derive(Drop)]
-pub(crate) struct Column {
+pub(crate) struct Column<'a> {
     list: List,
-    input: [u8; ROOM],
     pub source: Source,
     plain: bool,
-    pub call: Call,
+    pub call: Option<Call>,
     pub ran: Ran,
-    pub state: u32,
-    pub heap: Heap,
+    pub state: State,
+    pub memory: &'a mut Memory,
 }
 
-impl Column {
+impl<'a> Column<'a> {
     // The column before the first line of its list.
-    pub(crate) fn new(list: List, plain: bool) -> Column {
+    pub(crate) fn new(list: List, plain: bool, memory: &'a mut Memory) -> Column<'a> {
         Column {
             list,
-            input: [0; ROOM],
             source: opened(0),
             plain,
-            call: no_call(0),
+            call: None,
             ran: answer(0, 0, 0, 0, no_control(), 0),
-            state: READING,
-            heap: Heap::new(),
+            state: State::Reading,
+            memory,
         }
     }
 
     // Goes on to the next line, and runs its call.
     fn next<R: Eprint>(&mut self, rt: &R) {
-        let source = next_line(self.source, &mut self.list, &mut self.input);
+        let memory = &mut *self.memory;
+        let source = next_line(self.source, &mut self.list, &mut memory.input);
         match source.state {
-            LINE => {
+            files::State::Line => {
+                let call = call_of(source, &memory.input).unwrap_or(None);
                 self.source = source;
-                let call = call_of(source, &self.input);
                 self.run(as_run(call, self.plain));
             }
-            FAILED => {
+            files::State::Failed => {
                 fail(rt, "read", self.list.why);
-                self.state = DONE;
+                self.state = State::Done;
             }
-            _ => self.state = DONE,
+            _ => self.state = State::Done,
         }
     }
 
@@ -64,30 +62,25 @@ impl Column {
         self.ran.control.r
     }
 
-    // What the call run last answered.
-    pub(crate) fn answer(&self) -> AnswerText<'_> {
-        AnswerText {
-            kind: self.call.kind,
-            ran: self.ran,
-            slots: &self.heap.slots,
-            map: &self.heap.map,
-        }
+    // The call run last, where the column is at it in a turn.
+    pub(crate) fn called(&self, is_there: bool) -> Option<Call> {
+        if is_there { self.call } else { None }
     }
 
-    fn run(&mut self, call: Call) {
-        let heap = &mut self.heap;
+    fn run(&mut self, call: Option<Call>) {
+        let memory = &mut *self.memory;
         self.ran = run(
             call,
             self.ran.control,
             self.ran.saved,
-            &mut heap.records,
-            &mut heap.slots,
-            &mut heap.roots,
-            &mut heap.sinks,
-            &mut heap.sets,
-            &mut heap.work,
-            &mut heap.map,
-            &mut heap.image,
+            &mut memory.records,
+            &mut memory.slots,
+            &mut memory.roots,
+            &mut memory.sinks,
+            &mut memory.sets,
+            &mut memory.work,
+            &mut memory.map,
+            &mut memory.image,
         );
         self.call = call;
         self.state = state_after(call);
@@ -96,21 +89,22 @@ impl Column {
 
 // The two columns, whether one list is run in both, the words of the objects that change hands, and the first difference.
 #[derive(Drop)]
-pub(crate) struct Columns {
-    pub left: Column,
-    pub right: Column,
+pub(crate) struct Columns<'a> {
+    pub left: Column<'a>,
+    pub right: Column<'a>,
     pub one: bool,
     pub hands: [u64; 8192],
     pub verdict: Verdict,
 }
 
-impl Columns {
+impl<'a> Columns<'a> {
     // Runs both lists to their ends: a line of a column that is on its way to its next call, or else the next turn of both.
     pub(crate) fn play<R: Print + Eprint>(&mut self, rt: &R, page: &mut Page) {
+        // Counted, since nothing says how many lines a file has.
         for _ in 0..u64::MAX {
-            if self.left.state == READING {
+            if self.left.state == State::Reading {
                 self.left.next(rt);
-            } else if self.right.state == READING {
+            } else if self.right.state == State::Reading {
                 self.right.next(rt);
             } else if self.turn(rt, page) {
                 break;
@@ -118,8 +112,8 @@ impl Columns {
         }
     }
 
-    // The next turn of two columns that both wait: its row, what changed hands at it, and the first difference. Answers whether both lists are
-    // at their ends.
+    // The next turn of two columns that both wait: its row, what changed hands at it, and the first difference. Answers whether both lists
+    // are at their ends.
     fn turn<R: Print + Eprint>(&mut self, rt: &R, page: &mut Page) -> bool {
         let t = turn_of(&self.left, &self.right);
         put_turn(rt, page, self, t);
@@ -128,10 +122,10 @@ impl Columns {
         let j = self.right.source.number;
         self.verdict = noted(self.verdict, t, i, j);
         if t.has_left {
-            self.left.state = READING;
+            self.left.state = State::Reading;
         }
         if t.has_right {
-            self.right.state = READING;
+            self.right.state = State::Reading;
         }
         is_over(t)
     }

@@ -1,6 +1,6 @@
 // What follows the rows of the calls: what survives, what changed hands, and the verdict.
 use crate::columns::{Column, Columns};
-use crate::memory::Heap;
+use crate::memory::Memory;
 use crate::page::Page;
 use crate::wording::*;
 use compare::hands::*;
@@ -11,21 +11,21 @@ use std::fmt;
 
 // ---- what survives
 
-// Object i + 1 of a heap.
+// Object i + 1 of a column.
 #[derive(Clone, Copy)]
-struct ObjectCell<'a>(&'a Heap, u32);
+struct ObjectCell<'a>(&'a Memory, u32);
 
 impl<'a> fmt::Display for ObjectCell<'a> {
     fn fmt<W: fmt::Write>(&self, f: &mut fmt::Formatter<W>) -> fmt::Result {
-        let ObjectCell(heap, i) = *self;
-        let record = word_at(&heap.records, i as usize);
+        let ObjectCell(memory, i) = *self;
+        let record = word_at(&memory.records, i as usize);
         if record == 0 {
             return write!(f, "free");
         }
         let count = width_of(record);
         write!(f, "width {count}")?;
         if count != 0 {
-            let slots = &heap.slots;
+            let slots = &memory.slots;
             let from = slots_len(i);
             write!(f, ", {}", WordsText { slots, from, count })?;
         }
@@ -38,13 +38,13 @@ impl<'a> fmt::Display for ObjectCell<'a> {
 
 // Root j of a column.
 #[derive(Clone, Copy)]
-struct RootCell<'a>(&'a Column, u32);
+struct RootCell<'a>(&'a Column<'a>, u32);
 
 impl<'a> fmt::Display for RootCell<'a> {
     fn fmt<W: fmt::Write>(&self, f: &mut fmt::Formatter<W>) -> fmt::Result {
         let RootCell(column, j) = *self;
         if j < column.roots() {
-            write!(f, "{}", WordText(word_at(&column.heap.roots, j as usize)))
+            write!(f, "{}", WordText(word_at(&column.memory.roots, j as usize)))
         } else {
             write!(f, "no root")
         }
@@ -57,7 +57,7 @@ fn mark_of(same: bool) -> &'static str {
 }
 
 // The row of object i + 1, unless it is free in both columns.
-fn object_row<R: Print + Eprint>(rt: &R, page: &mut Page, i: u32, left: &Heap, right: &Heap) {
+fn object_row<R: Print + Eprint>(rt: &R, page: &mut Page, i: u32, left: &Memory, right: &Memory) {
     let x = word_at(&left.records, i as usize);
     let y = word_at(&right.records, i as usize);
     if x == 0 && y == 0 {
@@ -79,7 +79,7 @@ fn root_row<R: Print + Eprint>(rt: &R, page: &mut Page, j: u32, left: &Column, r
     if r <= j && q <= j {
         return;
     }
-    let mark = mark_of(same_root(j, r, &left.heap.roots, q, &right.heap.roots));
+    let mark = mark_of(same_root(j, r, &left.memory.roots, q, &right.memory.roots));
     page.row(
         rt,
         format_args!("{mark}root {j}"),
@@ -89,18 +89,18 @@ fn root_row<R: Print + Eprint>(rt: &R, page: &mut Page, j: u32, left: &Column, r
 }
 
 // Whether no object is in use.
-fn is_empty(heap: &Heap) -> bool {
-    heap.records.iter().all(|r| *r == 0)
+fn is_empty(memory: &Memory) -> bool {
+    memory.records.iter().all(|r| *r == 0)
 }
 
 // The objects and roots that survive.
 fn survivors<R: Print + Eprint>(rt: &R, page: &mut Page, left: &Column, right: &Column) {
     page.line(rt, "\nSurvivors");
-    if is_empty(&left.heap) && is_empty(&right.heap) {
+    if is_empty(&*left.memory) && is_empty(&*right.memory) {
         page.line(rt, "none");
     }
     for i in 0..OBJECT_MAX {
-        object_row(rt, page, i, &left.heap, &right.heap);
+        object_row(rt, page, i, &*left.memory, &*right.memory);
     }
     for j in 0..ROOT_MAX {
         root_row(rt, page, j, left, right);
@@ -163,7 +163,7 @@ fn tell<R: Print + Eprint>(
 fn hands_part<R: Print + Eprint>(rt: &R, page: &mut Page, columns: &Columns) {
     page.line(rt, "\nObjects that changed hands");
     let mut any = false;
-    for x in 0..=OBJECT_MAX {
+    for x in 1..=OBJECT_MAX {
         any |= tell(rt, page, columns, true, x);
         any |= tell(rt, page, columns, false, x);
     }
@@ -176,14 +176,14 @@ fn hands_part<R: Print + Eprint>(rt: &R, page: &mut Page, columns: &Columns) {
 
 // Whether the same survives in both columns.
 fn is_same(left: &Column, right: &Column) -> bool {
-    let (l, r) = (&left.heap, &right.heap);
+    let (l, r) = (&*left.memory, &*right.memory);
     same_objects(&l.records, &l.slots, &r.records, &r.slots)
         && same_roots(left.roots(), &l.roots, right.roots(), &r.roots)
 }
 
 // The last line of a report.
 #[derive(Clone, Copy)]
-struct VerdictText<'a>(&'a Columns);
+struct VerdictText<'a>(&'a Columns<'a>);
 
 impl<'a> fmt::Display for VerdictText<'a> {
     fn fmt<W: fmt::Write>(&self, f: &mut fmt::Formatter<W>) -> fmt::Result {
@@ -196,22 +196,22 @@ impl<'a> fmt::Display for VerdictText<'a> {
             );
         }
         match (verdict.left, verdict.right) {
-            (0, 0) => {
+            (None, None) => {
                 if is_same(&columns.left, &columns.right) {
                     write!(f, "The columns agree.")
                 } else {
                     write!(f, "The columns differ in what survives.")
                 }
             }
-            (i, 0) => write!(
+            (Some(i), None) => write!(
                 f,
                 "The columns differ: the build that wrote has more calls, from line {i} on."
             ),
-            (0, j) => write!(
+            (None, Some(j)) => write!(
                 f,
                 "The columns differ: the build that loaded has more calls, from line {j} on."
             ),
-            (i, j) => {
+            (Some(i), Some(j)) => {
                 write!(f, "The columns differ first at line {i}")?;
                 if columns.one {
                     return write!(f, ".");

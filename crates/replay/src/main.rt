@@ -4,6 +4,7 @@
 use crate::checks::{List, Names, open};
 use crate::columns::{Column, Columns};
 use crate::ends::ends;
+use crate::memory::Memory;
 use crate::page::{Page, fail};
 use compare::turns::Verdict;
 use std::env::FillError;
@@ -67,12 +68,17 @@ fn replay<R: Files<File = File> + Print + Eprint>(rt: &R, first: &str, second: &
     };
     let mut page = Page::new();
     heading(rt, &mut page, one, &first_names, &second_names);
+    let mut left_memory = Memory::new();
+    let mut right_memory = Memory::new();
     let mut columns = Columns {
-        left: Column::new(left, one),
-        right: Column::new(right, false),
+        left: Column::new(left, one, &mut left_memory),
+        right: Column::new(right, false, &mut right_memory),
         one,
         hands: [0; 8192],
-        verdict: Verdict { left: 0, right: 0 },
+        verdict: Verdict {
+            left: None,
+            right: None,
+        },
     };
     columns.play(rt, &mut page);
     ends(rt, &mut page, &columns);
@@ -83,24 +89,25 @@ fn has_arg<R: Env>(rt: &R, i: usize) -> bool {
     !matches!(rt.arg(i, &mut [0; 1]), Err(FillError::NotPresent))
 }
 
-// Argument i, which is put into the buffer. Where it does not fit or is not UTF-8, standard error is told, and the argument is called `what`.
+// Argument i, which is put into the buffer. Where it does not fit or is not UTF-8, standard error is told, and the argument is called
+// `what`.
 fn arg<'a, R: Env + Eprint>(
     rt: &R,
     i: usize,
     what: &str,
     buf: &'a mut [u8; 4096],
 ) -> Option<&'a str> {
-    let mut why = NO_TEXT;
-    match rt.arg(i, buf) {
+    let why = match rt.arg(i, buf) {
         Ok(n) => {
             let whole = &buf[..];
             if let Ok(path) = str::from_utf8(&whole[..n]) {
                 return Some(path);
             }
+            NO_TEXT
         }
-        Err(FillError::TooLong) => why = TOO_LONG_NAME,
-        Err(FillError::NotPresent) => why = NO_ARG,
-    }
+        Err(FillError::TooLong) => TOO_LONG_NAME,
+        Err(FillError::NotPresent) => NO_ARG,
+    };
     fail(rt, what, io::Error::from_raw_os_error(why));
     None
 }

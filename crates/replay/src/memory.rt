@@ -1,8 +1,10 @@
 // The memory of a column, made once and lent.
+use files::ROOM;
 
-// The buffers of a heap, of the size of the largest one, and the set of what was freed last.
+// The bytes of a list that are at hand, the buffers of a heap, of the size of the largest one, and the set of what was freed last.
 #[derive(Drop)]
-pub(crate) struct Heap {
+pub(crate) struct Memory {
+    pub input: [u8; ROOM],
     pub records: [u32; 4095],
     pub slots: [u32; 32760],
     pub roots: [u32; 64],
@@ -16,9 +18,10 @@ pub(crate) struct Heap {
     pub image: [u8; 147836],
 }
 
-impl Heap {
-    pub(crate) fn new() -> Heap {
-        Heap {
+impl Memory {
+    pub(crate) fn new() -> Memory {
+        Memory {
+            input: [0; ROOM],
             records: [0; 4095],
             slots: [0; 32760],
             roots: [0; 64],

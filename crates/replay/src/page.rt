@@ -29,8 +29,8 @@ pub(crate) fn fail<R: Eprint>(rt: &R, what: &str, why: io::Error) {
     let _ = eprintln!(rt; "{what}: {words}");
 }
 
-// The next line of a cell, and what is left of the cell. The line ends at the last blank that leaves it at most `width` bytes, and that blank
-// is passed over, or after `width` bytes of a longer word.
+// The next line of a cell, and what is left of the cell. The line ends at the last blank that leaves it at most `width` bytes, and that
+// blank is passed over, or after `width` bytes of a longer word.
 fn line_of(cell: &[u8], width: usize) -> (&[u8], &[u8])
     ensures shorter { 0 < width → 0 < length cell.now → length result.1.now < length cell.now }
     ensures no_longer { length result.1.now ≤ length cell.now }
@@ -71,7 +71,8 @@ impl Page {
         }
     }
 
-    pub(crate) fn line<R: Print + Eprint, D: Display + Drop>(&mut self, rt: &R, line: D) {
+    // Puts a line.
+    pub(crate) fn line<R: Print + Eprint>(&mut self, rt: &R, line: impl Display + Drop) {
         self.text.put(line);
         self.end_line(rt);
     }
@@ -102,10 +103,13 @@ impl Page {
     }
 
     // Puts the lines of a row of these cells.
-    fn row_lines<R: Print + Eprint>(&mut self, rt: &R, call: &[u8], left: &[u8], right: &[u8]) {
-        let mut call = call;
-        let mut left = left;
-        let mut right = right;
+    fn row_lines<R: Print + Eprint>(
+        &mut self,
+        rt: &R,
+        mut call: &[u8],
+        mut left: &[u8],
+        mut right: &[u8],
+    ) {
         while !(call.is_empty() && left.is_empty() && right.is_empty()) {
             let (a, after_a) = line_of(call, CALL);
             let (b, after_b) = line_of(left, ANSWER);
@@ -117,13 +121,14 @@ impl Page {
         }
     }
 
-    // Puts a row. The longest call is a pair of two, and the longest answer names 4,095 freed objects.
-    pub(crate) fn row<R: Print + Eprint, C: Display + Drop, A: Display + Drop, B: Display + Drop>(
+    // Puts a row. The longest calls are a pair of creates, in under 200 bytes, and the longest answer names 4,095 freed objects, in under
+    // 24,000.
+    pub(crate) fn row<R: Print + Eprint>(
         &mut self,
         rt: &R,
-        call: C,
-        left: A,
-        right: B,
+        call: impl Display + Drop,
+        left: impl Display + Drop,
+        right: impl Display + Drop,
     ) {
         let mut first = Text::<256>::new();
         let mut second = Text::<32768>::new();

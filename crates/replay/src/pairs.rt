@@ -2,7 +2,7 @@
 use crate::columns::{Column, Columns};
 use crate::page::Page;
 use crate::wording::*;
-use compare::answers::{same_answers, same_call};
+use compare::answers::same_answers;
 use compare::hands::*;
 use compare::turns::*;
 use std::fmt;
@@ -12,7 +12,7 @@ use std::fmt;
 // The calls of a turn, with one number or one call where they have it in common.
 #[derive(Clone, Copy)]
 struct CallCell<'a> {
-    columns: &'a Columns,
+    columns: &'a Columns<'a>,
     turn: Turn,
 }
 
@@ -21,21 +21,27 @@ impl<'a> fmt::Display for CallCell<'a> {
         let left = &self.columns.left;
         let right = &self.columns.right;
         let (i, j) = (left.source.number, right.source.number);
-        let (x, y) = (left.call, right.call);
         if self.turn.mark {
             write!(f, "* ")?;
         }
-        if !self.turn.has_right {
-            return write!(f, "Line {i}, {}", CallText(x));
+        match (
+            left.called(self.turn.has_left),
+            right.called(self.turn.has_right),
+        ) {
+            (None, None) => Ok(()),
+            (Some(x), None) => write!(f, "Line {i}, {}", CallText(x)),
+            (None, Some(y)) => write!(f, "Line {j}, {}", CallText(y)),
+            (Some(x), Some(y)) => {
+                let same = x == y;
+                if self.columns.one || (i == j && same) {
+                    write!(f, "Line {j}, {}", CallText(y))
+                } else if same {
+                    write!(f, "Lines {i} and {j}, {}", CallText(y))
+                } else {
+                    write!(f, "Line {i}, {}; line {j}, {}", CallText(x), CallText(y))
+                }
+            }
         }
-        let same = same_call(x, y);
-        if !self.turn.has_left || self.columns.one || (i == j && same) {
-            return write!(f, "Line {j}, {}", CallText(y));
-        }
-        if same {
-            return write!(f, "Lines {i} and {j}, {}", CallText(y));
-        }
-        write!(f, "Line {i}, {}; line {j}, {}", CallText(x), CallText(y))
     }
 }
 
@@ -45,7 +51,7 @@ enum AnswerCell<'a> {
     Empty,
     LeftOut,
     NoCall,
-    Answer(&'a Column),
+    Answer(AnswerText<'a>),
 }
 
 impl<'a> fmt::Display for AnswerCell<'a> {
@@ -54,31 +60,37 @@ impl<'a> fmt::Display for AnswerCell<'a> {
             AnswerCell::Empty => Ok(()),
             AnswerCell::LeftOut => write!(f, "left out"),
             AnswerCell::NoCall => write!(f, "no call"),
-            AnswerCell::Answer(column) => write!(f, "{}", column.answer()),
+            AnswerCell::Answer(answer) => write!(f, "{answer}"),
         }
     }
 }
 
-// The cell of a column that has a call in this turn or not.
-fn answer_cell(column: &Column, has_call: bool, mark: bool, one: bool) -> AnswerCell<'_> {
-    if has_call {
-        return AnswerCell::Answer(column);
+// The cell of a column that is at this turn or not.
+fn answer_cell<'a>(column: &'a Column, is_there: bool, mark: bool, one: bool) -> AnswerCell<'a> {
+    match column.called(is_there) {
+        Some(call) => AnswerCell::Answer(AnswerText {
+            kind: call.kind,
+            ran: column.ran,
+            slots: &column.memory.slots,
+            map: &column.memory.map,
+        }),
+        None if mark => AnswerCell::NoCall,
+        None if one => AnswerCell::LeftOut,
+        None => AnswerCell::Empty,
     }
-    if mark {
-        return AnswerCell::NoCall;
-    }
-    if one {
-        AnswerCell::LeftOut
-    } else {
-        AnswerCell::Empty
+}
+
+// Whether a column that is at this turn or not has an answer to print.
+fn is_told(column: &Column, is_there: bool) -> bool {
+    match column.called(is_there) {
+        Some(call) => has_answer(call.kind, column.ran),
+        None => false,
     }
 }
 
 // Whether a turn has a row: a difference, or an answer to print.
 fn has_row(left: &Column, right: &Column, t: Turn) -> bool {
-    let left = t.has_left && has_answer(left.call.kind, left.ran);
-    let right = t.has_right && has_answer(right.call.kind, right.ran);
-    (t.mark && !is_over(t)) || left || right
+    (t.mark && !is_over(t)) || is_told(left, t.has_left) || is_told(right, t.has_right)
 }
 
 // Puts the row of a turn, if it has one.
@@ -102,24 +114,24 @@ pub(crate) fn put_turn<R: Print + Eprint>(rt: &R, page: &mut Page, columns: &Col
 pub(crate) fn note_turn(hands: &mut [u64; 8192], left: &Column, right: &Column, t: Turn) {
     let i = left.source.number;
     let j = right.source.number;
-    let x = given(t.has_left, left.call.kind, left.ran);
-    let y = given(t.has_right, right.call.kind, right.ran);
-    let (l, r) = (&left.heap, &right.heap);
+    let x = given(t.has_left, left.call, left.ran);
+    let y = given(t.has_right, right.call, right.ran);
+    let (l, r) = (&*left.memory, &*right.memory);
     note_given(hands, true, x, y, i, &r.records, &r.slots, &r.roots);
     note_given(hands, false, y, x, j, &l.records, &l.slots, &l.roots);
-    if did_collect(t.has_left, left.call.kind, left.ran) {
+    if did_collect(t.has_left, left.call, left.ran) {
         keep_freed(hands, true, &l.map);
     }
-    if did_collect(t.has_right, right.call.kind, right.ran) {
+    if did_collect(t.has_right, right.call, right.ran) {
         keep_freed(hands, false, &r.map);
     }
 }
 
 // What comes next of two columns that both wait.
 pub(crate) fn turn_of(left: &Column, right: &Column) -> Turn {
-    let (l, r) = (&left.heap, &right.heap);
-    let same = left.state != AT_CALL
-        || right.state != AT_CALL
+    let (l, r) = (&*left.memory, &*right.memory);
+    let same = left.state != State::AtCall
+        || right.state != State::AtCall
         || same_answers(
             left.call, right.call, left.ran, right.ran, &l.slots, &l.map, &r.slots, &r.map,
         );

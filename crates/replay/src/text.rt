@@ -46,8 +46,8 @@ impl<const ROOM: usize> Text<ROOM> {
     }
 
     // Puts a value as it is printed.
-    pub(crate) fn put<D: Display + Drop>(&mut self, value: D) {
-        let _ = self.write(value);
+    pub(crate) fn put(&mut self, value: impl Display + Drop) {
+        let _ = write!(self, "{value}");
     }
 }
 

@@ -2,9 +2,9 @@
 use bitmap::has_bit;
 use calls::Ran;
 use layout::limits::OBJECT_MAX;
-use layout::refusals::*;
+use layout::refusals::Refusal;
 use layout::words::{Word, sort_word};
-use lines::kinds::*;
+use lines::kinds::{Call, Kind};
 use std::fmt;
 
 // A number, in hexadecimal from 65536 on.
@@ -23,22 +23,21 @@ impl fmt::Display for Number {
 }
 
 // The name of a kind of call.
-fn name_of(kind: usize) -> &'static str {
+fn name_of(kind: Kind) -> &'static str {
     match kind {
-        WROTE => "wrote",
-        LOADED => "loaded",
-        CREATE => "create",
-        ALLOCATE => "allocate",
-        READ => "read",
-        SHOW => "show",
-        WRITE => "write",
-        ROOT => "root",
-        SINK => "sink",
-        ANALYSE => "analyse",
-        COLLECT => "collect",
-        SAVE => "save",
-        LOAD => "load",
-        _ => "",
+        Kind::Wrote => "wrote",
+        Kind::Loaded => "loaded",
+        Kind::Create => "create",
+        Kind::Allocate => "allocate",
+        Kind::Read => "read",
+        Kind::Show => "show",
+        Kind::Write => "write",
+        Kind::Root => "root",
+        Kind::Sink => "sink",
+        Kind::Analyse => "analyse",
+        Kind::Collect => "collect",
+        Kind::Save => "save",
+        Kind::Load => "load",
     }
 }
 
@@ -51,7 +50,7 @@ impl fmt::Display for CallText {
         let Call { kind, count, .. } = self.0;
         let name = name_of(kind);
         write!(f, "{name}")?;
-        if kind == COLLECT {
+        if kind == Kind::Collect {
             let way = if self.0.numbers[0] == 0 {
                 "plain"
             } else {
@@ -66,35 +65,18 @@ impl fmt::Display for CallText {
     }
 }
 
-// A refusal with its words.
+// A refusal of this number, with its words.
 #[derive(Clone, Copy)]
 struct Refused(u32);
 
 impl fmt::Display for Refused {
     fn fmt<W: fmt::Write>(&self, f: &mut fmt::Formatter<W>) -> fmt::Result {
-        let refusal = self.0;
-        let words = match refusal {
-            BAD_SIZES => "sizes out of range",
-            TOO_SHORT => "a buffer is too short",
-            TOO_WIDE => "width above 8",
-            NO_OBJECT => "no such object",
-            NO_SLOT => "no such slot",
-            BAD_WORD => "illegal word",
-            NO_ROOT => "no such root",
-            BAD_CONTROL => "control record out of order",
-            DAMAGED => "the heap is damaged",
-            IS_FREE => "the object is free",
-            NAMES_NONE => "the word names a free object",
-            FULL => "no object is free",
-            LOSS_FULL => "the write loss is too large",
-            IMAGE_CUT => "the image is cut",
-            BAD_IMAGE => "the image is not a heap",
-            UNKNOWN_KIND => "a chunk of unknown kind",
-            SINKS_FULL => "64 sinks are listed",
-            BAD_TUNING => "an analysis number is out of range",
-            _ => "",
-        };
-        write!(f, "refused {refusal}: {words}")
+        let number = self.0;
+        write!(f, "refused {number}: ")?;
+        match Refusal::try_from(number) {
+            Ok(refusal) => write!(f, "{refusal}"),
+            Err(_) => Ok(()),
+        }
     }
 }
 
@@ -156,7 +138,7 @@ impl<'a> fmt::Display for SetText<'a> {
 // What a call of this kind answered, by a heap with these slots and this map.
 #[derive(Clone, Copy)]
 pub(crate) struct AnswerText<'a> {
-    pub kind: usize,
+    pub kind: Kind,
     pub ran: Ran,
     pub slots: &'a [u32],
     pub map: &'a [u64],
@@ -175,9 +157,9 @@ impl<'a> fmt::Display for AnswerText<'a> {
             return write!(f, "{}", Refused(refusal));
         }
         match self.kind {
-            ALLOCATE => write!(f, "object {a}"),
-            READ => write!(f, "{}", WordText(a)),
-            SHOW => {
+            Kind::Allocate => write!(f, "object {a}"),
+            Kind::Read => write!(f, "{}", WordText(a)),
+            Kind::Show => {
                 let slots = self.slots;
                 let from = a as usize;
                 write!(
@@ -190,26 +172,32 @@ impl<'a> fmt::Display for AnswerText<'a> {
                     }
                 )
             }
-            ANALYSE => write!(f, "clusters {a}, members {b}"),
-            COLLECT => {
+            Kind::Analyse => write!(f, "clusters {a}, members {b}"),
+            Kind::Collect => {
                 write!(f, "freed {a}, kept {b}, scanned {c}")?;
                 if a == 0 {
                     return Ok(());
                 }
                 write!(f, "; freed objects {}", SetText(self.map))
             }
-            SAVE => write!(f, "bytes {a}"),
-            LOAD => write!(f, "objects {a}, roots {b}"),
+            Kind::Save => write!(f, "bytes {a}"),
+            Kind::Load => write!(f, "objects {a}, roots {b}"),
             _ => write!(f, "accepted"),
         }
     }
 }
 
 // Whether there is more to print of an answer than that the call was accepted.
-pub(crate) fn has_answer(kind: usize, ran: Ran) -> bool {
-    let is_told = match kind {
-        ALLOCATE | READ | SHOW | ANALYSE | COLLECT | SAVE | LOAD => true,
-        _ => false,
-    };
+pub(crate) fn has_answer(kind: Kind, ran: Ran) -> bool {
+    let is_told = matches!(
+        kind,
+        Kind::Allocate
+            | Kind::Read
+            | Kind::Show
+            | Kind::Analyse
+            | Kind::Collect
+            | Kind::Save
+            | Kind::Load
+    );
     ran.refusal != 0 || is_told
 }

@@ -17,11 +17,16 @@ use Rattle.layout.specs.Limits.{object_max, width_max, sink_max, slots_len}
 use Rattle.records.specs.Record.{width, cluster, free, legal, damaged, is_out, with_out, with_written, loose}
 use Rattle.layout.specs.Word.{is_nil, is_pointer, legal_word, sort_of}
 use Rattle.layout.specs.ControlRecord.{bad_control, with_write_loss}
-use Rattle.layout.specs.Refusal.{Test, first}
+use Rattle.std.specs.Prelude.{Result, Ok, Err}
+use Rattle.layout.specs.declared.refusals.Refusal.{Refusal}
+use Rattle.layout.specs.declared.refusals.Refusal.TheVariants.{LossFull}
+use Rattle.writes.specs.declared.write.Tried.{Tried}
+use Rattle.writes.specs.declared.write.Tried.TheVariants.{Stored, Elsewhere, Refused}
+use Rattle.layout.specs.Refusal.{Test, number, refusal_of, first}
 use Rattle.layout.proofs.LimitLaws.{within-true, below-within, above_within}
 use Rattle.layout.proofs.ControlLaws.{control-facts, writes-sound, facts-control}
 use Rattle.layout.proofs.WordLaws.{Says, sort-says, pointer-legal, immediate-bounds}
-use Rattle.layout.proofs.RefusalLaws.{Numbered, nil, cons, first-passed, first-front, first-skip, first-zero, first_holds, first-fails, outcome-zero, outcome-number}
+use Rattle.layout.proofs.RefusalLaws.{numbered, Numbered, nil, cons, first-passed, first-front, first-skip, first-zero, first_holds, first-fails, outcome-zero, outcome-number}
 use Rattle.graph.specs.Numbers.{has}
 use Rattle.graph.specs.Heap.{Heap}
 use Rattle.graph.specs.Writes.{dissolves, stored, store_by, store, loss_by, loss_of}
@@ -37,7 +42,7 @@ use Rattle.rules.proofs.StoreLaws.{rec_of-set-same, rec_of-set-alike, store-stay
 use Rattle.records.proofs.RecordLaws.{Legal, width-put-flag, cluster-put-flag}
 use Rattle.table.specs.Named.{named_tests}
 use Rattle.table.specs.Clusters.{cluster_of, members_of, dissolved_record, dissolved}
-use Rattle.writes.specs.Writes.{word_tests, others_of, front_tests, Slot, with_set, sets_by, Attempted, refuses, passes, stores, Settled, keeps, overflows, asks, breaks}
+use Rattle.writes.specs.Writes.{word_tests, others_of, front_tests, Slot, with_set, sets_by, Attempted, refuses, passes, stores, Settled, keeps, overflows, breaks}
 use Rattle.table.proofs.NamedLaws.{Named, named, named-rest}
 
 -- ---- the tests of the word
@@ -103,14 +108,14 @@ module _ (c : Control) (i k w : ℕ) (recs slots : List ℕ) (o : ℕ) where
   unfolding front_tests
   front-object m e d = e ∙ sym (first-front (named_tests c i recs slots o) rest (λ z. d (e ∙ z)))
 
-  module _ (m : ℕ) (e : m ≡ first (named_tests c i recs slots o)) (z : m ≡ 0) where
+  module _ (e : 0 ≡ first (named_tests c i recs slots o)) where
     pub object-named : Named c i recs slots
-    object-named = named c i recs slots o (sym e ∙ z)
+    object-named = named c i recs slots o (sym e)
 
     module _ (u : ℕ) (f : u ≡ width (get_or recs (i - 1) 0)) where
       follows : first (front_tests c i k w recs slots o) ≡ first rest
       unfolding front_tests
-      follows = named-rest c i recs slots o rest (sym e ∙ z)
+      follows = named-rest c i recs slots o rest (sym e)
 
       width_is : width (rec_of c.n recs i) ≡ u
       width_is = ap width object-named.rec-at ∙ sym f
@@ -121,13 +126,13 @@ module _ (c : Control) (i k w : ℕ) (recs slots : List ℕ) (o : ℕ) where
       pub front-word : k < u → (v : ℕ) → v ≡ first (word_tests c.n w recs) → v ≡ first (front_tests c i k w recs slots o)
       front-word l v q = q ∙ sym (follows ∙ first-fails 5 (word_tests c.n w recs) _ (rw width_is (lt-leb u k l)))
 
-  module _ (m : ℕ) (e : m ≡ first (front_tests c i k w recs slots o)) (z : m ≡ 0) where
+  module _ (e : 0 ≡ first (front_tests c i k w recs slots o)) where
     abbrev front : List Test
     front = named_tests c i recs slots o
 
     object-passed : first (front ++ rest) ≡ 0
     unfolding front_tests
-    object-passed = sym e ∙ z
+    object-passed = sym e
 
     shown : first front ≡ 0
     shown = go (ℕ_discrete (first front) 0)
@@ -152,6 +157,9 @@ module _ (c : Control) (i k w : ℕ) (recs slots : List ℕ) (o : ℕ) where
 
     pub losses : (c.n ≤ object_max) × (c.write_loss ≤ c.n)
     losses = let N = passed-named in (N.sound.sizes.most, N.sound.writes)
+
+-- for the search, where a test of the object refuses
+pub ruleset fronts = (front-object)
 
 -- where there is an object, no room for any other than n is too little room in one of the two slices
 others-short : (n : ℕ) (list sets : List ℕ) → 1 ≤ n → ltb (others_of list sets) n ≡ short sink_max list || short n sets
@@ -415,23 +423,23 @@ module _ (c : Control) (i k w : ℕ) (recs slots list sets : List ℕ) where
   unfolding Write.write_tests word_tests
   tests-parts = refl
 
-  numbered : Numbered tests
+  above-zero : Numbered tests
   unfolding word_tests
-  numbered = cons (lit< tt) (cons (lit< tt) (cons (lit< tt) (cons (lit< tt) (cons (lit< tt) (cons (lit< tt) (cons (lit< tt) (cons (lit< tt) nil)))))))
+  above-zero = cons (lit< tt) (cons (lit< tt) (cons (lit< tt) (cons (lit< tt) (cons (lit< tt) (cons (lit< tt) (cons (lit< tt) (cons (lit< tt) nil)))))))
 
-  pub refused : (m : ℕ) → m ≡ first (front_tests c i k w recs slots (others_of list sets)) → m ≢ 0
-      → Write.gives (record { refusal = m; control = c }) recs slots sets ≡ Write.write c i k w recs slots list sets
+  pub refused : (r : Refusal) → number r ≡ first (front_tests c i k w recs slots (others_of list sets))
+      → Write.gives (record { refusal = number r; control = c }) recs slots sets ≡ Write.write c i k w recs slots list sets
   unfolding Write.write
-  refused m e d =
-      let f : m ≡ first tests = e ∙ sym (front-spelled c i k w recs slots list sets) in
-      sym (outcome-number _ _ (Write.write_tests c i k w recs slots list sets) m
-      (ap first tests-parts ∙ first-front tests last-test (λ z. d (f ∙ z)) ∙ sym f) d)
+  refused r e =
+      let f : number r ≡ first tests = e ∙ sym (front-spelled c i k w recs slots list sets) in
+      sym (outcome-number _ _ (Write.write_tests c i k w recs slots list sets) (number r)
+      (ap first tests-parts ∙ first-front tests last-test (λ z. numbered r (f ∙ z)) ∙ sym f) (numbered r))
 
-  module _ (m : ℕ) (e : m ≡ first (front_tests c i k w recs slots (others_of list sets))) (z : m ≡ 0) where
+  module _ (e : 0 ≡ first (front_tests c i k w recs slots (others_of list sets))) where
     only-last : first (Write.write_tests c i k w recs slots list sets) ≡ first last-test
     only-last =
         ap first tests-parts
-        ∙ first-skip tests last-test (first-zero tests numbered (front-spelled c i k w recs slots list sets ∙ sym e ∙ z))
+        ∙ first-skip tests last-test (first-zero tests above-zero (front-spelled c i k w recs slots list sets ∙ sym e))
 
     module _ (b : Bool) (f : dissolves (view c.n recs slots) i k (target c.n w) ≡ b) where
       listed-rule : dissolves (heap_in c.n recs slots list) i k (target c.n w) ≡ b
@@ -469,7 +477,7 @@ module _ (c : Control) (i k w : ℕ) (recs slots list sets : List ℕ) where
     stayed b f t rs ss ts x y u =
         let g = sym f ∙ not-true b t in
         let l : Write.loss_after c i k w recs slots list sets ≡ c.write_loss + 0 = loss-by false g in
-        let h = (losses c i k w recs slots (others_of list sets) m e z).1 in
+        let h = (losses c i k w recs slots (others_of list sets) e).1 in
         let same : c.write_loss ≡ Write.loss_after c i k w recs slots list sets = omega arith in
         done false g (omega arith) c (ap (λ (q : ℕ). with_write_loss q c) same) rs ss ts x y u
 
@@ -498,38 +506,23 @@ module _ (c : Control) (i k w : ℕ) (recs slots list sets : List ℕ) where
 
 -- the store to an object in the cluster that is asked for, after the tests
 pub stored-in : (c : Control) (i k w : ℕ) (recs slots : List ℕ) (x : ℕ) → 0 ≡ first (front_tests c i k w recs slots x) → (o : ℕ) → o ≡ x
-    → (r d : ℕ) → r ≡ rec_of c.n recs i → d ≡ cluster r → (a : ℕ) (rs ss : List ℕ) → Attempted c i k w recs slots o d a rs ss
+    → (r d : ℕ) → r ≡ rec_of c.n recs i → d ≡ cluster r → (a : Tried) (rs ss : List ℕ) → Attempted c i k w recs slots o d a rs ss
     → (rs ≡ set recs (i - 1) (with_written true (rec_of c.n recs i))) × (ss ≡ set slots (8 * (i - 1) + k) w)
-stored-in c i k w recs slots x e o g r d q h a rs ss (refuses f z _ _) = absurd (z (f ∙ ap (λ (y : ℕ). first (front_tests c i k w recs slots y)) g ∙ sym e))
+stored-in c i k w recs slots x e o g r d q h a rs ss (refuses y _ f _ _) = absurd (numbered y (f ∙ ap (λ (y : ℕ). first (front_tests c i k w recs slots y)) g ∙ sym e))
 stored-in c i k w recs slots x e o g r d q h a rs ss (passes _ z _ _ _) = absurd (z (sym (h ∙ ap cluster q)))
 stored-in c i k w recs slots x e o g r d q h a rs ss (stores _ _ _ y z) = (y, z)
 
 -- the attempt's ends, by the cluster of the record that is read
-module _ (c : Control) (i k w : ℕ) (recs slots : List ℕ) (o m : ℕ) (e : m ≡ first (front_tests c i k w recs slots o)) (z : m ≡ 0) (h d : ℕ) (f : d ≡ cluster (get_or recs (i - 1) 0)) where
+module _ (c : Control) (i k w : ℕ) (recs slots : List ℕ) (o : ℕ) (e : 0 ≡ first (front_tests c i k w recs slots o)) (h d : ℕ) (f : d ≡ cluster (get_or recs (i - 1) 0)) where
   own-cluster : cluster_of c.n recs i ≡ d
-  own-cluster = ap cluster (passed-named c i k w recs slots o m e z).rec-at ∙ sym f
+  own-cluster = ap cluster (passed-named c i k w recs slots o e).rec-at ∙ sym f
 
-  pub ends-elsewhere : d ≢ h → Attempted c i k w recs slots o h 63 recs slots
-  ends-elsewhere q = passes (sym z ∙ e) (λ y. q (sym own-cluster ∙ y)) refl refl refl
+  pub ends-elsewhere : d ≢ h → Attempted c i k w recs slots o h Elsewhere recs slots
+  ends-elsewhere q = passes e (λ y. q (sym own-cluster ∙ y)) refl refl refl
 
   pub ends-stored : d ≡ h → (rs ss : List ℕ) → rs ≡ set recs (i - 1) (with_written true (rec_of c.n recs i)) → ss ≡ set slots (8 * (i - 1) + k) w
-      → Attempted c i k w recs slots o h 0 rs ss
-  ends-stored q rs ss = stores (sym z ∙ e) (own-cluster ∙ q) refl
-
--- a refusal is below 63
-low : (m : ℕ) (b : Bool) (l : List Test) → m < 63 → first l < 63 → first ((m, b) ∷ l) < 63
-unfolding first
-low m true l h r = h
-low m false l h r = r
-
-none-low : first [] < 63
-unfolding first
-none-low = lit< tt
-
-front_low : (c : Control) (i k w : ℕ) (recs slots : List ℕ) (o : ℕ) → first (front_tests c i k w recs slots o) < 63
-unfolding front_tests named_tests word_tests
-front_low c i k w recs slots o =
-    low 20 _ _ (lit< tt) (low 2 _ _ (lit< tt) (low 4 _ _ (lit< tt) (low 21 _ _ (lit< tt) (low 22 _ _ (lit< tt) (low 5 _ _ (lit< tt) (low 6 _ _ (lit< tt) (low 23 _ [] (lit< tt) none-low)))))))
+      → Attempted c i k w recs slots o h Stored rs ss
+  ends-stored q rs ss = stores e (own-cluster ∙ q) refl
 
 -- one that stored nothing because the object is elsewhere
 pub record Left (c : Control) (i k w : ℕ) (recs slots : List ℕ) (o : ℕ) (rs ss : List ℕ) : Type 0 where
@@ -537,47 +530,28 @@ pub record Left (c : Control) (i k w : ℕ) (recs slots : List ℕ) (o : ℕ) (r
   pub slots-left : ss ≡ slots
   pub passed : 0 ≡ first (front_tests c i k w recs slots o)
 
-pub left : (c : Control) (i k w : ℕ) (recs slots : List ℕ) (o h a : ℕ) (rs ss : List ℕ) → Attempted c i k w recs slots o h a rs ss → a ≡ 63 → Left c i k w recs slots o rs ss
-left c i k w recs slots o h a rs ss (refuses e _ _ _) q = let x = front_low c i k w recs slots o in absurd (omega arith)
-left c i k w recs slots o h a rs ss (passes e _ _ x y) q = record { records-left = x; slots-left = y; passed = e }
-left c i k w recs slots o h a rs ss (stores _ _ z _ _) q = absurd (omega arith)
+pub left : (c : Control) (i k w : ℕ) (recs slots : List ℕ) (o h : ℕ) (rs ss : List ℕ)
+    → Attempted c i k w recs slots o h Elsewhere rs ss → Left c i k w recs slots o rs ss
+left c i k w recs slots o h rs ss (refuses _ q _ _ _) = cc
+left c i k w recs slots o h rs ss (passes e _ _ x y) = record { records-left = x; slots-left = y; passed = e }
+left c i k w recs slots o h rs ss (stores _ _ q _ _) = cc
 
 -- ---- the store to a member
 
 -- its ends
-module _ (c : Control) (i k w : ℕ) (recs slots list sets : List ℕ) (b : Bool) (f : b ≡ dissolves (view c.n recs slots) i k (target c.n w)) (may : Bool) where
+module _ (c : Control) (i k w : ℕ) (recs slots list sets : List ℕ) (b : Bool) (f : b ≡ dissolves (view c.n recs slots) i k (target c.n w)) where
   pub ends-kept : not b ≡ true → (rs ss ts : List ℕ) → rs ≡ encoded (store_by false (view c.n recs slots) i k (target c.n w)) recs
-      → ss ≡ set slots (8 * (i - 1) + k) w → ts ≡ sets_by false c.n i k w recs slots list sets → Settled c i k w recs slots list sets may 0 rs ss ts
-  ends-kept t rs ss ts = keeps (sym (not-true b t) ∙ f) refl
+      → ss ≡ set slots (8 * (i - 1) + k) w → ts ≡ sets_by false c.n i k w recs slots list sets → Settled c i k w recs slots list sets (Ok tt) rs ss ts c
+  ends-kept t rs ss ts p q r = keeps (sym (not-true b t) ∙ f) refl p q r refl
 
-  module _ (t : not b ≡ false) where
-    pub ends-broken : may ≡ true → (rs ss ts : List ℕ) → rs ≡ encoded (store_by true (view c.n recs slots) i k (target c.n w)) recs
-        → ss ≡ set slots (8 * (i - 1) + k) w → ts ≡ sets_by true c.n i k w recs slots list sets → Settled c i k w recs slots list sets may 0 rs ss ts
-    ends-broken o rs ss ts = breaks (sym (not-false b t) ∙ f) o refl
+  module _ (t : not b ≡ false) (l : ℕ) (g : l ≡ c.write_loss + members_of c.n recs (cluster_of c.n recs i)) where
+    pub ends-full : c.n < l → Settled c i k w recs slots list sets (Err LossFull) recs slots sets c
+    ends-full h = overflows (sym (not-false b t) ∙ f) l g h refl refl refl refl refl
 
-    module _ (o : may ≡ false) (l : ℕ) (g : l ≡ c.write_loss + members_of c.n recs (cluster_of c.n recs i)) where
-      pub ends-full : c.n < l → Settled c i k w recs slots list sets may 25 recs slots sets
-      ends-full h = overflows (sym (not-false b t) ∙ f) o l g h refl refl refl refl
-
-      pub ends_asked : l ≤ c.n → Settled c i k w recs slots list sets may (64 + l) recs slots sets
-      ends_asked h = asks (sym (not-false b t) ∙ f) o l g h refl refl refl refl
-
--- what is known once it asked
-record Asked (c : Control) (i k w : ℕ) (recs slots list sets : List ℕ) (a : ℕ) (rs ss ts : List ℕ) : Type 0 where
-  dissolving : true ≡ dissolves (view c.n recs slots) i k (target c.n w)
-  loss : a - 64 ≡ c.write_loss + members_of c.n recs (cluster_of c.n recs i)
-  fits : a - 64 ≤ c.n
-  records-left : rs ≡ recs
-  slots-left : ss ≡ slots
-  sets-left : ts ≡ sets
-
--- the tests pass with a loss that is not above n, too
-with-loss : (c : Control) (i k w : ℕ) (recs slots : List ℕ) (o l : ℕ) → 0 ≡ first (front_tests c i k w recs slots o) → l ≤ c.n
-    → first (front_tests (with_write_loss l c) i k w recs slots o) ≡ 0
-unfolding front_tests named_tests with_write_loss
-with-loss c i k w recs slots o l e h =
-    let s = (passed-named c i k w recs slots o 0 e refl).sound in
-    first-fails 20 _ _ (facts-control _ (writes-sound c s l h)) ∙ (first-passed 19 _ _ (sym e)).1
+    pub ends-broken : l ≤ c.n → (rs ss ts : List ℕ) → rs ≡ encoded (store_by true (view c.n recs slots) i k (target c.n w)) recs
+        → ss ≡ set slots (8 * (i - 1) + k) w → ts ≡ sets_by true c.n i k w recs slots list sets
+        → (d : Control) → d ≡ with_write_loss l c → Settled c i k w recs slots list sets (Ok tt) rs ss ts d
+    ends-broken h rs ss ts p q r d = breaks (sym (not-false b t) ∙ f) l g h refl p q r
 
 -- ---- the answer
 
@@ -593,91 +567,54 @@ module _ (c : Control) (i k w : ℕ) (recs slots list sets : List ℕ) where
       → rs ≡ set recs (i - 1) (with_written true (rec_of c.n recs i)) → ss ≡ set slots (8 * (i - 1) + k) w → outcome c 0 rs ss sets
   unfolding sets_by
   loose-stored e q rs ss p y =
-      let s = slot-there c i k w recs slots others 0 e refl in
-      let N = passed-named c i k w recs slots others 0 e refl in
-      stayed c i k w recs slots list sets 0 e refl false (dissolves-none c.n i k recs slots s w _ _ refl refl q) refl rs ss sets
+      let s = slot-there c i k w recs slots others e in
+      let N = passed-named c i k w recs slots others e in
+      stayed c i k w recs slots list sets e false (dissolves-none c.n i k recs slots s w _ _ refl refl q) refl rs ss sets
       (p ∙ stays-loose c.n i k w recs slots s N.legal q) y
       (set-none c.n i recs (store_by false (heap_in c.n recs slots list) i k (target c.n w)) sets _ _ refl refl q)
 
-  module _ (o : ℕ) (g : o ≡ others) (a₁ : ℕ) (rs₁ ss₁ : List ℕ) (t : Attempted c i k w recs slots o 0 a₁ rs₁ ss₁) where
-    -- an attempt that refused or stored
-    pub answered : a₁ ≢ 63 → outcome c a₁ rs₁ ss₁ sets
-    answered d = go (subst (λ (x : ℕ). Attempted c i k w recs slots x 0 a₁ rs₁ ss₁) g t)
+  module _ (o : ℕ) (g : o ≡ others) (rs₁ ss₁ : List ℕ) where
+    -- an attempt that stored
+    pub answered : Attempted c i k w recs slots o 0 Stored rs₁ ss₁ → outcome c 0 rs₁ ss₁ sets
+    answered t = go (subst (λ (x : ℕ). Attempted c i k w recs slots x 0 Stored rs₁ ss₁) g t)
       where
-        go : Attempted c i k w recs slots others 0 a₁ rs₁ ss₁ → outcome c a₁ rs₁ ss₁ sets
-        go (refuses e z p q) = (λ j. Write.gives (record { refusal = a₁; control = c }) (p j) (q j) sets) ∙ refused c i k w recs slots list sets a₁ e z
-        go (passes _ _ z _ _) = absurd (d z)
-        go (stores e q z x y) = ap (λ (n : ℕ). Write.gives (record { refusal = n; control = c }) rs₁ ss₁ sets) z ∙ loose-stored e q rs₁ ss₁ x y
+        go : Attempted c i k w recs slots others 0 Stored rs₁ ss₁ → outcome c 0 rs₁ ss₁ sets
+        go (refuses _ q _ _ _) = cc
+        go (passes _ _ q _ _) = cc
+        go (stores e q _ x y) = loose-stored e q rs₁ ss₁ x y
+
+    -- or refused
+    pub turned_down : (r : Refusal) → Attempted c i k w recs slots o 0 (Refused r) rs₁ ss₁ → (m : ℕ) → m ≡ number r → outcome c m rs₁ ss₁ sets
+    turned_down r t m f = go (subst (λ (x : ℕ). Attempted c i k w recs slots x 0 (Refused r) rs₁ ss₁) g t)
+      where
+        go : Attempted c i k w recs slots others 0 (Refused r) rs₁ ss₁ → outcome c m rs₁ ss₁ sets
+        go (refuses s q e x y) =
+            let g : r ≡ s = cc in
+            let h : m ≡ number s = f ∙ ap number g in
+            (λ j. Write.gives (record { refusal = h j; control = c }) (x j) (y j) sets) ∙ refused c i k w recs slots list sets s e
+        go (passes _ _ q _ _) = cc
+        go (stores _ _ q _ _) = cc
 
     -- one that left a member to its own store
-    module _ (z : a₁ ≡ 63) where
+    module _ (t : Attempted c i k w recs slots o 0 Elsewhere rs₁ ss₁) where
       L : Left c i k w recs slots others rs₁ ss₁
-      L = left c i k w recs slots others 0 a₁ rs₁ ss₁ (subst (λ (x : ℕ). Attempted c i k w recs slots x 0 a₁ rs₁ ss₁) g t) z
+      L = left c i k w recs slots others 0 rs₁ ss₁ (subst (λ (x : ℕ). Attempted c i k w recs slots x 0 Elsewhere rs₁ ss₁) g t)
 
       pub passed_on : 0 ≡ first (front_tests c i k w rs₁ ss₁ others)
       passed_on = L.passed ∙ ap₂ (λ (x y : List ℕ). first (front_tests c i k w x y others)) (sym L.records-left) (sym L.slots-left)
 
-      module _ (a₂ : ℕ) (rs₂ ss₂ ts₂ : List ℕ) (u : Settled c i k w rs₁ ss₁ list sets false a₂ rs₂ ss₂ ts₂) where
-        same : Settled c i k w recs slots list sets false a₂ rs₂ ss₂ ts₂
-        same =
-            subst (λ (x : List ℕ). Settled c i k w x slots list sets false a₂ rs₂ ss₂ ts₂) L.records-left
-            (subst (λ (y : List ℕ). Settled c i k w rs₁ y list sets false a₂ rs₂ ss₂ ts₂) L.slots-left u)
-
-        -- it did not ask
-        pub settled : a₂ < 64 → outcome c a₂ rs₂ ss₂ ts₂
-        settled h = go same
-          where
-            go : Settled c i k w recs slots list sets false a₂ rs₂ ss₂ ts₂ → outcome c a₂ rs₂ ss₂ ts₂
-            go (keeps f z p q r) =
-                ap (λ (n : ℕ). Write.gives (record { refusal = n; control = c }) rs₂ ss₂ ts₂) z ∙ stayed c i k w recs slots list sets 0 L.passed refl false f refl rs₂ ss₂ ts₂ p q r
-            go (overflows f m l v o z p q r) =
-                (λ j. Write.gives (record { refusal = z j; control = c }) (p j) (q j) (r j)) ∙ too_many c i k w recs slots list sets 0 L.passed refl true f refl l v o
-            go (asks f m l v o z p q r) = absurd (omega arith)
-            go (breaks f m z p q r) = absurd (true≢false (sym m))
-
-        -- it asked: nothing was stored, and the tests pass with the loss too
-        module _ (h : 64 ≤ a₂) (d : Control) (y : d ≡ with_write_loss (a₂ - 64) c) where
-          asked : Asked c i k w recs slots list sets a₂ rs₂ ss₂ ts₂
-          asked = go same
-            where
-              go : Settled c i k w recs slots list sets false a₂ rs₂ ss₂ ts₂ → Asked c i k w recs slots list sets a₂ rs₂ ss₂ ts₂
-              go (keeps _ z _ _ _) = absurd (omega arith)
-              go (overflows _ _ _ _ _ z _ _ _) = absurd (omega arith)
-              go (breaks _ _ z _ _ _) = absurd (omega arith)
-              go (asks f m l v o z p q r) = record {
-                dissolving = f;
-                loss = omega arith ∙ v;
-                fits = omega arith;
-                records-left = p;
-                slots-left = q;
-                sets-left = r;
-              }
-
-          pub passed-again : 0 ≡ first (front_tests d i k w rs₂ ss₂ (others_of list ts₂))
-          passed-again =
-              let A = asked in
-              sym (ap (λ (x : Control). first (front_tests x i k w rs₂ ss₂ (others_of list ts₂))) y
-              ∙ (λ j. first (front_tests (with_write_loss (a₂ - 64) c) i k w (A.records-left j) (A.slots-left j) (others_of list (A.sets-left j))))
-              ∙ with-loss c i k w recs slots others (a₂ - 64) L.passed A.fits)
-
-          -- the second time
-          pub settled-again : (b : ℕ) (rs ss ts : List ℕ) → Settled d i k w rs₂ ss₂ list ts₂ true b rs ss ts → outcome d b rs ss ts
-          unfolding with_write_loss
-          settled-again b rs ss ts v = go (subst (λ (x : Control). Settled x i k w recs slots list sets true b rs ss ts) y back)
-            where
-              A : Asked c i k w recs slots list sets a₂ rs₂ ss₂ ts₂
-              A = asked
-
-              back : Settled d i k w recs slots list sets true b rs ss ts
-              back =
-                  subst (λ (x : List ℕ). Settled d i k w x slots list sets true b rs ss ts) A.records-left
-                  (subst (λ (x : List ℕ). Settled d i k w rs₂ x list sets true b rs ss ts) A.slots-left
-                  (subst (λ (x : List ℕ). Settled d i k w rs₂ ss₂ list x true b rs ss ts) A.sets-left v))
-
-              go : Settled (with_write_loss (a₂ - 64) c) i k w recs slots list sets true b rs ss ts → outcome d b rs ss ts
-              go (keeps f _ _ _ _) = absurd (true≢false (A.dissolving ∙ sym f))
-              go (overflows _ m _ _ _ _ _ _ _) = absurd (true≢false m)
-              go (asks _ m _ _ _ _ _ _ _) = absurd (true≢false m)
-              go (breaks f m z p q r) =
-                  ap (λ (x : ℕ). Write.gives (record { refusal = x; control = d }) rs ss ts) z
-                  ∙ dissolved-all c i k w recs slots list sets 0 L.passed refl true A.dissolving refl (a₂ - 64) A.loss A.fits d y rs ss ts p q r
+      -- and what that store answers
+      pub settled : (a : Result Unit Refusal) (rs ss ts : List ℕ) (d : Control) → Settled c i k w rs₁ ss₁ list sets a rs ss ts d
+          → (m : ℕ) → m ≡ refusal_of a → outcome d m rs ss ts
+      settled a rs ss ts d u m e =
+          go (subst (λ (x : List ℕ). Settled c i k w x slots list sets a rs ss ts d) L.records-left
+          (subst (λ (y : List ℕ). Settled c i k w rs₁ y list sets a rs ss ts d) L.slots-left u))
+        where
+          go : Settled c i k w recs slots list sets a rs ss ts d → outcome d m rs ss ts
+          go (keeps f z p q r y) =
+              (λ j. Write.gives (record { refusal = (e ∙ sym z) j; control = y j }) rs ss ts) ∙ stayed c i k w recs slots list sets L.passed false f refl rs ss ts p q r
+          go (overflows f l v o z p q r y) =
+              (λ j. Write.gives (record { refusal = (e ∙ sym z) j; control = y j }) (p j) (q j) (r j)) ∙ too_many c i k w recs slots list sets L.passed true f refl l v o
+          go (breaks f l v o z p q r y) =
+              ap (λ (x : ℕ). Write.gives (record { refusal = x; control = d }) rs ss ts) (e ∙ sym z)
+              ∙ dissolved-all c i k w recs slots list sets L.passed true f refl l v o d y rs ss ts p q r

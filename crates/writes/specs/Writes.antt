@@ -1,10 +1,12 @@
 -- What the functions of a write are held to.
-use Rattle.std.specs.Prelude.{ℕ, ◌+◌, ◌-◌, ◌*◌, ◌≤◌, ◌<◌, ◌≡◌, ◌≢◌, Bool, true, false, not, cond, ◌&&◌, List, [], ◌∷◌, ◌++◌, eqb, leb, length, set}
+use Rattle.std.specs.Prelude.{ℕ, ◌+◌, ◌-◌, ◌*◌, ◌≤◌, ◌<◌, ◌≡◌, ◌≢◌, Bool, true, false, not, cond, ◌&&◌, List, [], ◌∷◌, ◌++◌, eqb, leb, length, set, Result}
 use Rattle.layout.specs.declared.answers.Control.{Control}
 use Rattle.layout.specs.Limits.{width_max, sink_max}
 use Rattle.records.specs.Record.{width, legal, with_written}
 use Rattle.layout.specs.Word.{is_pointer, legal_word}
-use Rattle.layout.specs.Refusal.{Test, first}
+use Rattle.layout.specs.declared.refusals.Refusal.{Refusal}
+use Rattle.layout.specs.ControlRecord.{with_write_loss}
+use Rattle.layout.specs.Refusal.{Test, number, refusal_of, first}
 use Rattle.graph.specs.Heap.{Heap}
 use Rattle.graph.specs.Writes.{dissolves, store_by}
 use Rattle.rules.specs.Buffers.{short, rec_of}
@@ -12,6 +14,8 @@ use Rattle.rules.specs.View.{target, view, heap_in, set_word, encoded}
 use Rattle.table.specs.Named.{named_tests}
 use Rattle.table.specs.Room.{Room}
 use Rattle.table.specs.Clusters.{cluster_of, members_of}
+use Rattle.writes.specs.declared.write.Tried.{Tried}
+use Rattle.writes.specs.declared.write.Tried.TheVariants.{Stored, Elsewhere, Refused}
 
 -- the tests of the word that is to be stored
 unfoldable pub word_tests : ℕ → ℕ → List ℕ → List Test
@@ -41,26 +45,25 @@ with_set H h sets = cond (eqb h 0) sets (set sets (h - 1) (set_word H h))
 unfoldable pub sets_by : Bool → ℕ → ℕ → ℕ → ℕ → List ℕ → List ℕ → List ℕ → List ℕ → List ℕ
 sets_by d n i k w recs slots list sets = with_set (store_by d (heap_in n recs slots list) i k (target n w)) (cluster_of n recs i) sets
 
--- what an attempt at a write answers and leaves: a refusal, 63 where the object is not in cluster h, or the word stored
-pub data Attempted (c : Control) (i k w : ℕ) (recs slots : List ℕ) (others h a : ℕ) (rs ss : List ℕ) : Type 0 where
-  refuses : a ≡ first (front_tests c i k w recs slots others) → a ≢ 0 → rs ≡ recs → ss ≡ slots → Attempted c i k w recs slots others h a rs ss
-  passes : 0 ≡ first (front_tests c i k w recs slots others) → cluster_of c.n recs i ≢ h → a ≡ 63 → rs ≡ recs → ss ≡ slots
+-- what an attempt at a write answers and leaves: a refusal, or that the object is not in cluster h, or the word stored
+pub data Attempted (c : Control) (i k w : ℕ) (recs slots : List ℕ) (others h : ℕ) (a : Tried) (rs ss : List ℕ) : Type 0 where
+  refuses : (e : Refusal) → a ≡ Refused e → number e ≡ first (front_tests c i k w recs slots others) → rs ≡ recs → ss ≡ slots
       → Attempted c i k w recs slots others h a rs ss
-  stores : 0 ≡ first (front_tests c i k w recs slots others) → cluster_of c.n recs i ≡ h → a ≡ 0
+  passes : 0 ≡ first (front_tests c i k w recs slots others) → cluster_of c.n recs i ≢ h → a ≡ Elsewhere → rs ≡ recs → ss ≡ slots
+      → Attempted c i k w recs slots others h a rs ss
+  stores : 0 ≡ first (front_tests c i k w recs slots others) → cluster_of c.n recs i ≡ h → a ≡ Stored
       → rs ≡ set recs (i - 1) (with_written true (rec_of c.n recs i)) → ss ≡ set slots (width_max * (i - 1) + k) w
       → Attempted c i k w recs slots others h a rs ss
 
--- what a store to a member answers and leaves: the word stored, with the cluster or without it, or the loss after a store that may not dissolve yet
-pub data Settled (c : Control) (i k w : ℕ) (recs slots list sets : List ℕ) (may : Bool) (a : ℕ) (rs ss ts : List ℕ) : Type 0 where
-  keeps : false ≡ dissolves (view c.n recs slots) i k (target c.n w) → a ≡ 0
+-- what a store to a member answers and leaves: the word stored, with the cluster or without it and its loss counted, or a loss too large
+pub data Settled (c : Control) (i k w : ℕ) (recs slots list sets : List ℕ) (a : Result Unit Refusal) (rs ss ts : List ℕ) (d : Control) : Type 0 where
+  keeps : false ≡ dissolves (view c.n recs slots) i k (target c.n w) → 0 ≡ refusal_of a
       → rs ≡ encoded (store_by false (view c.n recs slots) i k (target c.n w)) recs → ss ≡ set slots (width_max * (i - 1) + k) w
-      → ts ≡ sets_by false c.n i k w recs slots list sets → Settled c i k w recs slots list sets may a rs ss ts
-  overflows : true ≡ dissolves (view c.n recs slots) i k (target c.n w) → may ≡ false
-      → (l : ℕ) → l ≡ c.write_loss + members_of c.n recs (cluster_of c.n recs i) → c.n < l → a ≡ 25 → rs ≡ recs → ss ≡ slots → ts ≡ sets
-      → Settled c i k w recs slots list sets may a rs ss ts
-  asks : true ≡ dissolves (view c.n recs slots) i k (target c.n w) → may ≡ false
-      → (l : ℕ) → l ≡ c.write_loss + members_of c.n recs (cluster_of c.n recs i) → l ≤ c.n → a ≡ 64 + l → rs ≡ recs → ss ≡ slots → ts ≡ sets
-      → Settled c i k w recs slots list sets may a rs ss ts
-  breaks : true ≡ dissolves (view c.n recs slots) i k (target c.n w) → may ≡ true → a ≡ 0
+      → ts ≡ sets_by false c.n i k w recs slots list sets → d ≡ c → Settled c i k w recs slots list sets a rs ss ts d
+  overflows : true ≡ dissolves (view c.n recs slots) i k (target c.n w)
+      → (l : ℕ) → l ≡ c.write_loss + members_of c.n recs (cluster_of c.n recs i) → c.n < l → 25 ≡ refusal_of a → rs ≡ recs → ss ≡ slots → ts ≡ sets
+      → d ≡ c → Settled c i k w recs slots list sets a rs ss ts d
+  breaks : true ≡ dissolves (view c.n recs slots) i k (target c.n w)
+      → (l : ℕ) → l ≡ c.write_loss + members_of c.n recs (cluster_of c.n recs i) → l ≤ c.n → 0 ≡ refusal_of a
       → rs ≡ encoded (store_by true (view c.n recs slots) i k (target c.n w)) recs → ss ≡ set slots (width_max * (i - 1) + k) w
-      → ts ≡ sets_by true c.n i k w recs slots list sets → Settled c i k w recs slots list sets may a rs ss ts
+      → ts ≡ sets_by true c.n i k w recs slots list sets → d ≡ with_write_loss l c → Settled c i k w recs slots list sets a rs ss ts d

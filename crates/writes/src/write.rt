@@ -2,7 +2,7 @@
 ghost use Rattle.std.specs.Prelude.{◌≡◌, true, false, cond, ◌+◌, ◌-◌, ◌*◌, ◌≤◌, ◌<◌, eqb, length, get_or, set};
 ghost use Rattle.layout.specs.Limits.{width_max, object_max};
 ghost use Rattle.records.specs.Record.{with_written};
-ghost use Rattle.layout.specs.Refusal.{first};
+ghost use Rattle.layout.specs.Refusal.{first, refusal_of};
 ghost use Rattle.graph.specs.Numbers.{has};
 ghost use Rattle.graph.specs.Writes.{dissolves, store_by};
 ghost use Rattle.rules.specs.Buffers.{rec_of, used_words};
@@ -13,7 +13,7 @@ ghost use Rattle.writes.specs.Writes.{word_tests, others_of, front_tests, Slot, 
 
 use layout::answers::{Control, Done};
 use layout::limits::{SINK_MAX, slots_len};
-use layout::refusals::{BAD_WORD, LOSS_FULL, NAMES_NONE, NO_SLOT};
+use layout::refusals::{Refusal, refusal_of};
 use layout::words::{Word, sort_word};
 use places::cluster_set;
 use records::{cluster_of, legal, width_of, with_out, with_written};
@@ -22,22 +22,22 @@ use table::named::object_refusal;
 
 // ---- the tests
 
-// The first of the word's tests that holds, 0 where none does.
-fn word_refusal(n: u32, word: u32, records: &[u32]) -> u32
+// The first of the word's tests that holds refuses.
+fn word_refusal(n: u32, word: u32, records: &[u32]) -> Result<(), Refusal>
     requires { (n ≤ object_max) × (n ≤ length records.now) }
-    ensures { result ≡ first (word_tests n word records.now) }
+    ensures { refusal_of result ≡ first (word_tests n word records.now) }
 {
     match sort_word(n, word) {
-        Word::Nil => 0,
+        Word::Nil => Ok(()),
         Word::Object(x) => {
             if legal(n, records[(x - 1) as usize]) {
-                0
+                Ok(())
             } else {
-                NAMES_NONE
+                Err(Refusal::NamesNone)
             }
         }
-        Word::Immediate => 0,
-        Word::Illegal => BAD_WORD,
+        Word::Immediate => Ok(()),
+        Word::Illegal => Err(Refusal::BadWord),
     }
 }
 
@@ -51,8 +51,9 @@ fn others(sinks: &[u32], sets: &[u64]) -> usize
     sets.len()
 }
 
-// The first test of a write that holds, but for the last test; 0 where none does. The slices that only the caller knows have room for
-// `others` objects.
+// The first test of a write that holds, but for the last test, refuses. The slices that only the caller knows have room for `others`
+// objects.
+#[tactic(auto, using(crate::proofs::WriteLaws::fronts))]
 fn write_refusal(
     c: Control,
     object: u32,
@@ -61,15 +62,12 @@ fn write_refusal(
     records: &[u32],
     slots: &[u32],
     others: usize,
-) -> u32
-    ensures { result ≡ first (front_tests c object slot word records.now slots.now others) }
+) -> Result<(), Refusal>
+    ensures { refusal_of result ≡ first (front_tests c object slot word records.now slots.now others) }
 {
-    let k = object_refusal(c, object, records, slots, others);
-    if k != 0 {
-        return k;
-    }
+    object_refusal(c, object, records, slots, others)?;
     if width_of(records[(object - 1) as usize]) <= slot {
-        return NO_SLOT;
+        return Err(Refusal::NoSlot);
     }
     word_refusal(c.n, word, records)
 }
@@ -100,12 +98,10 @@ fn still_holds(
 {
     let width = width_of(record_of(n, object, records));
     let at = slots_len(object - 1);
-    let mut k: u32 = 0;
-    while k < width {
+    for k in 0..width {
         if word_after(slot, word, k, at, slots) == pointer {
             return true;
         }
-        k += 1;
     }
     false
 }
@@ -198,14 +194,18 @@ fn store_staying(
 
 // ---- the call
 
-// Above all refusals: what `attempt` answers for an object in another cluster.
-const ELSEWHERE: u32 = 63;
-
-// And what `store_member` answers from here on is a write loss.
-const LOSS: u32 = 64;
+// What `attempt` comes to.
+#[derive(Clone, Copy)]
+enum Tried {
+    Stored,
+    // The object is in another cluster, and nothing is stored.
+    Elsewhere,
+    Refused(Refusal),
+}
 
 // The tests, and then the store, where the object is in this cluster: 0 is for none. An object in no cluster has no out bit, and there
 // is no set to make.
+#[inline(never)]
 fn attempt(
     c: Control,
     object: u32,
@@ -215,22 +215,20 @@ fn attempt(
     slots: &mut [u32],
     others: usize,
     cluster: u32,
-) -> u32
+) -> Tried
     ensures { Attempted c object slot word records.old slots.old others cluster result records.new slots.new }
 {
-    let refusal = write_refusal(c, object, slot, word, records, slots, others);
-    if refusal != 0 {
-        return refusal;
+    if let Err(e) = write_refusal(c, object, slot, word, records, slots, others) {
+        return Tried::Refused(e);
     }
     if cluster_of(records[(object - 1) as usize]) != cluster {
-        return ELSEWHERE;
+        return Tried::Elsewhere;
     }
     store_word(c.n, object, slot, word, records, slots);
-    0
+    Tried::Stored
 }
 
-// A store that dissolves the object's cluster: every member becomes loose, and the set is empty. The word is stored by `attempt`,
-// which stays a function because it is called here too (docs/BENCHMARK.md, "Write").
+// A store that dissolves the object's cluster: every member becomes loose, and the set is empty.
 fn store_dissolving(
     c: Control,
     object: u32,
@@ -249,15 +247,15 @@ fn store_dissolving(
 {
     let h = cluster_of(record_of(c.n, object, records));
     let room = others(sinks, sets);
-    attempt(c, object, slot, word, records, slots, room, h);
+    let _ = attempt(c, object, slot, word, records, slots, room, h);
     dissolve(c.n, h, records);
     put_set(h, 0, sets);
 }
 
-// The store to a member of a cluster, after the tests. One that dissolves the cluster is made only where it `may`. Where it may not,
-// nothing is stored, and the write loss after it is answered, with LOSS added.
+// The store to a member of a cluster, after the other tests. The loss of one that dissolves the cluster is set in the control record.
+#[inline(never)]
 fn store_member(
-    c: Control,
+    c: &mut Control,
     object: u32,
     slot: u32,
     word: u32,
@@ -265,30 +263,28 @@ fn store_member(
     slots: &mut [u32],
     sinks: &[u32],
     sets: &mut [u64],
-    may: bool,
-) -> u32
-    requires { 0 ≡ first (front_tests c object slot word records.old slots.old (others_of sinks.now sets.old)) }
-    ensures { Settled c object slot word records.old slots.old sinks.now sets.old may result
-        records.new slots.new sets.new }
+) -> Result<(), Refusal>
+    requires { 0 ≡ first (front_tests c.old object slot word records.old slots.old (others_of sinks.now sets.old)) }
+    ensures { Settled c.old object slot word records.old slots.old sinks.now sets.old result
+        records.new slots.new sets.new c.new }
 {
     if !does_dissolve(c.n, object, slot, word, records, slots) {
         store_staying(c.n, object, slot, word, records, slots, &sinks[..], sets);
-        return 0;
+        return Ok(());
     }
-    if may {
-        store_dissolving(c, object, slot, word, records, slots, &sinks[..], sets);
-        return 0;
-    }
-    let loss = loss_after(c, object, records);
+    let loss = loss_after(*c, object, records);
     if c.n < loss {
-        return LOSS_FULL;
+        return Err(Refusal::LossFull);
     }
-    LOSS + loss
+    store_dissolving(*c, object, slot, word, records, slots, &sinks[..], sets);
+    c.write_loss = loss;
+    Ok(())
 }
 
-// Most writes are to objects in no cluster, and `attempt` makes them. A store that dissolves a cluster is tried a second time, with its
-// loss in the control record, set in place. What is called in two places the compiler leaves a function; so it puts this one into both
-// exports, and copies a record that stays whole (docs/BENCHMARK.md, "Write").
+// Most writes are to objects in no cluster, and `attempt` makes them. It and `store_member` stay functions that take the control record
+// where it is: so this one is short enough to be put into both exports, and copies a record that stays whole (docs/BENCHMARK.md, "Write").
+
+#[inline(always)]
 pub fn write(
     c: Control,
     object: u32,
@@ -305,16 +301,15 @@ pub fn write(
     let list = &sinks[..];
     let mut d = c;
     let room = others(list, sets);
-    let mut k = attempt(d, object, slot, word, records, slots, room, 0);
-    if k == ELSEWHERE {
-        k = store_member(d, object, slot, word, records, slots, list, sets, false);
-        if LOSS <= k {
-            d.write_loss = k - LOSS;
-            k = store_member(d, object, slot, word, records, slots, list, sets, true);
+    let refusal = match attempt(c, object, slot, word, records, slots, room, 0) {
+        Tried::Stored => 0,
+        Tried::Elsewhere => {
+            refusal_of(store_member(&mut d, object, slot, word, records, slots, list, sets))
         }
-    }
+        Tried::Refused(e) => u32::from(e),
+    };
     Done {
-        refusal: k,
+        refusal: refusal,
         control: d,
     }
 }

@@ -1,6 +1,4 @@
 -- `loads::chunks::rest_refusal` goes from chunk to chunk. Assumes nothing.
-use Rattle.std.proofs.Common.{rules}
-use mathlib.Core.Path.{sym, ◌∙◌}
 use Rattle.std.proofs.lemmas.Result.{err_from_is_err_and}
 use Rattle.loads.proofs.ImageLaws.{chunk-uncut}
 use Rattle.loads.proofs.TailLaws.{going_start, going-zero, going-turn, going-stop, going_end}

@@ -20,12 +20,6 @@ returns-then-word_after-pointer c =
     still-there _ _ _ _ _ s _ _ _ d r _ c.loop-k.k c.loop-k-test.true
     (sym (after-at _ _ _ _ _ s _ _ _ d r c.loop-k.k c.loop-k-test.true _ c.slots_len-at.ensures _ c.word_after.ensures) ∙ c.if-word_after-pointer.true)
 
-pub overflow_add-k : goal.overflow_add-k
-overflow_add-k c = omega arith
-
-pub loop-k-smaller : goal.loop-k-smaller
-loop-k-smaller c = omega arith
-
 pub loop-k-preserved : goal.loop-k-preserved
 loop-k-preserved c =
     let s = c.requires in
