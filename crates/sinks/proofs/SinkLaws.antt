@@ -5,6 +5,8 @@ use mathlib.Core.Path.{◌≡◌, refl, sym, ap, ap₂, ◌∙◌, fun_ext}
 use mathlib.Core.Bool.{Bool, true, false, not, cond, ◌&&◌, false≢true}
 use mathlib.Core.Logic.{◌≢◌}
 use mathlib.Core.List.{List, map, ◌++◌}
+use Rattle.std.specs.Prelude.{Option, Some, None, min}
+use Rattle.std.specs.Option.{is_some}
 use native.Mathlib.Decide.{ℕ_discrete, dec_lt, dec_le}
 use native.Mathlib.Omega.{arith}
 use native.Mathlib.Numerals.{add-one}
@@ -45,7 +47,7 @@ use Rattle.rules.proofs.StoreLaws.{rec_of-zero, rec_of-place, stored-alike, rec_
 use Rattle.table.specs.Clusters.{dissolved, dissolved_record}
 use Rattle.table.proofs.RoomLaws.{heap-long}
 use Rattle.wellformed.proofs.CheckLaws.{checked-is}
-use Rattle.sinks.specs.Sinks.{made_exact, FirstEmpty}
+use Rattle.sinks.specs.Sinks.{made_exact, EmptyAt, FirstEmpty}
 
 -- ---- the first empty place
 
@@ -67,46 +69,38 @@ module _ (list : List ℕ) where
         more j h (yes d) = rw d (λ z. e (sym (get_or-take sink_max list k 0 p) ∙ z))
         more j h (no d) = F.filled j (omega (arith, d))
 
-    pub found : k < sink_max → get_or list k 0 ≡ 0 → FirstEmpty (take sink_max list) k
-    found p e =
+    pub found : k < sink_max → k < length list → get_or list k 0 ≡ 0 → EmptyAt (take sink_max list) k
+    found p q e =
         let n = length-take sink_max list in
-        let l = F.inside in
-        record { low = omega arith; empty = get_or-take sink_max list k 0 p ∙ e; filled = F.filled }
+        record { inside = omega arith; empty = get_or-take sink_max list k 0 p ∙ e; filled = F.filled }
 
     -- all are filled
-    past_all : length (take sink_max list) ≡ k → FirstEmpty (take sink_max list) k
-    past_all e = record { low = omega arith; empty = get_or-eq_default (take sink_max list) 0 (omega arith); filled = F.filled }
+    pub past_all : (e : ℕ) → e ≡ min (length list) sink_max → e ≤ k → (j : ℕ) → j < length (take sink_max list) → get_or (take sink_max list) j 0 ≢ 0
+    past_all e d p j q = F.filled j (let n = length-take sink_max list in omega arith)
 
-    pub past-list : length list ≤ k → FirstEmpty (take sink_max list) k
-    past-list p = past_all (let n = length-take sink_max list in let a = F.most in let b = F.inside in omega arith)
+-- whether a place is empty, by what was found
+pub has-empty : (l : List ℕ) (k : ℕ) → EmptyAt l k → has 0 l ≡ true
+has-empty l k F = has-at 0 l k F.inside F.empty
 
-    pub past-places : sink_max ≤ k → FirstEmpty (take sink_max list) k
-    past-places p = past_all (let n = length-take sink_max list in let a = F.most in let b = F.inside in omega arith)
+pub no-empty : (l : List ℕ) → ((j : ℕ) → j < length l → get_or l j 0 ≢ 0) → has 0 l ≡ false
+no-empty l f = has-none 0 l f
 
--- whether a place is empty, by the place that was found
-module _ (l : List ℕ) (k : ℕ) (F : FirstEmpty l k) where
-  pub has-empty : k < length l → has 0 l ≡ true
-  has-empty p = has-at 0 l k p F.empty
+pub some-place : (l : List ℕ) → has 0 l ≡ true → (r : Option ℕ) → FirstEmpty l r → is_some r ≡ true
+some-place l e (Some k) F = refl
+some-place l e None F = absurd (false≢true (sym (no-empty l F) ∙ e))
 
-  pub no-empty : length l ≤ k → has 0 l ≡ false
-  no-empty p = has-none 0 l (λ q h. F.filled q (omega arith))
-
-  pub place_inside : has 0 l ≡ true → k < length l
-  place_inside e = go (dec_lt k (length l))
-    where
-      go : Dec (k < length l) → k < length l
-      go (yes p) = p
-      go (no p) = absurd (false≢true (sym (no-empty (omega (arith, p))) ∙ e))
+pub its-place : (l : List ℕ) (r : Option ℕ) → FirstEmpty l r → (k : ℕ) → r ≡ Some k → EmptyAt l k
+its-place l r F k e = rw e at F
 
 -- it is in the slice
-pub place-low : (list : List ℕ) → has 0 (take sink_max list) ≡ true → (k : ℕ) → FirstEmpty (take sink_max list) k → (k < sink_max) × (k < length list)
-place-low list e k F = let p = place_inside (take sink_max list) k F e in let n = length-take sink_max list in (omega arith, omega arith)
+pub place-low : (list : List ℕ) (k : ℕ) → EmptyAt (take sink_max list) k → (k < sink_max) × (k < length list)
+place-low list k F = let p = F.inside in let n = length-take sink_max list in (omega arith, omega arith)
 
 -- the object in it
-pub placed-there : (o : ℕ) (list : List ℕ) → sink_max ≤ length list → has 0 (take sink_max list) ≡ true → (k : ℕ) → FirstEmpty (take sink_max list) k
+pub placed-there : (o : ℕ) (list : List ℕ) → sink_max ≤ length list → (k : ℕ) → EmptyAt (take sink_max list) k
     → set list k o ≡ placed o (take sink_max list) ++ drop sink_max list
-placed-there o list long e k F =
-    sym (placed-set o sink_max list long (record { place = k; inside = place_inside (take sink_max list) k F e; vacant = F.empty; before = F.filled }))
+placed-there o list long k F =
+    sym (placed-set o sink_max list long (record { place = k; inside = F.inside; vacant = F.empty; before = F.filled }))
 
 -- ---- the tests
 
@@ -149,15 +143,12 @@ module _ (c : Control) (i : ℕ) (recs slots roots list sets : List ℕ) where
             pub is-again : s ≡ true → 0 ≡ answer
             is-again y = sym (last-test ∙ rw y refl)
 
-            module _ (y : s ≡ false) (k : ℕ) (F : FirstEmpty (take sink_max list) k) where
-              places-long : length (take sink_max list) ≡ sink_max
-              places-long = length-take-le sink_max list (heap-long c.n c.r recs slots roots list sets (sym eh ∙ t)).sinks-long
+            module _ (y : s ≡ false) where
+              pub has-place : (k : ℕ) → EmptyAt (take sink_max list) k → 0 ≡ answer
+              has-place k F = sym (last-test ∙ rw (y, has-empty (take sink_max list) k F) refl)
 
-              pub has-place : k < sink_max → 0 ≡ answer
-              has-place p = sym (last-test ∙ rw (y, has-empty (take sink_max list) k F (rw places-long p)) refl)
-
-              pub is-full : sink_max ≤ k → 29 ≡ answer
-              is-full p = sym (last-test ∙ rw (y, no-empty (take sink_max list) k F (rw places-long p)) refl)
+              pub is-full : ((j : ℕ) → j < length (take sink_max list) → get_or (take sink_max list) j 0 ≢ 0) → 29 ≡ answer
+              is-full f = sym (last-test ∙ rw (y, no-empty (take sink_max list) f) refl)
 
   -- 0 says that the object has a record, and what is known of the slices and of the list
   pub record Named : Type 0 where
@@ -249,13 +240,20 @@ module _ (n : ℕ) (slots base : List ℕ) where
             ∙ P.same x;
       }
 
-  pub passed-all : (i : ℕ) (recs : List ℕ) → Passed i recs → n ≤ i → recs ≡ made_exact n slots base
+  passed-all : (i : ℕ) (recs : List ℕ) → Passed i recs → n ≤ i → recs ≡ made_exact n slots base
   passed-all i recs P p =
       let z : n - i ≡ 0 = omega arith in
       sym (ap (λ (k : ℕ). pass_from 1 i k one recs) z ∙ pass-end 1 i one recs) ∙ P.rest
 
-  pub passed-past : (i : ℕ) (recs : List ℕ) → Passed i recs → length recs ≤ i → recs ≡ made_exact n slots base
+  passed-past : (i : ℕ) (recs : List ℕ) → Passed i recs → length recs ≤ i → recs ≡ made_exact n slots base
   passed-past i recs P p = sym (pass-past 1 i (n - i) one recs p) ∙ P.rest
+
+  pub passed-end : (i : ℕ) (recs : List ℕ) → Passed i recs → (m : ℕ) → length recs ≡ m → (e : ℕ) → e ≡ min m n → e ≤ i → recs ≡ made_exact n slots base
+  passed-end i recs P m l e d p = go (dec_le n i)
+    where
+      go : Dec (n ≤ i) → recs ≡ made_exact n slots base
+      go (yes h) = passed-all i recs P h
+      go (no h) = passed-past i recs P (omega (arith, h))
 
 -- ---- the three steps
 
@@ -461,21 +459,22 @@ encoded-listed : (n : ℕ) (recs slots list : List ℕ) (i : ℕ) → encoded (d
 unfolding encoded declare
 encoded-listed n recs slots list i = refl
 
-module _ (c : Control) (i : ℕ) (recs slots roots list sets : List ℕ) (k : ℕ) (e : k ≡ first (declare_tests c i recs slots roots list sets)) where
-  pub refused : k ≢ 0 → gives (record { refusal = k; control = c }) recs list sets ≡ declare_sink c i recs slots roots list sets
+module _ (c : Control) (i : ℕ) (recs slots roots list sets : List ℕ) where
+  pub refused : (k : ℕ) → k ≡ first (declare_tests c i recs slots roots list sets) → k ≢ 0
+      → gives (record { refusal = k; control = c }) recs list sets ≡ declare_sink c i recs slots roots list sets
   unfolding declare_sink
-  refused z = sym (outcome-number _ _ (declare_tests c i recs slots roots list sets) k (sym e) z)
+  refused k e z = sym (outcome-number _ _ (declare_tests c i recs slots roots list sets) k (sym e) z)
 
-  module _ (z : k ≡ 0) where
+  module _ (e : 0 ≡ first (declare_tests c i recs slots roots list sets)) where
     pub facts : Named c i recs slots roots list sets
-    facts = named c i recs slots roots list sets (sym e ∙ z)
+    facts = named c i recs slots roots list sets (sym e)
 
     here : rec_of c.n recs i ≡ get_or recs (i - 1) 0
     here = rec_of-get c.n recs i facts.low facts.high
 
     pub again : is_sink (get_or recs (i - 1) 0) ≡ true → gives (record { refusal = 0; control = c }) recs list sets ≡ declare_sink c i recs slots roots list sets
     unfolding declare_sink
-    again s = sym (outcome-zero _ _ (declare_tests c i recs slots roots list sets) (sym e ∙ z) ∙ rw (here, s) refl)
+    again s = sym (outcome-zero _ _ (declare_tests c i recs slots roots list sets) (sym e) ∙ rw (here, s) refl)
 
     module _ (s : is_sink (get_or recs (i - 1) 0) ≡ false) where
       no-sink : is_sink (rec_of c.n recs i) ≡ false
@@ -514,7 +513,7 @@ module _ (c : Control) (i : ℕ) (recs slots roots list sets : List ℕ) (k : �
           = fill-exact c.n recs' slots list₁ sets sets' es facts.most (rw el still-once) ∙ ap₂ (λ (x y : List ℕ). exact_sets (heap_in c.n x slots y) sets) m el
           ∙ sets-declared c.n i recs slots facts.low facts.high facts.long list list' sets (taken ∙ sym listed-is) in
           (λ j. gives (record { refusal = 0; control = c }) (r j) (o j) (t j))
-          ∙ sym (outcome-zero _ _ (declare_tests c i recs slots roots list sets) (sym e ∙ z) ∙ rw no-sink refl)
+          ∙ sym (outcome-zero _ _ (declare_tests c i recs slots roots list sets) (sym e) ∙ rw no-sink refl)
 
 -- the ends of a declaration, for the search
 pub ruleset declaring = (facts, refused, again, place-there, anew)

@@ -31,14 +31,14 @@ returns-then-is_sink c =
     (sym c.within.ensures ∙ not-false _ c.if-not-within.false-raw) _ c.well_formed-2.ensures (not-false _ c.if-not-well_formed.false-raw) _ c.record_of-old.ensures c.if-old-eq0.false
     _ c.is_sink.ensures c.if-is_sink.true
 
-pub returns-then-first_empty : goal.returns-then-first_empty
-returns-then-first_empty c =
+pub returns-in-Some : goal.returns-in-Some
+returns-in-Some c =
     has-place _ _ _ _ _ _ _ (sym c.bad_control.ensures ∙ c.if-bad_control.false) _ c.short_heap.ensures c.if-short_heap.false
     (sym c.within.ensures ∙ not-false _ c.if-not-within.false-raw) _ c.well_formed-2.ensures (not-false _ c.if-not-well_formed.false-raw) _ c.record_of-old.ensures c.if-old-eq0.false
-    _ c.is_sink.ensures c.if-is_sink.false _ c.first_empty.ensures c.if-first_empty.true
+    _ c.is_sink.ensures c.if-is_sink.false _ c.in-Some.ensures
 
-pub returns-else-first_empty : goal.returns-else-first_empty
-returns-else-first_empty c =
+pub returns-in-None : goal.returns-in-None
+returns-in-None c =
     is-full _ _ _ _ _ _ _ (sym c.bad_control.ensures ∙ c.if-bad_control.false) _ c.short_heap.ensures c.if-short_heap.false
     (sym c.within.ensures ∙ not-false _ c.if-not-within.false-raw) _ c.well_formed-2.ensures (not-false _ c.if-not-well_formed.false-raw) _ c.record_of-old.ensures c.if-old-eq0.false
-    _ c.is_sink.ensures c.if-is_sink.false _ c.first_empty.ensures c.if-first_empty.false
+    _ c.is_sink.ensures c.if-is_sink.false c.in-None.ensures
