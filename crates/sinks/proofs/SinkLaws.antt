@@ -11,8 +11,8 @@ use native.Mathlib.Decide.{ℕ_discrete, dec_lt, dec_le}
 use native.Mathlib.Omega.{arith}
 use native.Mathlib.Numerals.{add-one}
 use lib.Dec.{eqb, leb}
-use lib.ListN.{length, get_or, take, drop, set, length-set, length-take, get_or-eq_default}
-use lib.Seq.{get_or-set_other, ext_get_or, get_or-take, length-take-le}
+use lib.ListN.{length, get_or, take, drop, set, length-set, length-take}
+use lib.Seq.{get_or-set_other, ext_get_or, get_or-take}
 use borrow.Author.Tests.{eq-eqb, ne_eqb, not-false}
 use Rattle.layout.specs.Field.{put, put_flag, digit}
 use Rattle.layout.specs.Limits.{object_max, sink_max, within}

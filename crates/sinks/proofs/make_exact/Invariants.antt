@@ -1,6 +1,4 @@
 -- `sinks::make_exact` is the pass over the records. Assumes nothing.
-use mathlib.Core.Path.{◌≡◌}
-use lib.ListN.{length}
 use Rattle.sinks.proofs.SinkLaws.{Passed}
 use Rattle.sinks.proofs.make_exact.Given as goal
 
