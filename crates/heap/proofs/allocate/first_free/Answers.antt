@@ -1,6 +1,5 @@
 -- `heap::allocate::first_free` tries object after object. Assumes nothing.
 use mathlib.Core.Path.{◌≡◌, refl, ap, ◌∙◌}
-use mathlib.Core.Logic.{◌≢◌}
 use Prim.Native.Nat.{◌+◌}
 use native.Mathlib.Omega.{arith}
 use Rattle.heap.specs.Search.{object}
