@@ -6,6 +6,7 @@ use mathlib.Core.Bool.{Bool, true, false, cond, not, ◌&&◌}
 use mathlib.Core.List.{List}
 use mathlib.Core.Logic.{◌≢◌}
 use native.Mathlib.Omega.{arith}
+use mir.Val.{bool_byte}
 use lib.Dec.{eqb}
 use borrow.Author.Tests.{eq-eqb, ne_eqb}
 use Rattle.graph.specs.Numbers.{bit, sum, count}
@@ -68,6 +69,11 @@ pub record Found (n : ℕ) (t : Tuning) (recs work : List ℕ) (k loss clusters 
   pub members-is : members ≡ count k (new_member_at n recs work)
   pub most : k ≤ n
   pub loss-most : loss ≤ 4095 * k
+
+-- a flag as a number
+pub flag-bit : (b : Bool) → bool_byte b ≡ bit b
+flag-bit true = refl
+flag-bit false = refl
 
 module _ (n : ℕ) (t : Tuning) (recs work : List ℕ) where
   pub found-start : Found n t recs work 0 0 0 0

@@ -233,46 +233,46 @@ pub record Counting (n : ℕ) (recs slots work₀ work : List ℕ) (k : ℕ) : T
   pub counted : Tallying n recs slots work₀ work k
   pub most : k ≤ n
 
-module _ (n : ℕ) (recs slots work₀ work : List ℕ) (k : ℕ) (S : Counting n recs slots work₀ work k) (h : k < n) where
+module _ (n : ℕ) (recs slots work₀ work : List ℕ) (x : ℕ) (S : Counting n recs slots work₀ work (x - 1)) (low : 1 ≤ x) (h : x ≤ n) where
   judge-now : Judgeable n recs slots work
   judge-now = judgeable-now n recs slots work₀ work S.counted.long (S.counted.others (8 * n) (omega arith)) (S.counted.others (9 * n) (omega arith)) S.start
 
   abbrev own : ℕ
-  own = get_or work (9 * n + (k + 1)) 0
+  own = get_or work (9 * n + x) 0
 
-  own_read : own ≡ area n (9 * n) work (k + 1)
-  own_read = area-read n (9 * n) work (k + 1) (omega arith) (omega arith)
+  own_read : own ≡ area n (9 * n) work x
+  own_read = area-read n (9 * n) work x low h
 
   own-fits : own % 4096 ≤ n
-  own-fits = read_fits n work (k + 1) own own_read (judge-now.fits (k + 1))
+  own-fits = read_fits n work x own own_read (judge-now.fits x)
 
-  before : Tallying n recs slots work₀ work (k + 1 - 1)
-  before = let e : k + 1 - 1 ≡ k = omega arith in rw e S.counted
+  next : x + 1 - 1 ≡ x
+  next = omega arith
 
-  pub own-there : 9 * n + (k + 1) < length work
+  pub own-there : 9 * n + x < length work
   own-there = omega (arith, judge-now.sized.work-long)
 
-  pub count-asks : Sized n recs slots work × (1 ≤ k + 1) × (k + 1 ≤ n)
-  count-asks = (judge-now.sized, omega arith, omega arith)
+  pub count-asks : Sized n recs slots work × (1 ≤ x) × (x ≤ n)
+  count-asks = (judge-now.sized, low, h)
 
-  pub count-skip : own % 4096 ≡ 0 → Counting n recs slots work₀ work (k + 1)
-  count-skip z = record { start = S.start; counted = tally-skip n recs slots work₀ work (k + 1) (omega arith) before own own_read z; most = omega arith }
+  pub count-skip : own % 4096 ≡ 0 → Counting n recs slots work₀ work (x + 1 - 1)
+  count-skip z = rw next (record { start = S.start; counted = tally-skip n recs slots work₀ work x low S.counted own own_read z; most = h })
 
   module _ (nz : own % 4096 ≢ 0) where
     pub count-there : own % 4096 < length work
     count-there = omega (arith, own-fits, judge-now.sized.work-long, nz)
 
     pub count_fits : (m : ℕ) → m ≤ 8 → get_or work (own % 4096) 0 + m < 2 ^ 32
-    count_fits m few = let a = before.most (own % 4096) in omega (arith, few, count-read n work (own % 4096) nz own-fits, judge-now.sized.room.most)
+    count_fits m few = let a = S.counted.most (own % 4096) in omega (arith, few, count-read n work (own % 4096) nz own-fits, judge-now.sized.room.most)
 
-    pub count_turn : (m : ℕ) → m ≡ outs_at n recs slots work (k + 1) (own % 4096) → m ≤ 8
-        → Counting n recs slots work₀ (set work (own % 4096) (get_or work (own % 4096) 0 + m)) (k + 1)
-    count_turn m ms few = record {
+    pub count_turn : (m : ℕ) → m ≡ outs_at n recs slots work x (own % 4096) → m ≤ 8
+        → Counting n recs slots work₀ (set work (own % 4096) (get_or work (own % 4096) 0 + m)) (x + 1 - 1)
+    count_turn m ms few = rw next (record {
       start = S.start;
-      counted = tally-add n recs slots work₀ work (k + 1) (omega arith) before own own_read nz own-fits m (get_or work (own % 4096) 0) ms few
+      counted = tally-add n recs slots work₀ work x low S.counted own own_read nz own-fits m (get_or work (own % 4096) 0) ms few
           (count-read n work (own % 4096) nz own-fits) (omega (arith, judge-now.sized.work-long));
-      most = omega arith;
-    }
+      most = h;
+    })
 
 -- ---- does a cluster stay?
 

@@ -1,6 +1,6 @@
 -- The count of the objects in use.
 -- Assumes nothing.
-use Prim.Native.Nat.{ℕ, ◌+◌, ◌≤◌, ◌<◌}
+use Prim.Native.Nat.{ℕ, ◌+◌, ◌-◌, ◌≤◌}
 use mathlib.Core.Path.{◌≡◌, refl, sym, ap, ap₂, ◌∙◌}
 use mathlib.Core.Bool.{Bool}
 use mathlib.Core.List.{List}
@@ -24,9 +24,13 @@ module _ (n : ℕ) (recs : List ℕ) where
   pub used-most : (k total : ℕ) → Used n recs k total → total ≤ k
   used-most k total g = rw g.0 (count-le k (λ x. in_use (rec_of n recs x)))
 
-  pub used_turn : (k total : ℕ) (b : Bool) → Used n recs k total → k < n → b ≡ in_use (rec_of n recs (k + 1)) → Used n recs (k + 1) (total + bit b)
+  pub used_turn : (x total : ℕ) (b : Bool) → Used n recs (x - 1) total → 1 ≤ x → x ≤ n → b ≡ in_use (rec_of n recs x) → Used n recs (x + 1 - 1) (total + bit b)
   unfolding count
-  used_turn k total b g h e = (ap₂ (λ (x y : ℕ). x + y) g.0 (ap bit e) ∙ sym (sum_more k (λ x. bit (in_use (rec_of n recs x)))), omega arith)
+  used_turn x total b g low h e =
+      let last : x - 1 + 1 ≡ x = omega arith in
+      let next : x + 1 - 1 ≡ x - 1 + 1 = omega arith in
+      let w : b ≡ in_use (rec_of n recs (x - 1 + 1)) = rw last e in
+      (rw next (ap₂ (λ (i y : ℕ). i + y) g.0 (ap bit w) ∙ sym (sum_more (x - 1) (λ i. bit (in_use (rec_of n recs i))))), omega arith)
 
   pub used-end : (k total : ℕ) → Used n recs k total → n ≤ k → total ≡ used_count n recs
   unfolding used_count

@@ -31,11 +31,11 @@ target_none n w h = rw (lt-leb w n h) refl
 pub target_fits : (n w t : ℕ) → t ≡ target n w → t ≤ n
 target_fits n w t e = omega (arith, target-low n w)
 
--- the last j of k words are put in front
+-- the words from the one at j on, of k, are put in front
 pub record Pushing (n c : ℕ) (s : List ℕ) (k : ℕ) (work₀ : List ℕ) (top : ℕ) (work : List ℕ) (j at : ℕ) : Type 0 where
-  pub mem : mem_of n work at ≡ in_front (visit_words c (map (target n) (drop (k - j) (take k s)))) (mem_of n work₀ top)
+  pub mem : mem_of n work at ≡ in_front (visit_words c (map (target n) (drop j (take k s)))) (mem_of n work₀ top)
   pub long : length work ≡ length work₀
-  pub spot : at + j ≡ top
+  pub spot : at + k ≡ top + j
   pub most : j ≤ k
 
 module _ (n c : ℕ) (recs slots work₀ : List ℕ) (z : Sized n recs slots work₀) (x : ℕ) (low : 1 ≤ x) (high : x ≤ n) (top : ℕ)
@@ -52,60 +52,55 @@ module _ (n c : ℕ) (recs slots work₀ : List ℕ) (z : Sized n recs slots wor
   more : k ≤ length s
   more = let e = length-drop (8 * (x - 1)) slots in omega (arith, slots-there)
 
-  pub pushing-start : Pushing n c s k work₀ top work₀ 0 top
+  pub pushing-start : Pushing n c s k work₀ top work₀ k top
   unfolding visit_words
   pushing-start = record {
     mem = sym (ap (λ (l : List ℕ). in_front (visit_words c (map (target n) l)) (mem_of n work₀ top)) none ∙ front-none (mem_of n work₀ top));
     long = refl;
-    spot = omega arith;
+    spot = refl;
     most = omega arith;
   }
     where
-      none : drop (k - 0) (take k s) ≡ []
+      none : drop k (take k s) ≡ []
       none =
-          let all : k - 0 ≡ length (take k s) = omega (arith, length-take-le k s more) in
+          let all : k ≡ length (take k s) = omega (arith, length-take-le k s more) in
           ap (λ (i : ℕ). drop i (take k s)) all ∙ drop-length (take k s)
 
-  module _ (work : List ℕ) (j at : ℕ) (g : Pushing n c s k work₀ top work j at) (p : j < k) where
+  module _ (work : List ℕ) (j at : ℕ) (g : Pushing n c s k work₀ top work j at) (p : 0 < j) where
     pub spot-left : 1 ≤ at
     spot-left = omega (arith, g.spot, words-room)
 
     pub spot-there : top ≤ stack_end n → at - 1 < length work
-    spot-there h = omega (arith, g.spot, g.long, z.work-long, spot-left)
+    spot-there h = omega (arith, g.spot, g.most, g.long, z.work-long, spot-left)
 
-    pub slot-there : 8 * (x - 1) + k - (j + 1) < length slots
-    slot-there = omega (arith, slots-there)
-
-  pub pushing-turn : (work : List ℕ) (j at t : ℕ) → top ≤ stack_end n → Pushing n c s k work₀ top work j at → j < k
-      → t ≡ target n (get_or slots (8 * (x - 1) + k - (j + 1)) 0) → Pushing n c s k work₀ top (set work (at - 1) (t + 4096 * c)) (j + 1) (at - 1)
+  pub pushing-turn : (work : List ℕ) (j at t : ℕ) → top ≤ stack_end n → Pushing n c s k work₀ top work j at → 0 < j
+      → t ≡ target n (get_or slots (8 * (x - 1) + (j - 1)) 0) → Pushing n c s k work₀ top (set work (at - 1) (t + 4096 * c)) (j - 1) (at - 1)
   unfolding visit_words
   pushing-turn work j at t h g p e = record {
-    mem = push-mem n work (omega (arith, g.long, z.work-long)) at (t + 4096 * c) (omega (arith, g.spot, words-room)) (omega (arith, g.spot))
+    mem = push-mem n work (omega (arith, g.long, z.work-long)) at (t + 4096 * c) (omega (arith, g.spot, words-room)) (omega (arith, g.spot, g.most))
         ∙ ap₂ (λ (v : ℕ) (w : Memory). in_front ((v + 4096 * c) ∷ []) w) (e ∙ ap (target n) there) g.mem
-        ∙ front-front ((target n (get_or s (k - (j + 1)) 0) + 4096 * c) ∷ []) (visit_words c (map (target n) (drop (k - j) (take k s)))) (mem_of n work₀ top)
+        ∙ front-front ((target n (get_or s (j - 1) 0) + 4096 * c) ∷ []) (visit_words c (map (target n) (drop j (take k s)))) (mem_of n work₀ top)
         ∙ ap (λ (i : List ℕ). in_front (visit_words c (map (target n) i)) (mem_of n work₀ top)) (sym cut);
     long = length-set work (at - 1) (t + 4096 * c) ∙ g.long;
     spot = omega (arith, g.spot, words-room);
-    most = omega arith;
+    most = omega (arith, g.most);
   }
     where
-      there : get_or slots (8 * (x - 1) + k - (j + 1)) 0 ≡ get_or s (k - (j + 1)) 0
-      there =
-          let i : 8 * (x - 1) + k - (j + 1) ≡ 8 * (x - 1) + (k - (j + 1)) = omega arith in
-          ap (λ (a : ℕ). get_or slots a 0) i ∙ sym (get_or-drop (8 * (x - 1)) slots (k - (j + 1)) 0)
+      there : get_or slots (8 * (x - 1) + (j - 1)) 0 ≡ get_or s (j - 1) 0
+      there = sym (get_or-drop (8 * (x - 1)) slots (j - 1) 0)
 
-      cut : drop (k - (j + 1)) (take k s) ≡ get_or s (k - (j + 1)) 0 ∷ drop (k - j) (take k s)
+      cut : drop (j - 1) (take k s) ≡ get_or s (j - 1) 0 ∷ drop j (take k s)
       cut =
-          let one : suc (k - (j + 1)) ≡ k - j = omega arith in
+          let one : suc (j - 1) ≡ j = omega arith in
           let len = length-take-le k s more in
-          drop-cons (take k s) (k - (j + 1)) 0 (omega arith)
-          ∙ ap₂ (λ (v : ℕ) (i : ℕ). v ∷ drop i (take k s)) (get_or-take k s (k - (j + 1)) 0 (omega arith)) one
+          drop-cons (take k s) (j - 1) 0 (omega (arith, g.most))
+          ∙ ap₂ (λ (v : ℕ) (i : ℕ). v ∷ drop i (take k s)) (get_or-take k s (j - 1) 0 (omega (arith, g.most))) one
 
-  pub pushing-end : (work : List ℕ) (j at : ℕ) → Pushing n c s k work₀ top work j at → k ≤ j
+  pub pushing-end : (work : List ℕ) (j at : ℕ) → Pushing n c s k work₀ top work j at → j ≤ 0
       → (mem_of n work at ≡ in_front (visit_words c ((view n recs slots).kids x)) (mem_of n work₀ top)) × (at + length ((view n recs slots).kids x) ≡ top)
   pushing-end work j at g h =
-      let e : k - j ≡ 0 = omega arith in
-      (rw (kids-at n recs slots x low (z.widths x), ← wide) (rw e at g.mem), omega (arith, g.spot, g.most, kids-length n recs slots work₀ z x low high, wide))
+      let e : j ≡ 0 = omega arith in
+      (rw (kids-at n recs slots x low (z.widths x), ← wide) (rw e at g.mem), omega (arith, g.spot, kids-length n recs slots work₀ z x low high, wide))
 
 -- ---- the cluster that an object gets
 

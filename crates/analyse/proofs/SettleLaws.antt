@@ -31,17 +31,17 @@ module _ (n : ℕ) (f : ℕ → ℕ → ℕ) (l₀ : List ℕ) where
       let e : n - 0 ≡ n = omega arith in
       (ap (λ (j : ℕ). pass_from 1 0 j f l₀) e ∙ pass-begin 1 n f l₀, omega arith, refl)
 
-  left-turn : (l : List ℕ) (k v : ℕ) → Left n f l₀ l k → k < n → n ≤ length l₀ → v ≡ f (k + 1) (get_or l k 0) → Left n f l₀ (set l (k + 1 - 1) v) (k + 1)
-  left-turn l k v g h m e =
-      let i : k + 1 - 1 ≡ k = omega arith in
-      let s : k + 1 ≡ suc k = omega arith in
-      let t : 1 + k ≡ k + 1 = omega arith in
+  left-turn : (l : List ℕ) (x v : ℕ) → Left n f l₀ l (x - 1) → 1 ≤ x → x ≤ n → n ≤ length l₀ → v ≡ f x (get_or l (x - 1) 0) → Left n f l₀ (set l (x - 1) v) (x + 1 - 1)
+  left-turn l x v g low h m e =
+      let k : ℕ = x - 1 in
+      let s : x + 1 - 1 ≡ suc k = omega arith in
+      let t : 1 + k ≡ x = omega arith in
       let d : n - k ≡ suc (n - suc k) = omega arith in
       let p = pass-turn 1 k (n - suc k) f l 0 (omega (arith, g.2)) in (
-        rw (i, s) (ap (λ (w : ℕ). pass_from 1 (suc k) (n - suc k) f (set l k w)) (e ∙ ap (λ (j : ℕ). f j (get_or l k 0)) (sym t)) ∙ p
+        rw s (ap (λ (w : ℕ). pass_from 1 (suc k) (n - suc k) f (set l k w)) (e ∙ ap (λ (j : ℕ). f j (get_or l k 0)) (sym t)) ∙ p
             ∙ ap (λ (j : ℕ). pass_from 1 k j f l) (sym d) ∙ g.0),
         omega arith,
-        rw i (length-set l k v ∙ g.2),
+        length-set l k v ∙ g.2,
       )
 
   left_end : (l : List ℕ) (k : ℕ) → Left n f l₀ l k → n ≤ k → l ≡ each_from 1 n f l₀
@@ -70,23 +70,31 @@ module _ (n : ℕ) (t : Tuning) (recs₀ work recs : List ℕ) (k loss clusters 
   pub members-fit : n ≤ 4095 → (b : Bool) → members + bit b < 2 ^ 32
   members-fit h b = omega (arith, h, bit_le b, members-most _ _ _ _ _ _ _ _ S.found, S.found.most)
 
-  pub settle-turn : k < n → n ≤ length recs₀ → (w : ℕ) → w ≡ area n n work (k + 1) → (d : ℕ) → d ≡ cluster (get_or recs k 0)
-      → (a : ℕ) → ((r : List ℕ) → d ≡ cluster_of n r (k + 1) → a ≡ loss_at n t r work (k + 1)) × (a ≤ 4095)
-      → (v : ℕ) → v ≡ settled w (get_or recs k 0)
-      → Settling n t recs₀ work (set recs (k + 1 - 1) v) (k + 1) (loss + a) (clusters + bit (eqb d 0 && eqb (w % 4096) (k + 1))) (members + bit (eqb d 0 && not (eqb (w % 4096) 0)))
-  settle-turn h m w ws d ds a la v vs = record {
-    left = left-turn n _ recs₀ recs k v S.left h m (vs ∙ ap (λ (u : ℕ). settled u (get_or recs k 0)) ws);
-    rest = λ j p. get_or-set_other recs (k + 1 - 1) j v 0 (λ e. absurd (omega arith)) ∙ S.rest j (omega arith);
-    found = found_turn n t recs₀ work k loss clusters members S.found h a _ _ (la.0 recs₀ old, la.1) (head-is n recs₀ work (k + 1) d old w ws) (member_is n recs₀ work (k + 1) d old w ws);
-  }
-    where
-      at : rec_of n recs₀ (k + 1) ≡ get_or recs₀ k 0
-      at = let e : k + 1 - 1 ≡ k = omega arith in rec_of-get n recs₀ (k + 1) (omega arith) (omega arith) ∙ ap (λ (i : ℕ). get_or recs₀ i 0) e
-
-      old : d ≡ cluster_of n recs₀ (k + 1)
-      old = ds ∙ ap cluster (S.rest k (omega arith) ∙ sym at)
-
   pub settle-end : n ≤ k → Settled n t recs₀ work recs loss clusters members
   settle-end h =
       let f = found-end n t recs₀ work k loss clusters members S.found h in
       record { records = left_end n _ recs₀ recs k S.left h; loss-is = f.0; clusters-is = f.1; members-is = f.2 }
+
+module _ (n : ℕ) (t : Tuning) (recs₀ work recs : List ℕ) (x loss clusters members : ℕ) (S : Settling n t recs₀ work recs (x - 1) loss clusters members) where
+  pub settle-turn : 1 ≤ x → x ≤ n → n ≤ length recs₀ → (w : ℕ) → w ≡ area n n work x → (d : ℕ) → d ≡ cluster (get_or recs (x - 1) 0)
+      → (a : ℕ) → ((r : List ℕ) → d ≡ cluster_of n r x → a ≡ loss_at n t r work x) × (a ≤ 4095)
+      → (v : ℕ) → v ≡ settled w (get_or recs (x - 1) 0)
+      → Settling n t recs₀ work (set recs (x - 1) v) (x + 1 - 1) (loss + a) (clusters + bit (eqb d 0 && eqb (w % 4096) x)) (members + bit (eqb d 0 && not (eqb (w % 4096) 0)))
+  settle-turn low h m w ws d ds a la v vs = record {
+    left = left-turn n _ recs₀ recs x v S.left low h m (vs ∙ ap (λ (u : ℕ). settled u (get_or recs (x - 1) 0)) ws);
+    rest = λ j p. get_or-set_other recs (x - 1) j v 0 (λ e. absurd (omega arith)) ∙ S.rest j (omega arith);
+    found = rw next (found_turn n t recs₀ work (x - 1) loss clusters members S.found (omega arith) a _ _
+        (rw last (la.0 recs₀ old, la.1)) (rw last (head-is n recs₀ work x d old w ws)) (rw last (member_is n recs₀ work x d old w ws)));
+  }
+    where
+      last : x - 1 + 1 ≡ x
+      last = omega arith
+
+      next : x + 1 - 1 ≡ x - 1 + 1
+      next = omega arith
+
+      at : rec_of n recs₀ x ≡ get_or recs₀ (x - 1) 0
+      at = rec_of-get n recs₀ x low h
+
+      old : d ≡ cluster_of n recs₀ x
+      old = ds ∙ ap cluster (S.rest (x - 1) (omega arith) ∙ sym at)

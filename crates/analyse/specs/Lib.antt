@@ -4,4 +4,5 @@ pub mod Memory
 pub mod Called
 pub mod Filling
 pub mod Starts
+pub mod Lent
 pub mod Judge

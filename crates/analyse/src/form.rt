@@ -4,9 +4,10 @@ ghost use Rattle.rules.specs.View.{starts_in};
 ghost use Rattle.table.specs.Clusters.{cluster_of};
 ghost use Rattle.analyse.specs.Memory.{stack_end};
 ghost use Rattle.analyse.specs.Filling.{Filling};
-ghost use Rattle.analyse.specs.Called.{Walking};
-ghost use Rattle.analyse.specs.Starts.{Formable, From, GoesOn, Fit};
+ghost use Rattle.analyse.specs.Starts.{Fit};
+ghost use Rattle.analyse.specs.Lent.{FormableIn, FromIn, WalkingIn, GoesOnIn};
 
+use crate::heap::Heap;
 use crate::memory::record_at;
 use crate::walk::start;
 use links::link;
@@ -17,64 +18,29 @@ fn put_states(n: u32, records: &[u32], work: &mut [u32])
     requires { (n ≤ length records.now) × (10 * n + 64 ≤ length work.old) × (n ≤ 4095) }
     ensures { Filling n (9 * n) (cluster_of n records.now) work.old work.new n }
 {
-    let mut k = 0;
-    while k < n {
-        k += 1;
-        let c = cluster_of(record_at(n, records, k));
-        let i = 9 * n as usize + k as usize;
-        work[i] = c;
+    for x in 1..n + 1 {
+        work[9 * n as usize + x as usize] = cluster_of(record_at(n, records, x));
     }
 }
 
 // The walk goes on from the first r roots.
-fn from_roots(
-    n: u32,
-    r: u32,
-    limit: u32,
-    records: &[u32],
-    slots: &[u32],
-    roots: &[u32],
-    sinks: &[u32],
-    sets: &[u64],
-    work: &mut [u32],
-)
-    requires { Walking n records.now slots.now sinks.now sets.now limit work.old (stack_end n) × (r ≤ length roots.now) × Fit n (take r roots.now) }
-    ensures { GoesOn n records.now slots.now sinks.now sets.now limit (take r roots.now) work.old work.new }
+fn from_roots(heap: Heap, r: u32, roots: &[u32], work: &mut [u32])
+    requires { WalkingIn heap work.old (stack_end heap.n) × (r ≤ length roots.now) × Fit heap.n (take r roots.now) }
+    ensures { GoesOnIn heap.entry (take r roots.now) work.old work.new }
 {
-    let mut j: u32 = 0;
-    while j < r {
-        start(
-            n,
-            limit,
-            records,
-            slots,
-            sinks,
-            sets,
-            work,
-            roots[j as usize],
-        );
-        j += 1;
+    for j in 0..r as usize {
+        start(heap, work, roots[j]);
     }
 }
 
 // Forms the clusters.
-pub(crate) fn form(
-    n: u32,
-    r: u32,
-    limit: u32,
-    records: &[u32],
-    slots: &[u32],
-    roots: &[u32],
-    sinks: &[u32],
-    sets: &[u64],
-    work: &mut [u32],
-)
-    requires { Formable n limit records.now slots.now sinks.now sets.now work.old (starts_in r roots.now) × (r ≤ length roots.now) }
-    ensures { From n records.now slots.now sinks.now sets.now limit (starts_in r roots.now) work.new }
+pub(crate) fn form(heap: Heap, r: u32, roots: &[u32], work: &mut [u32])
+    requires { FormableIn heap work.old (starts_in r roots.now) × (r ≤ length roots.now) }
+    ensures { FromIn heap.entry (starts_in r roots.now) work.new }
 {
-    let a = 8 * n as usize + 1;
-    let b = 9 * n as usize + 1;
-    link(false, n, records, &mut work[a..b]);
-    put_states(n, records, work);
-    from_roots(n, r, limit, records, slots, roots, sinks, sets, work);
+    let a = 8 * heap.n as usize + 1;
+    let b = 9 * heap.n as usize + 1;
+    link(false, heap.n, heap.records, &mut work[a..b]);
+    put_states(heap.n, heap.records, work);
+    from_roots(heap, r, roots, work);
 }

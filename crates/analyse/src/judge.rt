@@ -46,11 +46,10 @@ fn outs(n: u32, records: &[u32], slots: &[u32], work: &[u32], x: u32, c: u32) ->
     ensures { (result ≡ outs_at n records.now slots.now work.now x c) × (result ≤ 8) }
 {
     let from = 8 * (x as usize - 1);
-    let mut j = width_of(record_at(n, records, x)) as usize;
+    let w = width_of(record_at(n, records, x)) as usize;
     let mut total: u32 = 0;
-    while 0 < j {
-        j -= 1;
-        total += leaves_cluster(n, records, work, slots[from + j], c) as u32;
+    for j in (0..w).rev() {
+        total += u32::from(leaves_cluster(n, records, work, slots[from + j], c));
     }
     total
 }
@@ -61,14 +60,10 @@ pub(crate) fn tally(n: u32, records: &[u32], slots: &[u32], work: &mut [u32])
     ensures { Tallying n records.now slots.now work.old work.new n }
 {
     zero(work, n as usize + 1);
-    let mut k: u32 = 0;
-    while k < n {
-        k += 1;
-        let c = work[9 * n as usize + k as usize] % 4096;
+    for x in 1..n + 1 {
+        let c = work[9 * n as usize + x as usize] % 4096;
         if c != 0 {
-            let m = outs(n, records, slots, work, k, c);
-            let i = c as usize;
-            work[i] = work[i] + m;
+            work[c as usize] += outs(n, records, slots, work, x, c);
         }
     }
 }
@@ -88,7 +83,7 @@ fn left(n: u32, t: Tuning, records: &[u32], slots: &[u32], work: &[u32], x: u32)
     if (old == 0) & !stays(t, s, word_of(n, work, 0, c)) {
         return 0;
     }
-    c + 4096 * (outs(n, records, slots, work, x, c) != 0) as u32
+    c + 4096 * u32::from(outs(n, records, slots, work, x, c) != 0)
 }
 
 // Notes what each object is left with.
@@ -96,12 +91,8 @@ pub(crate) fn decide(n: u32, t: Tuning, records: &[u32], slots: &[u32], work: &m
     requires { Judgeable n records.now slots.now work.old }
     ensures { Filling n n (left_word n t records.now slots.now work.old) work.old work.new n }
 {
-    let mut k: u32 = 0;
-    while k < n {
-        k += 1;
-        let w = left(n, t, records, slots, work, k);
-        let i = n as usize + k as usize;
-        work[i] = w;
+    for x in 1..n + 1 {
+        work[n as usize + x as usize] = left(n, t, records, slots, work, x);
     }
 }
 
@@ -128,16 +119,14 @@ pub(crate) fn settle(n: u32, t: Tuning, records: &mut [u32], work: &[u32]) -> Fo
     let mut loss: u32 = 0;
     let mut clusters: u32 = 0;
     let mut members: u32 = 0;
-    let mut k: u32 = 0;
-    while k < n {
-        let r = records[k as usize];
-        k += 1;
-        let w = word_of(n, work, n as usize, k);
+    for x in 1..n + 1 {
+        let r = records[x as usize - 1];
+        let w = word_of(n, work, n as usize, x);
         let old = cluster_of(r);
-        loss += loss_of(n, t, work, old, k);
-        clusters += ((old == 0) & (w % 4096 == k)) as u32;
-        members += ((old == 0) & (w % 4096 != 0)) as u32;
-        records[k as usize - 1] = settled_record(w, r);
+        loss += loss_of(n, t, work, old, x);
+        clusters += u32::from((old == 0) & (w % 4096 == x));
+        members += u32::from((old == 0) & (w % 4096 != 0));
+        records[x as usize - 1] = settled_record(w, r);
     }
     Found {
         loss,

@@ -2,6 +2,7 @@
 #![tactic(auto)]
 
 mod form;
+mod heap;
 mod judge;
 mod limit;
 mod memory;
@@ -15,6 +16,7 @@ ghost use Rattle.analyse.specs.Starts.{Formable, formed_from};
 ghost use Rattle.analyse.specs.Judge.{Judged};
 
 use crate::form::form;
+use crate::heap::Heap;
 use crate::judge::{Found, decide, settle, tally};
 use crate::limit::used_count;
 use choices::next_limit;
@@ -23,6 +25,7 @@ use layout::control::with_analysis;
 use layout::limits::work_len;
 use places::fill_sets;
 use table::buffers::zero;
+use table::room::Buffers;
 use wellformed::heap_refusal;
 
 // The clusters are formed, and those that do not stay dissolved, with work words of just the length that this takes.
@@ -41,7 +44,15 @@ fn form_and_judge(
     requires { Formable n limit records.old slots.now sinks.now sets.now work.old (starts_in r roots.now) × (r ≤ length roots.now) }
     ensures { Judged n t records.old slots.now (formed_from n records.old slots.now sinks.now limit (starts_in r roots.now)) records.new result.loss result.clusters result.members }
 {
-    form(n, r, limit, records, slots, roots, sinks, sets, work);
+    let heap = Heap {
+        n,
+        limit,
+        records,
+        slots,
+        sinks,
+        sets,
+    };
+    form(heap, r, roots, work);
     tally(n, records, slots, work);
     decide(n, t, records, slots, work);
     settle(n, t, records, work)
@@ -60,10 +71,16 @@ pub fn analyse(
     ensures { gives result records.new sets.new work.new ≡ Rules.analyse c records.old slots.now roots.now sinks.now sets.old work.old }
 {
     let cap = work_len(c.n);
-    let refusal = heap_refusal(c, records, slots, roots, sinks, sets, work.len() < cap);
-    if refusal != 0 {
+    let lent = Buffers {
+        records,
+        slots,
+        roots,
+        sinks,
+        sets,
+    };
+    if let Err(e) = heap_refusal(c, &lent, work.len() < cap) {
         return Analysed {
-            refusal: refusal,
+            refusal: u32::from(e),
             clusters: 0,
             members: 0,
             control: c,

@@ -11,10 +11,8 @@ pub(crate) fn used_count(n: u32, records: &[u32]) -> u32
     ensures { result ≡ used_count n records.now }
 {
     let mut total: u32 = 0;
-    let mut k: u32 = 0;
-    while k < n {
-        k += 1;
-        total += in_use(record_at(n, records, k)) as u32;
+    for x in 1..n + 1 {
+        total += u32::from(in_use(record_at(n, records, x)));
     }
     total
 }

@@ -3,6 +3,7 @@ ghost use Rattle.std.specs.Prelude.{◌≡◌, ◌+◌, ◌≤◌, ◌<◌, leng
 ghost use Rattle.rules.specs.Buffers.{rec_of};
 ghost use Rattle.analyse.specs.Memory.{area};
 
+// Not `record_of` of the table, which tests that x is an object: callers here know it.
 pub(crate) fn record_at(n: u32, records: &[u32], x: u32) -> u32
     requires { (1 ≤ x) × (x ≤ n) × (n ≤ length records.now) }
     ensures { result ≡ rec_of n records.now x }

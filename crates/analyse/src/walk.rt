@@ -4,13 +4,13 @@
 ghost use Rattle.std.specs.Prelude.{◌≡◌, [], ◌∷◌, ℕ, ◌+◌, ◌*◌, ◌/◌, ◌^◌, ◌≤◌, ◌<◌, length};
 ghost use Rattle.std.specs.Int.Count.{count_trailing_zeros};
 ghost use Rattle.rules.specs.Buffers.{rec_of};
-ghost use Rattle.rules.specs.View.{view, heap_in, target};
+ghost use Rattle.rules.specs.View.{target};
 ghost use Rattle.graph.specs.Numbers.{upd};
 ghost use Rattle.analyse.specs.Memory.{stack_end, area, mem_of, walk_of, visit_words, markers, size_in, in_front, with_state, with_link, counting};
-ghost use Rattle.table.specs.Room.{Sized};
-ghost use Rattle.analyse.specs.Called.{out_kids, outs_below, Chained, handled, goes_to, placed, visiting, Visiting, Walking, Visited};
-ghost use Rattle.analyse.specs.Starts.{GoesOn};
+ghost use Rattle.analyse.specs.Called.{out_kids, outs_below, Chained, handled, goes_to, placed, visiting};
+ghost use Rattle.analyse.specs.Lent.{view_of, heap_of, SizedFor, VisitingIn, WalkingIn, VisitedIn, GoesOnIn};
 
+use crate::heap::Heap;
 use crate::memory::{record_at, word_of};
 use bitmap::lowest_bit;
 use links::{next_member, top_member};
@@ -27,66 +27,48 @@ pub(crate) fn target_of(n: u32, w: u32) -> u32
 }
 
 // Puts visits to what object x points at, each with the cluster c, in front of the others.
-fn push_kids(
-    n: u32,
-    records: &[u32],
-    slots: &[u32],
-    work: &mut [u32],
-    x: u32,
-    c: u32,
-    top: usize,
-) -> usize
-    requires sized { Sized n records.now slots.now work.old }
-    requires le_x { (1 ≤ x) × (x ≤ n) × (c ≤ n) × (top ≤ stack_end n) × (length ((view n records.now slots.now).kids x) ≤ top) }
-    ensures { (mem_of n work.new result ≡ in_front (visit_words c ((view n records.now slots.now).kids x)) (mem_of n work.old top)) × (result + length ((view n records.now slots.now).kids x) ≡ top) }
+fn push_kids(heap: Heap, work: &mut [u32], x: u32, c: u32, top: usize) -> usize
+    requires sized { SizedFor heap work.old }
+    requires le_x { (1 ≤ x) × (x ≤ heap.n) × (c ≤ heap.n) × (top ≤ stack_end heap.n) × (length ((view_of heap).kids x) ≤ top) }
+    ensures { (mem_of heap.entry.n work.new result ≡ in_front (visit_words c ((view_of heap.entry).kids x)) (mem_of heap.entry.n work.old top)) × (result + length ((view_of heap.entry).kids x) ≡ top) }
 {
     let from = 8 * (x as usize - 1);
-    let w = width_of(record_at(n, records, x)) as usize;
-    let mut j: usize = 0;
+    let w = width_of(record_at(heap.n, heap.records, x)) as usize;
     let mut at = top;
     // What is put in front last is visited first: the words are taken from the last down.
-    while j < w {
-        j += 1;
+    for j in (0..w).rev() {
         at -= 1;
-        work[at] = target_of(n, slots[from + w - j]) + 4096 * c;
+        work[at] = target_of(heap.n, heap.slots[from + j]) + 4096 * c;
     }
     at
 }
 
 // Object x, of the older cluster d, is seen; if it is an out member, what it points at is visited next.
-fn member(
-    n: u32,
-    records: &[u32],
-    slots: &[u32],
-    work: &mut [u32],
-    d: u32,
-    x: u32,
-    top: usize,
-) -> usize
-    requires sized { Sized n records.now slots.now work.old }
-    requires le_x { (1 ≤ x) × (x ≤ n) × (d ≤ n) × (top ≤ stack_end n) × (length (out_kids (view n records.now slots.now) x) ≤ top) }
-    ensures { (mem_of n work.new result ≡ in_front (visit_words 0 (out_kids (view n records.now slots.now) x)) (with_state (upd (area n (9 * n) work.old) x (d + 4096)) (mem_of n work.old top))) × (result + length (out_kids (view n records.now slots.now) x) ≡ top) }
+fn member(heap: Heap, work: &mut [u32], d: u32, x: u32, top: usize) -> usize
+    requires sized { SizedFor heap work.old }
+    requires le_x { (1 ≤ x) × (x ≤ heap.n) × (d ≤ heap.n) × (top ≤ stack_end heap.n) × (length (out_kids (view_of heap) x) ≤ top) }
+    ensures { (mem_of heap.entry.n work.new result ≡ in_front (visit_words 0 (out_kids (view_of heap.entry) x)) (with_state (upd (area heap.entry.n (9 * heap.entry.n) work.old) x (d + 4096)) (mem_of heap.entry.n work.old top))) × (result + length (out_kids (view_of heap.entry) x) ≡ top) }
 {
-    let i = 9 * n as usize + x as usize;
+    let i = 9 * heap.n as usize + x as usize;
     work[i] = d + 4096;
-    if is_out(record_at(n, records, x)) {
-        return push_kids(n, records, slots, work, x, 0, top);
+    if is_out(record_at(heap.n, heap.records, x)) {
+        return push_kids(heap, work, x, 0, top);
     }
     top
 }
 
 // The older cluster d is handled: all its members are seen, and what its out members point at is visited next.
-fn older(n: u32, records: &[u32], slots: &[u32], work: &mut [u32], d: u32, top: usize) -> usize
-    requires sized { Sized n records.now slots.now work.old }
-    requires le_d { (1 ≤ d) × (d ≤ n) × (top ≤ stack_end n) × (length (outs_below (view n records.now slots.now) d n) ≤ top) }
-    requires chained { Chained n records.now (area n (8 * n) work.old) d }
-    ensures { (mem_of n work.new result ≡ handled (view n records.now slots.now) d (mem_of n work.old top)) × (result + length (outs_below (view n records.now slots.now) d n) ≡ top) }
+fn older(heap: Heap, work: &mut [u32], d: u32, top: usize) -> usize
+    requires sized { SizedFor heap work.old }
+    requires le_d { (1 ≤ d) × (d ≤ heap.n) × (top ≤ stack_end heap.n) × (length (outs_below (view_of heap) d heap.n) ≤ top) }
+    requires chained { Chained heap.n heap.records.now (area heap.n (8 * heap.n) work.old) d }
+    ensures { (mem_of heap.entry.n work.new result ≡ handled (view_of heap.entry) d (mem_of heap.entry.n work.old top)) × (result + length (outs_below (view_of heap.entry) d heap.entry.n) ≡ top) }
 {
     let mut at = top;
-    let mut x = top_member(word_of(n, work, 8 * n as usize, d));
+    let mut x = top_member(word_of(heap.n, work, 8 * heap.n as usize, d));
     while x != 0 {
-        at = member(n, records, slots, work, d, x, at);
-        x = next_member(word_of(n, work, 8 * n as usize, x));
+        at = member(heap, work, d, x, at);
+        x = next_member(word_of(heap.n, work, 8 * heap.n as usize, x));
     }
     at
 }
@@ -108,32 +90,29 @@ fn count(n: u32, work: &mut [u32], e: u32)
     ensures { (top : ℕ) → mem_of n work.new top ≡ with_link (counting e (area n (8 * n) work.old)) (mem_of n work.old top) }
 {
     if e != 0 {
-        let i = 8 * n as usize + e as usize;
-        work[i] = work[i] + 4096;
+        work[8 * n as usize + e as usize] += 4096;
     }
 }
 
 // Object o, in no cluster, is seen and gets a cluster or none; what it points at is visited next, with that cluster.
-fn place(
-    n: u32,
-    limit: u32,
-    records: &[u32],
-    slots: &[u32],
-    work: &mut [u32],
-    o: u32,
-    c: u32,
-    top: usize,
-) -> usize
-    requires sized { Sized n records.now slots.now work.old }
-    requires le_o { (1 ≤ o) × (o ≤ n) × (c ≤ n) × (top ≤ stack_end n) × (length ((view n records.now slots.now).kids o) ≤ top) }
-    requires by_index { (x : ℕ) → size_in (area n (8 * n) work.old) x ≤ 4095 }
-    ensures { (mem_of n work.new result ≡ placed (view n records.now slots.now) (goes_to limit (rec_of n records.now o) (area n (8 * n) work.old) o c) o (mem_of n work.old top)) × (result + length ((view n records.now slots.now).kids o) ≡ top) }
+fn place(heap: Heap, work: &mut [u32], o: u32, c: u32, top: usize) -> usize
+    requires sized { SizedFor heap work.old }
+    requires le_o { (1 ≤ o) × (o ≤ heap.n) × (c ≤ heap.n) × (top ≤ stack_end heap.n) × (length ((view_of heap).kids o) ≤ top) }
+    requires by_index { (x : ℕ) → size_in (area heap.n (8 * heap.n) work.old) x ≤ 4095 }
+    ensures { (mem_of heap.entry.n work.new result ≡ placed (view_of heap.entry) (goes_to heap.entry.limit (rec_of heap.entry.n heap.entry.records.now o) (area heap.entry.n (8 * heap.entry.n) work.old) o c) o (mem_of heap.entry.n work.old top)) × (result + length ((view_of heap.entry).kids o) ≡ top) }
 {
-    let e = choose(n, limit, work, record_at(n, records, o), o, c);
-    count(n, work, e);
-    let i = 9 * n as usize + o as usize;
+    let e = choose(
+        heap.n,
+        heap.limit,
+        work,
+        record_at(heap.n, heap.records, o),
+        o,
+        c,
+    );
+    count(heap.n, work, e);
+    let i = 9 * heap.n as usize + o as usize;
     work[i] = e + 4096;
-    push_kids(n, records, slots, work, o, e, top)
+    push_kids(heap, work, o, e, top)
 }
 
 // Puts a marker in front for the sinks of cluster h from place p on, if there are any: s is its set from that place on.
@@ -149,34 +128,23 @@ fn mark(n: u32, work: &mut [u32], s: u64, h: u32, p: u32, top: usize) -> usize
     at
 }
 
-// Visits object o, to which the cluster c is passed. The contract alone reads `sinks`.
-fn visit(
-    n: u32,
-    limit: u32,
-    records: &[u32],
-    slots: &[u32],
-    sinks: &[u32],
-    sets: &[u64],
-    work: &mut [u32],
-    o: u32,
-    c: u32,
-    top: usize,
-) -> usize
-    requires { Visiting n records.now slots.now sinks.now sets.now limit work.old o c top }
-    ensures { Visited n records.now slots.now sinks.now sets.now limit (visiting (heap_in n records.now slots.now sinks.now) o c (mem_of n work.old top)) work.new result }
+// Visits object o, to which the cluster c is passed.
+fn visit(heap: Heap, work: &mut [u32], o: u32, c: u32, top: usize) -> usize
+    requires { VisitingIn heap work.old o c top }
+    ensures { VisitedIn heap.entry (visiting (heap_of heap.entry) o c (mem_of heap.entry.n work.old top)) work.new result }
 {
     if o == 0 {
         return top;
     }
-    let s = word_of(n, work, 9 * n as usize, o);
+    let s = word_of(heap.n, work, 9 * heap.n as usize, o);
     if 4096 <= s {
         return top;
     }
     if s != 0 {
-        let at = mark(n, work, sets[s as usize - 1], s, 0, top);
-        return older(n, records, slots, work, s, at);
+        let at = mark(heap.n, work, heap.sets[s as usize - 1], s, 0, top);
+        return older(heap, work, s, at);
     }
-    place(n, limit, records, slots, work, o, c, top)
+    place(heap, work, o, c, top)
 }
 
 // The place of the next sink of a set, from place p on.
@@ -188,49 +156,31 @@ fn next_place(set: u64, p: u32) -> u32
 }
 
 // Makes the next visit.
-fn next(
-    n: u32,
-    limit: u32,
-    records: &[u32],
-    slots: &[u32],
-    sinks: &[u32],
-    sets: &[u64],
-    work: &mut [u32],
-    top: usize,
-) -> usize
-    requires { Walking n records.now slots.now sinks.now sets.now limit work.old top × (top < stack_end n) }
-    ensures { Visited n records.now slots.now sinks.now sets.now limit (walk_of (heap_in n records.now slots.now sinks.now) (mem_of n work.old top)) work.new result }
+fn next(heap: Heap, work: &mut [u32], top: usize) -> usize
+    requires { WalkingIn heap work.old top × (top < stack_end heap.n) }
+    ensures { VisitedIn heap.entry (walk_of (heap_of heap.entry) (mem_of heap.entry.n work.old top)) work.new result }
 {
     let w = work[top];
     let x = w % 4096;
     let c = w / 4096;
     if w < MARK {
-        return visit(n, limit, records, slots, sinks, sets, work, x, c, top + 1);
+        return visit(heap, work, x, c, top + 1);
     }
-    let set = sets[x as usize - 1];
+    let set = heap.sets[x as usize - 1];
     let k = next_place(set, c % 4096);
-    let at = mark(n, work, (set >> k) >> 1, x, k + 1, top + 1);
-    let o = sinks[k as usize];
-    visit(n, limit, records, slots, sinks, sets, work, o, 0, at)
+    let at = mark(heap.n, work, (set >> k) >> 1, x, k + 1, top + 1);
+    let o = heap.sinks[k as usize];
+    visit(heap, work, o, 0, at)
 }
 
 // The walk from one start, object o, to its end.
-pub(crate) fn start(
-    n: u32,
-    limit: u32,
-    records: &[u32],
-    slots: &[u32],
-    sinks: &[u32],
-    sets: &[u64],
-    work: &mut [u32],
-    o: u32,
-)
-    requires { Walking n records.now slots.now sinks.now sets.now limit work.old (stack_end n) × (o ≤ n) }
-    ensures { GoesOn n records.now slots.now sinks.now sets.now limit (o ∷ []) work.old work.new }
+pub(crate) fn start(heap: Heap, work: &mut [u32], o: u32)
+    requires { WalkingIn heap work.old (stack_end heap.n) × (o ≤ heap.n) }
+    ensures { GoesOnIn heap.entry (o ∷ []) work.old work.new }
 {
-    let end = 8 * n as usize + 1;
-    let mut top = visit(n, limit, records, slots, sinks, sets, work, o, 0, end);
+    let end = 8 * heap.n as usize + 1;
+    let mut top = visit(heap, work, o, 0, end);
     while top < end {
-        top = next(n, limit, records, slots, sinks, sets, work, top);
+        top = next(heap, work, top);
     }
 }

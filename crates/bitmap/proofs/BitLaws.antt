@@ -2,7 +2,7 @@
 -- Assumes nothing.
 use Prim.Native.Nat.{ℕ, zero, suc, ◌+◌, ◌-◌, ◌*◌, ◌/◌, ◌%◌, ◌^◌, ◌≤◌, ◌<◌, zero-le, suc-le-suc}
 use mathlib.Core.Path.{◌≡◌, refl, sym, ap, ap₂, ◌∙◌, subst}
-use mathlib.Core.List.{List, [], ◌∷◌, ◌++◌}
+use mathlib.Core.List.{List, [], ◌∷◌, ◌++◌, map}
 use mathlib.Core.Bool.{Bool, true, false, cond, ◌||◌}
 use mathlib.Core.Logic.{◌≢◌}
 use native.Mathlib.Nat.{mod-lt, add-zero, add-suc, suc-add, pow-succ'}
@@ -14,13 +14,16 @@ use lib.Arith.{lt-one}
 use lib.Dec.{lit<, eqb}
 use lib.Pow.{pow_pos, pow_mono, shr_lt, shr-shr}
 use lib.ListN.{length, take, get_or, length-append, length-set, get_or-eq_default, replicate, length-replicate, get_or-replicate}
-use lib.Seq.{take-suc, take_all, set_out, get_or-set_same, get_or-set_other}
+use lib.Seq.{set_out, get_or-set_same, get_or-set_other}
 use lib.Bits.{bit_and, and_shr, and_mod, and_self, and_le_r}
-use lib.Count.{ones, ones_in, ones_step, count_trailing_zeros, under}
+use denote.Ref.{Bor}
+use Rattle.std.specs.Prelude.{Option, Some, None, MatchOption, sum}
+use Rattle.std.specs.Slice.{IsItemAt}
+use Rattle.std.proofs.lemmas.List.Sums.{sum_by-cons}
+use lib.Count.{ones, ones_in, ones-le, ones_step, count_trailing_zeros, under}
 use Rattle.layout.specs.Field.{field, flag, put_flag}
-use Rattle.layout.specs.Limits.{map_len}
-use Rattle.bitmap.specs.Bits.{holds, put_bit, cons_if, set_bits, numbers_in, map_max, bits_of, word_of}
-use Rattle.layout.proofs.FieldLaws.{zero_flag, flag-put-same, flag-put-other}
+use Rattle.bitmap.specs.Bits.{holds, put_bit, cons_if, set_bits, numbers_in, bits_of, word_of}
+use Rattle.layout.proofs.FieldLaws.{and-flag, zero_flag, flag-put-same, flag-put-other}
 
 pub half_lt : {w : ℕ} (k : ℕ) → w < 2 ^ suc k → w / 2 < 2 ^ k
 half_lt {w} k h = shr_lt k 1 (subst (λ (x : ℕ). w < 2 ^ x) (sym (add-one k)) h)
@@ -100,37 +103,33 @@ set_bits-count (suc k) w b h = digits (w % 2) refl (set_bits-count k (w / 2) (su
     digits (suc zero) e ih = rw e (omega arith)
     digits (suc (suc d)) e ih = absurd (omega (arith, mod-lt w (pow_pos 1)))
 
-snoc : (b : ℕ) (ws : List ℕ) (w : ℕ) → w < 2 ^ 64 → length (numbers_in b (ws ++ (w ∷ []))) ≡ length (numbers_in b ws) + ones w
+-- the sum of the ones of the first n words, and its bound
+module _ (n : ℕ) (w : ℕ) (ws : List ℕ) where
+  first-more : sum (map ones (take (suc n) (w ∷ ws))) ≡ ones w + sum (map ones (take n ws))
+  first-more = sum_by-cons (λ (x : ℕ). x) (ones w) (map ones (take n ws))
+
+pub sum-ones : (n b : ℕ) (ws : List ℕ) → ((i : ℕ) → get_or ws i 0 < 2 ^ 64) → sum (map ones (take n ws)) ≡ length (numbers_in b (take n ws))
 unfolding numbers_in
-snoc b [] w h = length-append (set_bits 64 w b) [] ∙ omega (arith, set_bits-count 64 w b h)
-snoc b (x ∷ ws) w h =
-    length-append (set_bits 64 x b) (numbers_in (b + 64) (ws ++ (w ∷ [])))
-    ∙ omega (arith, snoc (b + 64) ws w h, length-append (set_bits 64 x b) (numbers_in (b + 64) ws))
+sum-ones zero b ws h = refl
+sum-ones (suc n) b [] h = refl
+sum-ones (suc n) b (w ∷ ws) h =
+    first-more n w ws ∙ ap₂ (λ (x y : ℕ). x + y) (sym (set_bits-count 64 w b (h 0))) (sum-ones n (b + 64) ws (λ i. h (suc i)))
+    ∙ sym (length-append (set_bits 64 w b) (numbers_in (b + 64) (take n ws)))
 
--- one word more is counted
-pub count-more : (ws : List ℕ) (n i : ℕ) → n ≡ length (numbers_in 0 (take i ws)) → i < length ws → get_or ws i 0 < 2 ^ 64
-    → n + ones (get_or ws i 0) ≡ length (numbers_in 0 (take (i + 1) ws))
-count-more ws n i e l h = rw (add-one i, take-suc ws i 0 l, snoc 0 (take i ws) (get_or ws i 0) h, e)
-
-pub count_none : (ws : List ℕ) → 0 ≡ length (numbers_in 0 (take 0 ws))
-unfolding numbers_in
-count_none ws = refl
-
--- the count's two ends: all words that count, or all words
-pub count-most : (ws : List ℕ) (i : ℕ) → i ≤ 64 → 64 ≤ i → length (numbers_in 0 (take i ws)) ≡ length (numbers_in 0 (take map_max ws))
-unfolding map_len
-count-most ws i a b = let q : i ≡ 64 = omega arith in ap (λ (k : ℕ). length (numbers_in 0 (take k ws))) q
-
-pub count-all : (ws : List ℕ) (i : ℕ) → i ≤ 64 → length ws ≤ i → length (numbers_in 0 (take i ws)) ≡ length (numbers_in 0 (take map_max ws))
-unfolding map_len
-count-all ws i a b = ap (λ (l : List ℕ). length (numbers_in 0 l)) (take_all i ws b ∙ sym (take_all 64 ws (omega arith)))
-
--- both, for the search
-pub ruleset counts = (count-most, count-all)
+pub sum-ones_le : (n : ℕ) (ws : List ℕ) → ((i : ℕ) → get_or ws i 0 < 2 ^ 64) → sum (map ones (take n ws)) ≤ 64 * n
+sum-ones_le zero ws h = omega arith
+sum-ones_le (suc n) [] h = omega arith
+sum-ones_le (suc n) (w ∷ ws) h = omega (arith, first-more n w ws, ones-le 64 w (h 0), sum-ones_le n ws (λ i. h (suc i)))
 
 -- a word past the end is 0
 pub holds-past : (i : ℕ) (ws : List ℕ) → length ws ≤ i / 64 → holds i ws ≡ false
 holds-past i ws l = ap (flag (i % 64)) (get_or-eq_default ws 0 l) ∙ zero_flag (i % 64)
+
+-- one bit of the word that is read, if it is there
+pub has-is : (i : ℕ) (ws : List ℕ) (r : Option (Bor ℕ)) (t : Bool) → IsItemAt ws (i / 64) r
+    → MatchOption r (t ≡ false) (λ w. t ≡ eqb (bit_and (w.now / 2 ^ (i % 64)) 1) 1) → t ≡ holds i ws
+has-is i ws None t p q = q ∙ sym (holds-past i ws p.3)
+has-is i ws (Some w) t p q = q ∙ and-flag (i % 64) w.now ∙ ap (flag (i % 64)) (p.4 (omega arith) 0)
 
 -- words that are 0 have no number
 pub holds-blank : (k z : ℕ) → holds z (replicate k 0) ≡ false

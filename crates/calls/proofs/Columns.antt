@@ -4,13 +4,12 @@ use Prim.Native.Nat.{ℕ, zero, suc, ◌*◌, ◌-◌}
 use mathlib.Core.Path.{◌≡◌, refl, sym, ap, ◌∙◌, subst}
 use mathlib.Core.Bool.{true, false, not, cond}
 use mathlib.Core.List.{List, [], ◌∷◌}
-use native.Mathlib.Decide.{ℕ_discrete}
 use native.Mathlib.Nat.{suc-ne-zero}
 use native.Mathlib.Omega.{arith}
 use lib.Dec.{eqb, eqb-suc-zero}
 use lib.ListN.{length, take, drop, get_or, set, replicate}
 use lib.Seq.{length-take-le}
-use borrow.Author.Tests.{eq-eqb, ne_eqb, eqb-false}
+use borrow.Author.Tests.{eq-eqb}
 use Rattle.layout.specs.Limits.{sink_max, slots_len, map_len, within}
 use Rattle.records.specs.Record as R
 use Rattle.layout.specs.Field.{field}
@@ -51,13 +50,15 @@ use Rattle.rules.proofs.LoadLaws.{load-answered}
 use Rattle.rules.proofs.Demand3.{LentOne, step_same, same-slots}
 use Rattle.rules.proofs.Tuned.{retuned-step}
 use Rattle.lines.specs.declared.kinds.Call.{Call}
-use Rattle.lines.specs.Kinds as kind
+use Rattle.std.proofs.Common.{Option, Some, None}
+use Rattle.lines.specs.declared.kinds.Kind.{Kind}
+use Rattle.lines.specs.declared.kinds.Kind.TheVariants as kind
 use Rattle.lines.specs.Kinds.{number, with_number}
 use Rattle.calls.specs.declared.Ran.{Ran}
 use Rattle.calls.specs.Run as Run
 use Rattle.calls.specs.Run.{Outcome, run}
-use Rattle.calls.specs.Compare.{plain_call, is_compared, agrees}
-use Rattle.calls.specs.Columns.{next, NoCreate, Lent, Unsaved, last_image, SameHeap, shown, SameOutput, Columns, Creates, SameColumns}
+use Rattle.calls.specs.Compare.{plain_call, as_run, is_compared, agrees}
+use Rattle.calls.specs.Columns.{next, Makes, NoCreate, Lent, Unsaved, last_image, SameHeap, shown, SameOutput, Columns, Creates, SameColumns}
 use Rattle.calls.proofs.SizeLaws.{Sized, Fitting, sizes-kept}
 use Rattle.calls.proofs.PlacesLaws.{places_declared, places_left, places_loaded, declared-places, left-places, loaded-places}
 
@@ -189,35 +190,40 @@ parts i (swept m f k map ∷ l) = (m, f, k, map)
 parts i (saved_as m k ∷ l) = (m, k, 0, [])
 
 -- the outcome has the parts p
-record Tells (n : ℕ) (l : Call) (p : Parts) (o : Outcome) : Type 0 where
+record Tells (n : ℕ) (l : Option Call) (p : Parts) (o : Outcome) : Type 0 where
   refusal : o.answer.refusal ≡ p.0
   first : o.answer.a ≡ p.1
   second : o.answer.b ≡ p.2
-  words : l.kind ≡ kind.show → shown o ≡ p.3
-  freed : l.kind ≡ kind.collect → take (map_len n) o.map ≡ p.3
+  words : Makes kind.Show l → shown o ≡ p.3
+  freed : Makes kind.Collect l → take (map_len n) o.map ≡ p.3
 
 -- a column after a call: what it tells, and what it holds
-record Column (n r : ℕ) (l : Call) (p : Parts) (P : Plain) (L b : List ℕ) (o : Outcome) : Type 0 where
+record Column (n r : ℕ) (l : Option Call) (p : Parts) (P : Plain) (L b : List ℕ) (o : Outcome) : Type 0 where
   tells : Tells n l p o
   held : Held n r P L b o
 
--- a call that the plain heap plays as R, with L as the places of the sinks and b as the last image
-abbrev Plays : ℕ → ℕ → Call → Played Plain → List ℕ → List ℕ → Outcome → Type 0
-Plays n r l R L b o = Column n r l (parts (number 0 l) R.answers) R.after L b o
+-- the first number of a call, which a show names
+abbrev first_number : Option Call → ℕ
+first_number None = 0
+first_number (Some c) = number 0 c
 
-column : (n r : ℕ) (l : Call) (q : rule.Call) (P : Plain) (L b : List ℕ) (x o : Outcome) → Called n r q P L b x o
-    → Tells n l (parts (number 0 l) (step q (state_of x)).answers) o → Plays n r l (plain_step q P) L b o
-column n r l q P L b x o C T = record { tells = subst (λ (a : List Answer). Tells n l (parts (number 0 l) a) o) C.answers T; held = C.held }
+-- a call that the plain heap plays as R, with L as the places of the sinks and b as the last image
+abbrev Plays : ℕ → ℕ → Option Call → Played Plain → List ℕ → List ℕ → Outcome → Type 0
+Plays n r l R L b o = Column n r l (parts (first_number l) R.answers) R.after L b o
+
+column : (n r : ℕ) (l : Option Call) (q : rule.Call) (P : Plain) (L b : List ℕ) (x o : Outcome) → Called n r q P L b x o
+    → Tells n l (parts (first_number l) (step q (state_of x)).answers) o → Plays n r l (plain_step q P) L b o
+column n r l q P L b x o C T = record { tells = subst (λ (a : List Answer). Tells n l (parts (first_number l) a) o) C.answers T; held = C.held }
 
 -- ---- a call in one column, by its kind
 
 -- the call with another kind
-abbrev of_kind : Call → ℕ → Call
-of_kind l k = record { kind = k; count = l.count; numbers = l.numbers }
+abbrev of_kind : Call → Kind → Option Call
+of_kind l k = Some (record { kind = k; count = l.count; numbers = l.numbers })
 
 module _ (n r : ℕ) (P : Plain) (L b : List ℕ) (l : Call) (x : Outcome) (H : Held n r P L b x) where
   -- a call that neither shows nor collects, and saves nothing
-  simple : (k : ℕ) (q : rule.Call) (L' : List ℕ) → eqb k kind.collect ≡ false → state_of (next (of_kind l k) x) ≡ (step q (state_of x)).after
+  simple : (k : Kind) (q : rule.Call) (L' : List ℕ) → (k ≡ kind.Collect → ⊥) → state_of (next (of_kind l k) x) ≡ (step q (state_of x)).after
       → Lengths x (next (of_kind l k) x) → LentOne n q → Fitting n r q → take sink_max (next (of_kind l k) x).sinks ≡ L'
       → last_image (next (of_kind l k) x) ≡ last_image x
       → ((next (of_kind l k) x).answer.refusal, (next (of_kind l k) x).answer.a, (next (of_kind l k) x).answer.b, shown (next (of_kind l k) x)) ≡ parts (number 0 l) (step q (state_of x)).answers
@@ -229,37 +235,37 @@ module _ (n r : ℕ) (P : Plain) (L b : List ℕ) (l : Call) (x : Outcome) (H : 
         first = ap (λ (p : Parts). p.1) e;
         second = ap (λ (p : Parts). p.2) e;
         words = λ _. ap (λ (p : Parts). p.3) e;
-        freed = λ z. absurd (eqb-false k kind.collect d z);
+        freed = λ z. absurd (d z);
       })
 
-  allocated : Plays n r (of_kind l kind.allocate) (plain_step (rule.allocate (number 0 l)) P) L b (next (of_kind l kind.allocate) x)
-  unfolding next run Run.allocate step answer
-  allocated = simple kind.allocate (rule.allocate _) L refl refl (record { work = refl; map = refl; image = refl }) tt tt H.list refl refl
+  allocated : Plays n r (of_kind l kind.Allocate) (plain_step (rule.allocate (number 0 l)) P) L b (next (of_kind l kind.Allocate) x)
+  unfolding next run Run.run_kind step answer
+  allocated = simple kind.Allocate (rule.allocate _) L (λ z. cc) refl (record { work = refl; map = refl; image = refl }) tt tt H.list refl refl
 
-  was_read : Plays n r (of_kind l kind.read) (plain_step (rule.read (number 0 l) (number 1 l)) P) L b (next (of_kind l kind.read) x)
-  unfolding next run Run.read step answer
-  was_read = simple kind.read (rule.read _ _) L refl refl (record { work = refl; map = refl; image = refl }) tt tt H.list refl refl
+  was_read : Plays n r (of_kind l kind.Read) (plain_step (rule.read (number 0 l) (number 1 l)) P) L b (next (of_kind l kind.Read) x)
+  unfolding next run Run.run_kind step answer
+  was_read = simple kind.Read (rule.read _ _) L (λ z. cc) refl (record { work = refl; map = refl; image = refl }) tt tt H.list refl refl
 
-  was-shown : Plays n r (of_kind l kind.show) (plain_step (rule.show (number 0 l)) P) L b (next (of_kind l kind.show) x)
-  unfolding next run Run.show step answer
+  was-shown : Plays n r (of_kind l kind.Show) (plain_step (rule.show (number 0 l)) P) L b (next (of_kind l kind.Show) x)
+  unfolding next run Run.run_kind step answer
   was-shown =
-      column n r (of_kind l kind.show) (rule.show _) P L b x _
+      column n r (of_kind l kind.Show) (rule.show _) P L b x _
       (called n r (rule.show _) P L L b b x _ H refl (record { work = refl; map = refl; image = refl }) tt tt H.list H.last H.fits)
       (record {
         refusal = refl;
         first = show-start (state_of x) H.inv _;
         second = show-length (state_of x) H.inv _;
         words = λ _. show-words (state_of x) H.inv _;
-        freed = λ z. absurd (eqb-false kind.show kind.collect refl z);
+        freed = λ z. cc;
       })
 
-  written : Plays n r (of_kind l kind.write) (plain_step (rule.write (number 0 l) (number 1 l) (number 2 l)) P) L b (next (of_kind l kind.write) x)
-  unfolding next run Run.write step answer
-  written = simple kind.write (rule.write _ _ _) L refl refl (record { work = refl; map = refl; image = refl }) tt tt H.list refl refl
+  written : Plays n r (of_kind l kind.Write) (plain_step (rule.write (number 0 l) (number 1 l) (number 2 l)) P) L b (next (of_kind l kind.Write) x)
+  unfolding next run Run.run_kind step answer
+  written = simple kind.Write (rule.write _ _ _) L (λ z. cc) refl (record { work = refl; map = refl; image = refl }) tt tt H.list refl refl
 
-  root-set : Plays n r (of_kind l kind.root) (plain_step (rule.set_root (number 0 l) (number 1 l)) P) L b (next (of_kind l kind.root) x)
-  unfolding next run Run.set_root step answer
-  root-set = simple kind.root (rule.set_root _ _) L refl refl (record { work = refl; map = refl; image = refl }) tt tt H.list refl refl
+  root-set : Plays n r (of_kind l kind.Root) (plain_step (rule.set_root (number 0 l) (number 1 l)) P) L b (next (of_kind l kind.Root) x)
+  unfolding next run Run.run_kind step answer
+  root-set = simple kind.Root (rule.set_root _ _) L (λ z. cc) refl (record { work = refl; map = refl; image = refl }) tt tt H.list refl refl
 
   -- the places of the sinks after a declaration, by the plain heap
   abbrev list_after : ℕ → List ℕ
@@ -273,10 +279,10 @@ module _ (n r : ℕ) (P : Plain) (L b : List ℕ) (l : Call) (x : Outcome) (H : 
       ∙ (λ j. places_declared (parts 0 (told j)).0
       ((ap (λ (k : ℕ). R.is_sink (rec_of k x.records i)) H.objects ∙ held-sink n r P L b x H i) j) i (H.list j))
 
-  sink-declared : Plays n r (of_kind l kind.sink) (plain_step (rule.declare_sink (number 0 l)) P) (list_after (number 0 l)) b (next (of_kind l kind.sink) x)
-  unfolding next run Run.declare_sink step answer
+  sink-declared : Plays n r (of_kind l kind.Sink) (plain_step (rule.declare_sink (number 0 l)) P) (list_after (number 0 l)) b (next (of_kind l kind.Sink) x)
+  unfolding next run Run.run_kind step answer
   sink-declared =
-      simple kind.sink (rule.declare_sink _) (list_after (number 0 l)) refl refl (record { work = refl; map = refl; image = refl }) tt tt (list-declared (number 0 l)) refl refl
+      simple kind.Sink (rule.declare_sink _) (list_after (number 0 l)) (λ z. cc) refl (record { work = refl; map = refl; image = refl }) tt tt (list-declared (number 0 l)) refl refl
 
   -- the places of the sinks after a collection
   abbrev list_left : List ℕ
@@ -297,18 +303,18 @@ module _ (n r : ℕ) (P : Plain) (L b : List ℕ) (l : Call) (x : Outcome) (H : 
 
   -- a collection of either kind: the plain heap does not look at it
   collected : (way : Collect.Kind)
-      → Plays n r (of_kind l kind.collect) (plain_step (rule.collect Collect.plainly [] []) P) list_left b
+      → Plays n r (of_kind l kind.Collect) (plain_step (rule.collect Collect.plainly [] []) P) list_left b
       (Run.collect x.answer.control x.answer.saved x.records x.slots x.roots x.sinks x.sets x.work x.map x.image way)
-  unfolding Run.collect step answer plain_step
+  unfolding step answer plain_step
   collected way =
       let f = collect-within way x.answer.control x.records x.slots x.roots x.sinks x.sets x.work x.map in
       let C = called n r (rule.collect way x.work x.map) P L list_left b b x _ H refl (record { work = f.4.0; map = f.5.0; image = refl }) (H.lent.0, H.lent.1, tt) tt (list_left_lem way) H.last H.fits in
-      column n r (of_kind l kind.collect) (rule.collect way x.work x.map) P list_left b x _ C
+      column n r (of_kind l kind.Collect) (rule.collect way x.work x.map) P list_left b x _ C
       (record {
         refusal = refl;
         first = refl;
         second = refl;
-        words = λ z. absurd (eqb-false kind.collect kind.show refl z);
+        words = λ z. cc;
         freed = λ _. ap (λ (k : ℕ). take (map_len k) (Collect.collect way x.answer.control x.records x.slots x.roots x.sinks x.sets x.work x.map).map) (sym H.objects);
       })
 
@@ -342,8 +348,8 @@ module _ (n r : ℕ) (P : Plain) (L b : List ℕ) (l : Call) (x : Outcome) (H : 
       (λ z e. refl) (λ m e. absurd (suc-ne-zero m e)) save-done
       ∙ ap length (heap-image s H.inv) ∙ ap length heap_is
 
-  saved-last : last_image (next (of_kind l kind.save) x) ≡ b'
-  unfolding next run Run.save Run.ran_save
+  saved-last : last_image (next (of_kind l kind.Save) x) ≡ b'
+  unfolding next run Run.run_kind Run.ran_save
   saved-last = rw (eq-eqb _ 0 save-done) (save-image s H.inv x.image save-done ∙ heap_is)
 
   saved-sized : Sized n r b'
@@ -357,14 +363,14 @@ module _ (n r : ℕ) (P : Plain) (L b : List ℕ) (l : Call) (x : Outcome) (H : 
             ∙ length-take-le x.answer.control.r x.roots H.inv.roots-long ∙ H.roots,
       )
 
-  saved : Column n r (of_kind l kind.save) (0, length b', 0, []) P L b' (next (of_kind l kind.save) x)
+  saved : Column n r (of_kind l kind.Save) (0, length b', 0, []) P L b' (next (of_kind l kind.Save) x)
   saved = record {
-    tells = unfold next run Run.save Run.ran_save in (record {
+    tells = unfold next run Run.run_kind Run.ran_save in (record {
       refusal = save-done;
       first = saved-length;
       second = refl;
-      words = λ z. absurd (eqb-false kind.save kind.show refl z);
-      freed = λ z. absurd (eqb-false kind.save kind.collect refl z);
+      words = λ z. cc;
+      freed = λ z. cc;
     });
     held = record {
       inv = subst Inv (sym same-state) H.inv;
@@ -372,15 +378,15 @@ module _ (n r : ℕ) (P : Plain) (L b : List ℕ) (l : Call) (x : Outcome) (H : 
       roots = ap (λ (t : State). t.control.r) same-state ∙ H.roots;
       plain = ap plain_of same-state ∙ H.plain;
       list = ap (λ (t : State). take sink_max t.sinks) same-state ∙ H.list;
-      lent = unfold next run Run.save Run.ran_save in
+      lent = unfold next run Run.run_kind Run.ran_save in
           (H.lent.0, H.lent.1, rw (save-within x.answer.control x.records x.slots x.roots x.sinks x.sets x.image).0 H.lent.2);
       last = saved-last;
       fits = saved-sized;
     };
   }
     where
-      same-state : state_of (next (of_kind l kind.save) x) ≡ s
-      same-state = unfold next run Run.save Run.ran_save in
+      same-state : state_of (next (of_kind l kind.Save) x) ≡ s
+      same-state = unfold next run Run.run_kind Run.ran_save in
           (ap (λ (c : Control). record { control = c; records = x.records; slots = x.slots; roots = x.roots; sinks = x.sinks; sets = x.sets })
           (save-control x.answer.control x.records x.slots x.roots x.sinks x.sets x.image))
 
@@ -414,8 +420,8 @@ module _ (n r : ℕ) (P : Plain) (L b : List ℕ) (l : Call) (x : Outcome) (H : 
       (omega (arith, f, e, I.recs-long), omega (arith, f, e, I.slots-long), omega (arith, f, g, I.roots-long), I.sinks-long, omega (arith, f, e, I.sets-long))
 
   -- refused, the column goes on with the record that it has
-  load-state : state_of (next (of_kind l kind.load) x) ≡ (step (rule.load tuning (last_image x) x.records x.slots x.roots x.sinks x.sets) s).after
-  unfolding next run Run.load Run.ran_load step answer loaded Load.load by
+  load-state : state_of (next (of_kind l kind.Load) x) ≡ (step (rule.load tuning (last_image x) x.records x.slots x.roots x.sinks x.sets) s).after
+  unfolding next run Run.run_kind Run.ran_load step answer loaded Load.load by
   load-state =
       all-by
       (λ (o : Load.Outcome).
@@ -436,67 +442,69 @@ module _ (n r : ℕ) (P : Plain) (L b : List ℕ) (l : Call) (x : Outcome) (H : 
   load-decides : first (Load.load_tests tuning (last_image x) x.records x.slots x.roots x.sinks x.sets) ≡ first (image_tests (last_image x))
   load-decides = load-tests tuning (last_image x) x.records x.slots x.roots x.sinks x.sets load-room ∙ load-input
 
-  load-tells : Tells n (of_kind l kind.load) (told_by (last_image x)) (next (of_kind l kind.load) x)
-  unfolding next run Run.load Run.ran_load with_last new_control
+  load-tells : Tells n (of_kind l kind.Load) (told_by (last_image x)) (next (of_kind l kind.Load) x)
+  unfolding next run Run.run_kind Run.ran_load with_last new_control
   load-tells =
       let t = load-decides in
       record {
         refusal = load-answered tuning (last_image x) x.records x.slots x.roots x.sinks x.sets ∙ t;
         first = load_told (λ (c : Control). c.n) n t (λ z. (load_sized z).0) refl;
         second = load_told (λ (c : Control). c.r) r t (λ z. (load_sized z).1) refl;
-        words = λ z. absurd (eqb-false kind.load kind.show refl z);
-        freed = λ z. absurd (eqb-false kind.load kind.collect refl z);
+        words = λ z. cc;
+        freed = λ z. cc;
       }
 
-  load-list : take sink_max (next (of_kind l kind.load) x).sinks ≡ places_loaded (last_image x) L
+  load-list : take sink_max (next (of_kind l kind.Load) x).sinks ≡ places_loaded (last_image x) L
   load-list =
       ap (λ (t : State). take sink_max t.sinks) load-state
       ∙ loaded-places s H.inv tuning (last_image x) x.records x.slots x.roots x.sinks x.sets load-decides
       ∙ ap (places_loaded (last_image x)) H.list
 
-  load-held : Held n r (plain_step (rule.load usual_tuning (last_image x) [] [] [] [] []) P).after (places_loaded (last_image x) L) (last_image x) (next (of_kind l kind.load) x)
-  unfolding next run Run.load Run.ran_load plain_step
+  load-held : Held n r (plain_step (rule.load usual_tuning (last_image x) [] [] [] [] []) P).after (places_loaded (last_image x) L) (last_image x) (next (of_kind l kind.Load) x)
+  unfolding next run Run.run_kind Run.ran_load plain_step
   load-held =
-      let C = called n r (rule.load tuning (last_image x) x.records x.slots x.roots x.sinks x.sets) P L _ b (last_image x) x (next (of_kind l kind.load) x) H load-state (record { work = refl; map = refl; image = refl }) load-room load_sized load-list refl load_sized in
-      subst (λ (Q : Played Plain). Held n r Q.after (places_loaded (last_image x) L) (last_image x) (next (of_kind l kind.load) x))
+      let C = called n r (rule.load tuning (last_image x) x.records x.slots x.roots x.sinks x.sets) P L _ b (last_image x) x (next (of_kind l kind.Load) x) H load-state (record { work = refl; map = refl; image = refl }) load-room load_sized load-list refl load_sized in
+      subst (λ (Q : Played Plain). Held n r Q.after (places_loaded (last_image x) L) (last_image x) (next (of_kind l kind.Load) x))
       (retuned-step (loads tuning usual_tuning (last_image x) x.records x.slots x.roots x.sinks x.sets (load-tuned ∙ usual)) P) C.held
     where
       usual : false ≡ bad_tuning usual_tuning
       usual = unfold bad_tuning within in refl
 
-  was-loaded : Column n r (of_kind l kind.load) (told_by b) (plain_step (rule.load usual_tuning b [] [] [] [] []) P).after (places_loaded b L) b (next (of_kind l kind.load) x)
+  was-loaded : Column n r (of_kind l kind.Load) (told_by b) (plain_step (rule.load usual_tuning b [] [] [] [] []) P).after (places_loaded b L) b (next (of_kind l kind.Load) x)
   was-loaded =
-      subst (λ (i : List ℕ). Column n r (of_kind l kind.load) (told_by i) (plain_step (rule.load usual_tuning i [] [] [] [] []) P).after (places_loaded i L) i (next (of_kind l kind.load) x)) H.last
+      subst (λ (i : List ℕ). Column n r (of_kind l kind.Load) (told_by i) (plain_step (rule.load usual_tuning i [] [] [] [] []) P).after (places_loaded i L) i (next (of_kind l kind.Load) x)) H.last
       (record { tells = load-tells; held = load-held })
 
-  -- the outcome of a line that makes no call
+-- ---- a line that makes no call
+
+module _ (n r : ℕ) (P : Plain) (L b : List ℕ) (x : Outcome) (H : Held n r P L b x) where
+  -- its outcome
   abbrev same : Outcome
   same = Run.idle x.answer.control x.answer.saved x.records x.slots x.roots x.sinks x.sets x.work x.map x.image
 
   idle : Held n r P L b same
-  unfolding Run.idle
   idle = record { inv = H.inv; objects = H.objects; roots = H.roots; plain = H.plain; list = H.list; lent = H.lent; last = H.last; fits = H.fits }
 
-  idled : (l.kind ≡ kind.collect → ⊥) → next l x ≡ same → Plays n r l (record { answers = []; after = P }) L b (next l x)
-  unfolding Run.idle
-  idled d e = rw e (record { tells = record { refusal = refl; first = refl; second = refl; words = λ _. refl; freed = λ z. absurd (d z) }; held = idle })
+  idled : (l : Option Call) → (Makes kind.Collect l → ⊥) → next l x ≡ same → Plays n r l (record { answers = []; after = P }) L b (next l x)
+  idled l d e = rw e (record { tells = record { refusal = refl; first = refl; second = refl; words = λ _. refl; freed = λ z. absurd (d z) }; held = idle })
 
 -- ---- a call in both columns
 
-record Paired (n r : ℕ) (l : Call) (x y : Outcome) : Type 0 where
+record Paired (n r : ℕ) (l : Option Call) (x y : Outcome) : Type 0 where
   after : Plain
   list : List ℕ
   image : List ℕ
-  agreed : agrees l (next l x).answer (next (plain_call l) y).answer ≡ true
-  output : SameOutput n l (next l x) (next (plain_call l) y)
+  agreed : agrees l (next l x).answer (next (as_run true l) y).answer ≡ true
+  output : SameOutput n l (next l x) (next (as_run true l) y)
   first : Held n r after list image (next l x)
-  second : Held n r after list image (next (plain_call l) y)
+  second : Held n r after list image (next (as_run true l) y)
 
-agree-by : (l : Call) (x y : Ran) → x.refusal ≡ y.refusal → x.a ≡ y.a → x.b ≡ y.b → agrees l x y ≡ true
+agree-by : (l : Option Call) (x y : Ran) → x.refusal ≡ y.refusal → x.a ≡ y.a → x.b ≡ y.b → agrees l x y ≡ true
 unfolding agrees
-agree-by l x y e f g = rw (eq-eqb _ _ e, eq-eqb _ _ f, eq-eqb _ _ g) (or-true (not (is_compared l)))
+agree-by None x y e f g = refl
+agree-by (Some l) x y e f g = rw (eq-eqb _ _ e, eq-eqb _ _ f, eq-eqb _ _ g) (or-true (not (is_compared l.kind)))
 
-paired : (n r : ℕ) (l : Call) (p : Parts) (Q : Plain) (M b : List ℕ) (x y : Outcome) → Column n r l p Q M b (next l x) → Column n r l p Q M b (next (plain_call l) y)
+paired : (n r : ℕ) (l : Option Call) (p : Parts) (Q : Plain) (M b : List ℕ) (x y : Outcome) → Column n r l p Q M b (next l x) → Column n r l p Q M b (next (as_run true l) y)
     → Paired n r l x y
 paired n r l p Q M b x y C D =
     let T = C.tells in
@@ -516,62 +524,56 @@ first-zero : (l : List ℕ) → get_or (set l 0 0) 0 0 ≡ 0
 first-zero [] = refl
 first-zero (w ∷ l) = refl
 
--- a kind is k, or not
-by_kind : (Q : ℕ → Type 0) (j k : ℕ) → Q k → ((j ≡ k → ⊥) → Q j) → Q j
-by_kind Q j k here there = go (ℕ_discrete j k)
-  where
-    go : Dec (j ≡ k) → Q j
-    go (yes e) = subst Q (sym e) here
-    go (no d) = there d
-
 module _ (n r : ℕ) (P : Plain) (L b : List ℕ) (l : Call) (x y : Outcome) (H : Held n r P L b x) (K : Held n r P L b y) where
   -- the same call in both columns
-  alike : (k : ℕ) (p : Parts) (Q : Plain) (M b' : List ℕ) → plain_call (of_kind l k) ≡ of_kind l k
+  alike : (k : Kind) (p : Parts) (Q : Plain) (M b' : List ℕ) → as_run true (of_kind l k) ≡ of_kind l k
       → ((z : Outcome) → Held n r P L b z → Column n r (of_kind l k) p Q M b' (next (of_kind l k) z)) → Paired n r (of_kind l k) x y
   alike k p Q M b' e f = paired n r (of_kind l k) p Q M b' x y (f x H) (rw e (f y K))
 
   -- the plain heap leaves an analysis out
-  analysed : Paired n r (of_kind l kind.analyse) x y
-  unfolding next run plain_call Run.analyse Run.idle step agrees is_compared plain_step
+  analysed : Paired n r (of_kind l kind.Analyse) x y
+  unfolding next run Run.run_kind as_run plain_call step agrees is_compared plain_step
   analysed =
       let f = analyse-within x.answer.control x.records x.slots x.roots x.sinks x.sets x.work in
-      let C = called n r (rule.analyse x.work) P L L b b x (next (of_kind l kind.analyse) x) H refl (record { work = f.2.0; map = refl; image = refl }) tt tt H.list H.last H.fits in
+      let C = called n r (rule.analyse x.work) P L L b b x (next (of_kind l kind.Analyse) x) H refl (record { work = f.2.0; map = refl; image = refl }) tt tt H.list H.last H.fits in
       record {
         after = P;
         list = L;
         image = b;
         agreed = refl;
-        output = record { words = λ z. absurd (eqb-false kind.analyse kind.show refl z); freed = λ z. absurd (eqb-false kind.analyse kind.collect refl z) };
+        output = record { words = λ z. cc; freed = λ z. cc };
         first = C.held;
-        second = idle n r P L b l y K;
+        second = idle n r P L b y K;
       }
 
-  both-collected : Paired n r (of_kind l kind.collect) x y
-  unfolding next run plain_call with_number
+  both-collected : Paired n r (of_kind l kind.Collect) x y
+  unfolding next run Run.run_kind as_run plain_call with_number
   both-collected = paired n r _ _ _ _ _ x y (collected n r P L b l x H _) (rw first-zero (collected n r P L b l y K Collect.plainly))
 
-  abbrev Pair : ℕ → Type 0
-  Pair k = Paired n r (of_kind l k) x y
+  pair-of : (k : Kind) → (k ≡ kind.Create → ⊥) → Paired n r (of_kind l k) x y
+  unfolding next run Run.run_kind as_run plain_call
+  pair-of kind.Wrote d = alike kind.Wrote _ _ _ _ refl (λ z K. idled n r P L b z K _ (λ e. cc) refl)
+  pair-of kind.Loaded d = alike kind.Loaded _ _ _ _ refl (λ z K. idled n r P L b z K _ (λ e. cc) refl)
+  pair-of kind.Create d = absurd (d refl)
+  pair-of kind.Allocate d = alike kind.Allocate _ _ _ _ refl (allocated n r P L b l)
+  pair-of kind.Read d = alike kind.Read _ _ _ _ refl (was_read n r P L b l)
+  pair-of kind.Show d = alike kind.Show _ _ _ _ refl (was-shown n r P L b l)
+  pair-of kind.Write d = alike kind.Write _ _ _ _ refl (written n r P L b l)
+  pair-of kind.Root d = alike kind.Root _ _ _ _ refl (root-set n r P L b l)
+  pair-of kind.Sink d = alike kind.Sink _ _ _ _ refl (sink-declared n r P L b l)
+  pair-of kind.Analyse d = analysed
+  pair-of kind.Collect d = both-collected
+  pair-of kind.Save d = alike kind.Save _ _ _ _ refl (saved n r P L b l)
+  pair-of kind.Load d = alike kind.Load _ _ _ _ refl (was-loaded n r P L b l)
 
-  pair : (l.kind ≡ kind.create → ⊥) → Paired n r l x y
-  unfolding next run plain_call
-  pair create =
-      by_kind Pair l.kind kind.allocate (alike kind.allocate _ _ _ _ refl (allocated n r P L b l)) λ allocate.
-      by_kind Pair l.kind kind.read (alike kind.read _ _ _ _ refl (was_read n r P L b l)) λ read.
-      by_kind Pair l.kind kind.show (alike kind.show _ _ _ _ refl (was-shown n r P L b l)) λ show.
-      by_kind Pair l.kind kind.write (alike kind.write _ _ _ _ refl (written n r P L b l)) λ write.
-      by_kind Pair l.kind kind.root (alike kind.root _ _ _ _ refl (root-set n r P L b l)) λ root.
-      by_kind Pair l.kind kind.sink (alike kind.sink _ _ _ _ refl (sink-declared n r P L b l)) λ sink.
-      by_kind Pair l.kind kind.analyse analysed λ analyse.
-      by_kind Pair l.kind kind.collect both-collected λ collect.
-      by_kind Pair l.kind kind.save (alike kind.save _ _ _ _ refl (saved n r P L b l)) λ save.
-      by_kind Pair l.kind kind.load (alike kind.load _ _ _ _ refl (was-loaded n r P L b l)) λ load.
-      alike l.kind _ _ _ _ (rw (ne_eqb _ kind.analyse analyse, ne_eqb _ kind.collect collect) refl)
-      (λ z K. idled n r P L b l z K collect (rw (ne_eqb _ kind.create create, ne_eqb _ kind.allocate allocate, ne_eqb _ kind.read read, ne_eqb _ kind.show show, ne_eqb _ kind.write write, ne_eqb _ kind.root root, ne_eqb _ kind.sink sink, ne_eqb _ kind.analyse analyse, ne_eqb _ kind.collect collect, ne_eqb _ kind.save save, ne_eqb _ kind.load load) refl))
+pair : (n r : ℕ) (P : Plain) (L b : List ℕ) (l : Option Call) (x y : Outcome) → Held n r P L b x → Held n r P L b y → (Makes kind.Create l → ⊥) → Paired n r l x y
+unfolding next run Run.run_kind as_run
+pair n r P L b None x y H K d = paired n r None _ _ _ _ x y (idled n r P L b x H None (λ z. z) refl) (idled n r P L b y K None (λ z. z) refl)
+pair n r P L b (Some l) x y H K d = pair-of n r P L b l x y H K l.kind d
 
 -- ---- lists of calls
 
-columns : (n r : ℕ) (P : Plain) (L b : List ℕ) (calls : List Call) (x y : Outcome) → Held n r P L b x → Held n r P L b y → NoCreate calls → Columns n r calls x y
+columns : (n r : ℕ) (P : Plain) (L b : List ℕ) (calls : List (Option Call)) (x y : Outcome) → Held n r P L b x → Held n r P L b y → NoCreate calls → Columns n r calls x y
 columns n r P L b [] x y H K h = same_heap n r P L b x y H K
 columns n r P L b (l ∷ ls) x y H K h =
     let p = pair n r P L b l x y H K h.0 in
@@ -588,7 +590,7 @@ create-of x = Run.create x.answer.control x.answer.saved x.records x.slots x.roo
 
 made-with : (n r : ℕ) (t : Tuning) (x : Outcome) → (create-of x n r t).answer.refusal ≡ 0 → Lent n r x → Unsaved x
     → Held n r (plain_created n r) (replicate sink_max 0) [] (create-of x n r t)
-unfolding Run.create new_control created zeros
+unfolding new_control created zeros
 made-with n r t x e h u =
     let a = accepted n r t x.records x.slots x.roots x.sinks x.sets e in
     record {
@@ -602,13 +604,13 @@ made-with n r t x e h u =
       fits = none-sized n r;
     }
 
-begun : (n r : ℕ) (l : Call) (x : Outcome) → Creates n r l → (next l x).answer.refusal ≡ 0 → Lent n r x → Unsaved x
-    → Held n r (plain_created n r) (replicate sink_max 0) [] (next l x)
+begun : (n r : ℕ) (l : Call) (x : Outcome) → Creates n r l → (next (Some l) x).answer.refusal ≡ 0 → Lent n r x → Unsaved x
+    → Held n r (plain_created n r) (replicate sink_max 0) [] (next (Some l) x)
 begun n r l x c e h u =
     subst (Held n r (plain_created n r) (replicate sink_max 0) []) (sym made) (made-with n r (Run.tuning_in l) x (ap (λ (o : Outcome). o.answer.refusal) (sym made) ∙ e) h u)
   where
-    made : next l x ≡ create-of x n r (Run.tuning_in l)
-    made = unfold next run in (rw (eq-eqb l.kind kind.create c.0, c.1, c.2) refl)
+    made : next (Some l) x ≡ create-of x n r (Run.tuning_in l)
+    made = unfold next run Run.run_kind in (rw (c.0, c.1, c.2) refl)
 
 pub same-columns : SameColumns
 same-columns n r l m x y a b e f h k u v calls c = columns n r (plain_created n r) _ [] calls _ _ (begun n r l x a e h u) (begun n r m y b f k v) c

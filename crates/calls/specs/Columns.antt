@@ -1,21 +1,28 @@
 -- The claim about the two columns of a replay: one heap runs the calls of a list as they say, the other runs them plainly.
-use Rattle.std.specs.Prelude.{ℕ, ◌+◌, ◌*◌, ◌≤◌, ◌≡◌, true, List, [], ◌∷◌, length, take, drop}
+use Rattle.std.specs.Prelude.{ℕ, ◌+◌, ◌*◌, ◌≤◌, ◌≡◌, true, List, [], ◌∷◌, length, take, drop, Option, Some, None}
 use Rattle.layout.specs.Limits.{sink_max, slots_len, work_len, map_len}
 use Rattle.records.specs.Record.{width, free, is_sink}
 use Rattle.rules.specs.Buffers.{rec_of}
 use Rattle.lines.specs.declared.kinds.Call.{Call}
-use Rattle.lines.specs.Kinds.{create, show, collect, number}
+use Rattle.lines.specs.declared.kinds.Kind.{Kind}
+use Rattle.lines.specs.declared.kinds.Kind.TheVariants as kind
+use Rattle.lines.specs.Kinds.{number}
 use Rattle.calls.specs.Run.{Outcome, run}
-use Rattle.calls.specs.Compare.{plain_call, agrees}
+use Rattle.calls.specs.Compare.{as_run, agrees}
 
--- a call run on what the one before it left
-unfoldable pub next : Call → Outcome → Outcome
+-- the call of a line, if it makes one, run on what the one before it left
+unfoldable pub next : Option Call → Outcome → Outcome
 next l o = run o.answer.control o.answer.saved o.records o.slots o.roots o.sinks o.sets o.work o.map o.image l
 
+-- a line makes a call of this kind
+abbrev pub Makes : Kind → Option Call → Type 0
+Makes k None = ⊥
+Makes k (Some c) = c.kind ≡ k
+
 -- none of the calls is a create
-abbrev pub NoCreate : List Call → Type 0
+abbrev pub NoCreate : List (Option Call) → Type 0
 NoCreate [] = Unit {0}
-NoCreate (l ∷ ls) = (l.kind ≡ create → ⊥) × NoCreate ls
+NoCreate (l ∷ ls) = (Makes kind.Create l → ⊥) × NoCreate ls
 
 -- work and map are long enough for n objects, and the bytes of the image for any image of n objects and r roots
 abbrev pub Lent : ℕ → ℕ → Outcome → Type 0
@@ -43,25 +50,25 @@ abbrev pub shown : Outcome → List ℕ
 shown o = take o.answer.b (drop o.answer.a o.slots)
 
 -- what the call gives besides its answer: the words shown, the freed map
-pub record SameOutput (n : ℕ) (l : Call) (x y : Outcome) : Type 0 where
-  pub words : l.kind ≡ show → shown x ≡ shown y
-  pub freed : l.kind ≡ collect → take (map_len n) x.map ≡ take (map_len n) y.map
+pub record SameOutput (n : ℕ) (l : Option Call) (x y : Outcome) : Type 0 where
+  pub words : Makes kind.Show l → shown x ≡ shown y
+  pub freed : Makes kind.Collect l → take (map_len n) x.map ≡ take (map_len n) y.map
 
 -- before each call and after the last the two heaps are the same, and every call gives answers that agree and the same words or map
-abbrev pub Columns : ℕ → ℕ → List Call → Outcome → Outcome → Type 0
+abbrev pub Columns : ℕ → ℕ → List (Option Call) → Outcome → Outcome → Type 0
 Columns n r [] x y = SameHeap n r x y
 Columns n r (l ∷ ls) x y =
-    SameHeap n r x y × (agrees l (next l x).answer (next (plain_call l) y).answer ≡ true) × SameOutput n l (next l x) (next (plain_call l) y)
-    × Columns n r ls (next l x) (next (plain_call l) y)
+    SameHeap n r x y × (agrees l (next l x).answer (next (as_run true l) y).answer ≡ true) × SameOutput n l (next l x) (next (as_run true l) y)
+    × Columns n r ls (next l x) (next (as_run true l) y)
 
 -- a call that creates a heap of n objects and r roots, with the usual numbers of the analysis or with others
 abbrev pub Creates : ℕ → ℕ → Call → Type 0
-Creates n r l = (l.kind ≡ create) × (number 0 l ≡ n) × (number 1 l ≡ r)
+Creates n r l = (l.kind ≡ kind.Create) × (number 0 l ≡ n) × (number 1 l ≡ r)
 
 -- for two columns that begin with an accepted create of n objects and r roots, each in buffers of its own, of any contents, and with nothing saved; the
 -- numbers of the analysis need not be the same
 abbrev pub SameColumns : Type 0
 SameColumns =
-    (n r : ℕ) (l m : Call) (x y : Outcome) → Creates n r l → Creates n r m → (next l x).answer.refusal ≡ 0 → (next m y).answer.refusal ≡ 0
-    → Lent n r x → Lent n r y → Unsaved x → Unsaved y → (calls : List Call) → NoCreate calls
-    → Columns n r calls (next l x) (next m y)
+    (n r : ℕ) (l m : Call) (x y : Outcome) → Creates n r l → Creates n r m → (next (Some l) x).answer.refusal ≡ 0 → (next (Some m) y).answer.refusal ≡ 0
+    → Lent n r x → Lent n r y → Unsaved x → Unsaved y → (calls : List (Option Call)) → NoCreate calls
+    → Columns n r calls (next (Some l) x) (next (Some m) y)

@@ -1,5 +1,5 @@
 -- What running a call of a list answers and leaves in the buffers.
-use Rattle.std.specs.Prelude.{ℕ, cond, List, eqb, take}
+use Rattle.std.specs.Prelude.{ℕ, cond, List, eqb, take, Option, Some, None}
 use Rattle.layout.specs.declared.answers.Control.{Control}
 use Rattle.layout.specs.declared.answers.Done.{Done}
 use Rattle.layout.specs.declared.answers.Saved.{Saved}
@@ -17,7 +17,8 @@ use Rattle.rules.specs.Collect as Collect
 use Rattle.rules.specs.Save as Save
 use Rattle.rules.specs.Load as Load
 use Rattle.lines.specs.declared.kinds.Call.{Call}
-use Rattle.lines.specs.Kinds as kind
+use Rattle.lines.specs.declared.kinds.Kind.{Kind}
+use Rattle.lines.specs.declared.kinds.Kind.TheVariants as kind
 use Rattle.lines.specs.Kinds.{number, tuned_count}
 use Rattle.calls.specs.declared.Ran.{Ran}
 
@@ -56,60 +57,60 @@ tuning_in l = cond (eqb l.count tuned_count) (tuning_of (number 2 l) (number 3 l
 -- c is the control record that the call is handed; the first `saved` bytes of the image are what was saved last
 module _ (c : Control) (saved : ℕ) (recs slots roots list sets work map image : List ℕ) where
   -- nothing is done
-  unfoldable pub idle : Outcome
+  abbrev pub idle : Outcome
   idle = gives (ran 0 0 0 0 c saved) recs slots roots list sets work map image
 
-  unfoldable pub create : ℕ → ℕ → Tuning → Outcome
+  abbrev pub create : ℕ → ℕ → Tuning → Outcome
   create n r t =
       let o = Create.create n r t recs slots roots list sets in
       gives (ran o.answer.refusal 0 0 0 o.answer.control saved) o.records o.slots o.roots o.sinks o.sets work map image
 
-  unfoldable pub allocate : ℕ → Outcome
+  abbrev pub allocate : ℕ → Outcome
   allocate width =
       let o = Allocate.allocate c width recs slots in
       gives (ran o.answer.refusal o.answer.object 0 0 o.answer.control saved) o.records o.slots roots list sets work map image
 
-  unfoldable pub read : ℕ → ℕ → Outcome
+  abbrev pub read : ℕ → ℕ → Outcome
   read i k = let a = Read.read c i k recs slots in gives (ran a.refusal a.word 0 0 a.control saved) recs slots roots list sets work map image
 
   -- where the part is that is shown
-  unfoldable pub show : ℕ → Outcome
+  abbrev pub show : ℕ → Outcome
   show i =
       let a = (Show.show c i recs slots).answer in
       gives (ran a.refusal a.start a.length 0 a.control saved) recs slots roots list sets work map image
 
-  unfoldable pub write : ℕ → ℕ → ℕ → Outcome
+  abbrev pub write : ℕ → ℕ → ℕ → Outcome
   write i k w =
       let o = Write.write c i k w recs slots list sets in
       gives (ran o.answer.refusal 0 0 0 o.answer.control saved) o.records o.slots roots list o.sets work map image
 
-  unfoldable pub set_root : ℕ → ℕ → Outcome
+  abbrev pub set_root : ℕ → ℕ → Outcome
   set_root j w =
       let o = SetRoot.set_root c j w recs roots in
       gives (ran o.answer.refusal 0 0 0 o.answer.control saved) recs slots o.roots list sets work map image
 
-  unfoldable pub declare_sink : ℕ → Outcome
+  abbrev pub declare_sink : ℕ → Outcome
   declare_sink i =
       let o = DeclareSink.declare_sink c i recs slots roots list sets in
       gives (ran o.answer.refusal 0 0 0 o.answer.control saved) o.records slots roots o.sinks o.sets work map image
 
-  unfoldable pub analyse : Outcome
+  abbrev pub analyse : Outcome
   analyse =
       let o = Analyse.analyse c recs slots roots list sets work in
       gives (ran o.answer.refusal o.answer.clusters o.answer.members 0 o.answer.control saved) o.records slots roots list o.sets o.work map image
 
-  unfoldable pub collect : Collect.Kind → Outcome
+  abbrev pub collect : Collect.Kind → Outcome
   collect kind =
       let o = Collect.collect kind c recs slots roots list sets work map in
       gives (ran o.answer.refusal o.answer.freed o.answer.kept o.answer.scanned o.answer.control saved) o.records o.slots roots o.sinks o.sets o.work o.map image
 
-  unfoldable pub save : Outcome
+  abbrev pub save : Outcome
   save =
       let o = Save.save c recs slots roots list sets image in
       gives (ran_save o.answer saved) recs slots roots list sets work map o.image
 
   -- of the last image, with the numbers that the column has
-  unfoldable pub load : Outcome
+  abbrev pub load : Outcome
   load =
       let o = Load.load c.tuning (take saved image) recs slots roots list sets in
       gives (ran_load o.answer c saved) o.records o.slots o.roots o.sinks o.sets work map image
@@ -118,18 +119,23 @@ module _ (c : Control) (saved : ℕ) (recs slots roots list sets work map image 
   abbrev way : ℕ → Collect.Kind
   way w = cond (eqb w 0) Collect.plainly Collect.by_clusters
 
+  -- a call of a kind; a line that tells a name does nothing
+  unfoldable pub run_kind : Kind → Call → Outcome
+  run_kind kind.Wrote l = idle
+  run_kind kind.Loaded l = idle
+  run_kind kind.Create l = create (number 0 l) (number 1 l) (tuning_in l)
+  run_kind kind.Allocate l = allocate (number 0 l)
+  run_kind kind.Read l = read (number 0 l) (number 1 l)
+  run_kind kind.Show l = show (number 0 l)
+  run_kind kind.Write l = write (number 0 l) (number 1 l) (number 2 l)
+  run_kind kind.Root l = set_root (number 0 l) (number 1 l)
+  run_kind kind.Sink l = declare_sink (number 0 l)
+  run_kind kind.Analyse l = analyse
+  run_kind kind.Collect l = collect (way (number 0 l))
+  run_kind kind.Save l = save
+  run_kind kind.Load l = load
+
   -- the call by its kind; a line that makes none does nothing
-  unfoldable pub run : Call → Outcome
-  run l =
-      cond (eqb l.kind kind.create) (create (number 0 l) (number 1 l) (tuning_in l))
-      (cond (eqb l.kind kind.allocate) (allocate (number 0 l))
-      (cond (eqb l.kind kind.read) (read (number 0 l) (number 1 l))
-      (cond (eqb l.kind kind.show) (show (number 0 l))
-      (cond (eqb l.kind kind.write) (write (number 0 l) (number 1 l) (number 2 l))
-      (cond (eqb l.kind kind.root) (set_root (number 0 l) (number 1 l))
-      (cond (eqb l.kind kind.sink) (declare_sink (number 0 l))
-      (cond (eqb l.kind kind.analyse) analyse
-      (cond (eqb l.kind kind.collect) (collect (way (number 0 l)))
-      (cond (eqb l.kind kind.save) save
-      (cond (eqb l.kind kind.load) load
-      idle))))))))))
+  unfoldable pub run : Option Call → Outcome
+  run None = idle
+  run (Some l) = run_kind l.kind l

@@ -39,15 +39,16 @@ pub fn answer(refusal: u32, a: u32, b: u32, c: u32, control: Control, saved: u32
     ensures { result ≡ Run.ran refusal a b c control saved }
 {
     Ran {
-        refusal: refusal,
-        a: a,
-        b: b,
-        c: c,
-        control: control,
-        saved: saved,
+        refusal,
+        a,
+        b,
+        c,
+        control,
+        saved,
     }
 }
 
+// The answer of a call, as those of all calls are told. No `From`: the length of the last image is told besides.
 fn of_done(a: Done, saved: u32) -> Ran
     ensures { result ≡ Run.ran a.refusal 0 0 0 a.control saved }
 {
@@ -85,6 +86,7 @@ fn of_collected(a: Collected, saved: u32) -> Ran
 }
 
 // Refused, the image before it is the last one still.
+#[tactic(auto, unfolding(crate::specs::Run::ran_save))]
 fn of_saved(a: Saved, saved: u32) -> Ran
     ensures { result ≡ Run.ran_save a saved }
 {
@@ -95,6 +97,7 @@ fn of_saved(a: Saved, saved: u32) -> Ran
 }
 
 // Refused, it answers a control record of zeros, and the column goes on with its own.
+#[tactic(auto, unfolding(crate::specs::Run::ran_load))]
 fn of_loaded(a: Done, c: Control, saved: u32) -> Ran
     ensures { result ≡ Run.ran_load a c saved }
 {
@@ -119,14 +122,12 @@ fn load_last(
     ensures { Load.gives result records.new slots.new roots.new sinks.new sets.new
         ≡ Load.load t (take saved image.now) records.old slots.old roots.old sinks.old sets.old }
 {
-    let end = saved as usize;
-    if image.len() < end {
-        return load(t, image, records, slots, roots, sinks, sets);
-    }
-    load(t, &image[..end], records, slots, roots, sinks, sets)
+    let last = &image[..image.len().min(saved as usize)];
+    load(t, last, records, slots, roots, sinks, sets)
 }
 
 // The numbers of the analysis that a create names; the usual ones where it names none.
+#[tactic(auto, unfolding(crate::specs::Run::tuning_in))]
 fn tuning_in(call: Call) -> Tuning
     ensures { result ≡ Run.tuning_in call }
 {
@@ -138,29 +139,30 @@ fn tuning_in(call: Call) -> Tuning
 }
 
 // The call as a heap without clusters runs it: no analysis, and every collection plainly.
-pub fn plainly(call: Call) -> Call
+#[tactic(auto, unfolding(crate::specs::Compare::plain_call))]
+pub fn plainly(call: Call) -> Option<Call>
     ensures { result ≡ plain_call call }
 {
-    if call.kind == ANALYSE {
-        return no_call(0);
+    match call.kind {
+        Kind::Analyse => None,
+        Kind::Collect => Some(with_number(call, 0, 0)),
+        _ => Some(call),
     }
-    if call.kind == COLLECT {
-        return with_number(call, 0, 0);
-    }
-    call
 }
 
-// The call as a column runs it.
+// The call of a line, if it makes one, as a column runs it.
 #[tactic(auto, unfolding(crate::specs::Compare::as_run))]
-pub fn as_run(call: Call, plain: bool) -> Call
+pub fn as_run(call: Option<Call>, plain: bool) -> Option<Call>
     ensures { result ≡ as_run plain call }
 {
-    if plain { plainly(call) } else { call }
+    if plain { plainly(call?) } else { call }
 }
 
-// Runs the call; a line that makes none does nothing. `saved` is the length of the last image, which is at the front of its bytes; 0 before any save.
+// Runs the call of a line; a line that makes none does nothing. `saved` is the length of the last image, which is at the front of its bytes; 0
+// before any save.
+#[tactic(auto, unfolding(crate::specs::Run::run, crate::specs::Run::run_kind))]
 pub fn run(
-    call: Call,
+    call: Option<Call>,
     c: Control,
     saved: u32,
     records: &mut [u32],
@@ -175,10 +177,13 @@ pub fn run(
     ensures { Run.gives result records.new slots.new roots.new sinks.new sets.new work.new map.new image.new
         ≡ Run.run c saved records.old slots.old roots.old sinks.old sets.old work.old map.old image.old call }
 {
-    let kind = call.kind;
+    let Some(call) = call else {
+        return answer(0, 0, 0, 0, c, saved);
+    };
     let v = call.numbers;
-    match kind {
-        CREATE => of_done(
+    match call.kind {
+        Kind::Wrote | Kind::Loaded => answer(0, 0, 0, 0, c, saved),
+        Kind::Create => of_done(
             create(
                 v[0],
                 v[1],
@@ -191,29 +196,28 @@ pub fn run(
             ),
             saved,
         ),
-        ALLOCATE => of_allocated(allocate(c, v[0], records, slots), saved),
-        READ => of_read(read(c, v[0], v[1], records, slots), saved),
-        SHOW => of_part(show_part(c, v[0], records, slots), saved),
-        WRITE => of_done(
+        Kind::Allocate => of_allocated(allocate(c, v[0], records, slots), saved),
+        Kind::Read => of_read(read(c, v[0], v[1], records, slots), saved),
+        Kind::Show => of_part(show_part(c, v[0], records, slots), saved),
+        Kind::Write => of_done(
             write(c, v[0], v[1], v[2], records, slots, sinks, sets),
             saved,
         ),
-        ROOT => of_done(set_root(c, v[0], v[1], records, roots), saved),
-        SINK => of_done(
+        Kind::Root => of_done(set_root(c, v[0], v[1], records, roots), saved),
+        Kind::Sink => of_done(
             declare_sink(c, v[0], records, slots, roots, sinks, sets),
             saved,
         ),
-        ANALYSE => of_analysed(analyse(c, records, slots, roots, sinks, sets, work), saved),
-        COLLECT => of_collected(
+        Kind::Analyse => of_analysed(analyse(c, records, slots, roots, sinks, sets, work), saved),
+        Kind::Collect => of_collected(
             collect(v[0] != 0, c, records, slots, roots, sinks, sets, work, map),
             saved,
         ),
-        SAVE => of_saved(save(c, records, slots, roots, sinks, sets, image), saved),
-        LOAD => of_loaded(
+        Kind::Save => of_saved(save(c, records, slots, roots, sinks, sets, image), saved),
+        Kind::Load => of_loaded(
             load_last(c.tuning, saved, image, records, slots, roots, sinks, sets),
             c,
             saved,
         ),
-        _ => answer(0, 0, 0, 0, c, saved),
     }
 }

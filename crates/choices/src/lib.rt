@@ -2,8 +2,8 @@
 // new cluster stays, and the record that is left. Small total functions.
 #![tactic(auto)]
 
-ghost use Rattle.std.specs.Prelude.{◌≡◌, max};
-ghost use Rattle.rules.specs.Analyse.{sixteenth, half, clamped, next_limit};
+ghost use Rattle.std.specs.Prelude.{◌≡◌};
+ghost use Rattle.rules.specs.Analyse.{clamped, next_limit};
 ghost use Rattle.choices.specs.Choices.{goes_by, over_by, lasts, loss_by, settled};
 
 use layout::answers::{Control, Tuning};
@@ -12,75 +12,43 @@ use records::{is_sink, is_written, with_cluster, with_out, with_written};
 
 // ---- the size limit
 
-// A sixteenth of x, rounded down.
-fn sixteenth(x: u32) -> u32
-    ensures { result ≡ sixteenth x }
-{
-    x / 16
-}
-
-// Half of x, rounded down.
-fn half(x: u32) -> u32
-    ensures { result ≡ half x }
-{
-    x / 2
-}
-
-// x, or the lowest if x is below it.
-fn raised(lowest: u32, x: u32) -> u32
-    ensures { result ≡ max lowest x }
-{
-    if x < lowest { lowest } else { x }
-}
-
-// x, clamped to the range of limits.
+// x, clamped to the range of limits. Not std's `clamp`, which wants the lowest to be in range.
 #[tactic(auto, unfolding(rules::specs::Analyse::clamped))]
 pub fn clamp(lowest: u32, x: u32) -> u32
     ensures { result ≡ clamped lowest x }
 {
-    if LIMIT_MAX < x {
-        return raised(lowest, LIMIT_MAX);
-    }
-    raised(lowest, x)
+    x.min(LIMIT_MAX).max(lowest)
 }
 
-// The next size limit, where so many objects are in use.
+// The next size limit, where so many objects are in use: a sixteenth of them the first time, later half or twice the last limit.
+#[tactic(auto, unfolding(rules::specs::Analyse::clamped, rules::specs::Analyse::sixteenth, rules::specs::Analyse::half, rules::specs::Analyse::next_limit))]
 pub fn next_limit(c: Control, used: u32) -> u32
     ensures { result ≡ next_limit c used }
 {
     let lowest = c.tuning.lowest_limit;
     if c.limit == 0 {
-        return clamp(lowest, sixteenth(used));
+        return clamp(lowest, used / 16);
     }
     if c.out_loss < c.write_loss {
-        return clamp(lowest, half(c.limit));
+        return clamp(lowest, c.limit / 2);
     }
-    // Cut off before it is doubled, so that the double of any word fits.
-    if LIMIT_MAX / 2 < c.limit {
-        return clamp(lowest, LIMIT_MAX);
-    }
-    clamp(lowest, 2 * c.limit)
+    clamp(lowest, c.limit.saturating_mul(2))
 }
 
 // ---- the cluster of an object
 
 // The cluster that object o, with the record r and in no cluster, gets when c, with `size` members, is passed to it; 0 for none.
+#[tactic(auto, unfolding(crate::specs::Choices::goes_by, crate::specs::Choices::joined))]
 pub fn choose(limit: u32, r: u32, size: u32, o: u32, c: u32) -> u32
     ensures { result ≡ goes_by limit r size o c }
 {
-    if is_written(r) {
-        return 0;
+    if is_written(r) || is_sink(r) {
+        0
+    } else if c != 0 && size < limit {
+        c
+    } else {
+        o
     }
-    if is_sink(r) {
-        return 0;
-    }
-    if c == 0 {
-        return o;
-    }
-    if size < limit {
-        return c;
-    }
-    o
 }
 
 // ---- a new cluster of s members with p out pointers
@@ -89,28 +57,23 @@ pub fn choose(limit: u32, r: u32, size: u32, o: u32, c: u32) -> u32
 pub fn is_over(t: Tuning, s: u32, p: u32) -> bool
     ensures { result ≡ over_by t s p }
 {
-    (t.outs_per_ten as u64) * (s as u64) < 10 * (p as u64)
+    u64::from(t.outs_per_ten) * u64::from(s) < 10 * u64::from(p)
 }
 
 // Whether it stays.
+#[tactic(auto, unfolding(crate::specs::Choices::lasts))]
 pub fn stays(t: Tuning, s: u32, p: u32) -> bool
     ensures { result ≡ lasts t s p }
 {
-    if is_over(t, s, p) {
-        return false;
-    }
-    t.least_members <= s
+    !is_over(t, s, p) && t.least_members <= s
 }
 
 // What it adds to the out loss: its members, where it has too many out pointers.
-#[tactic(auto, using(crate::proofs::ChoiceLaws::losses))]
+#[tactic(auto, unfolding(crate::specs::Choices::loss_by))]
 pub fn loss(t: Tuning, s: u32, p: u32) -> u32
     ensures { result ≡ loss_by t s p }
 {
-    if !is_over(t, s, p) {
-        return 0;
-    }
-    s
+    if is_over(t, s, p) { s } else { 0 }
 }
 
 // ---- what is left

@@ -17,7 +17,6 @@ fn mark_reached(by: bool, n: u32, records: &mut [u32])
 {
     if by {
         mark_members(n, records);
-        return;
     }
 }
 
@@ -26,9 +25,10 @@ fn count_kept(by: bool, n: u32, scanned: u32, records: &[u32]) -> u32
     ensures { result ≡ cond by (marked_count n records.now) scanned }
 {
     if by {
-        return count_marked(n, records);
+        count_marked(n, records)
+    } else {
+        scanned
     }
-    scanned
 }
 
 // Frees every object in use that cannot be reached along pointers from a root; the map tells which. By clusters only objects
@@ -49,10 +49,9 @@ pub fn collect(
         work.old map.old }
 {
     let short = map.len() < map_len(c.n);
-    let k = walk(by, c, records, slots, roots, sinks, sets, work, short);
-    if k != 0 {
+    if let Err(e) = walk(by, c, records, slots, roots, sinks, sets, work, short) {
         return Collected {
-            refusal: k,
+            refusal: u32::from(e),
             freed: 0,
             kept: 0,
             scanned: 0,
@@ -65,9 +64,9 @@ pub fn collect(
     let freed = sweep(c.n, records, slots, sinks, sets, map);
     Collected {
         refusal: 0,
-        freed: freed,
-        kept: kept,
-        scanned: scanned,
+        freed,
+        kept,
+        scanned,
         control: c,
     }
 }

@@ -7,9 +7,11 @@ use mathlib.Core.List.{List}
 use native.Mathlib.Omega.{arith}
 use native.Mathlib.Numerals.{add-one}
 use lib.Dec.{eqb, leb}
-use lib.ListN.{length, get_or, set, drop, drop_of_length-le, length-set}
-use lib.Seq.{drop-cons}
-use borrow.Author.Tests.{le-leb, lt-leb, eq-eqb, ne_eqb}
+use lib.ListN.{length, get_or, set, take, length-set, length-take}
+use Rattle.std.proofs.Common.{Some, None, nat_lt, ◌==◌}
+use Rattle.std.specs.List.{position_or_len}
+use lib.Seq.{set_out}
+use borrow.Author.Tests.{le-leb, lt-leb, ltb-true}
 use Rattle.bitmap.specs.Bits.{holds}
 use Rattle.compare.specs.Answers.{same_list, part, same_part}
 use Rattle.compare.specs.Survivors.{every}
@@ -42,46 +44,49 @@ module _ (i n : ℕ) where
 -- ---- survivors
 
 module _ (p : ℕ → Bool) (i n : ℕ) where
-  pub every-step : i < n → p i ≡ true → every p (i + 1) (n - (i + 1)) ≡ every p i (n - i)
+  pub every_step : i < n → p i ≡ true → every p (i + 1) (n - (i + 1)) ≡ every p i (n - i)
   unfolding every
-  every-step h e = rw (more i n h, e, add-one i) refl
+  every_step h e = rw (more i n h, e, add-one i) refl
 
-  pub every-stop : i < n → p i ≡ false → false ≡ every p i (n - i)
+  pub every_stop : i < n → p i ≡ false → false ≡ every p i (n - i)
   unfolding every
-  every-stop h e = rw (more i n h, e) refl
+  every_stop h e = rw (more i n h, e) refl
 
-  pub every-end : n ≤ i → true ≡ every p i (n - i)
+  pub every_end : n ≤ i → true ≡ every p i (n - i)
   unfolding every
-  every-end h = rw (over i n h) refl
+  every_end h = rw (over i n h) refl
 
 -- ---- what changed hands
 
-module _ (x : ℕ) (l : List ℕ) (i : ℕ) where
-  pub found_here : i < length l → get_or l i 0 ≡ x → found x i (drop i l) ≡ i
-  unfolding found
-  found_here h e = rw (drop-cons l i 0, eq-eqb (get_or l i 0) x e, found) refl
-
-  pub found-next : i < length l → (get_or l i 0 ≡ x → ⊥) → found x (i + 1) (drop (i + 1) l) ≡ found x i (drop i l)
-  unfolding found
-  found-next h d = rw (add-one i, drop-cons l i 0, ne_eqb (get_or l i 0) x d, found) refl
-
-  pub found_none : length l ≤ i → found x i (drop i l) ≡ nowhere
-  unfolding found
-  found_none h = rw (drop_of_length-le l h) refl
+pub found_below : (x : ℕ) (l : List ℕ) (i : ℕ) → found x l ≡ Some i → i < nowhere
+unfolding found
+found_below x l i e = go (position_or_len (λ w. w == x) (take nowhere l)) (nat_lt (position_or_len (λ w. w == x) (take nowhere l)) (length (take nowhere l))) refl e
+  where
+    go : (k : ℕ) (t : Bool) → nat_lt k (length (take nowhere l)) ≡ t → cond t (Some k) None ≡ Some i → i < nowhere
+    go k true h f =
+        let e : k ≡ i = cc in
+        omega (arith, ltb-true k _ h, length-take nowhere l)
+    go k false h f = cc
 
 module _ (left : Bool) (map : List ℕ) (i : ℕ) (h : List ℕ) where
-  pub keep-step : (n : ℕ) → i < n → keep_freed left map (i + 1) (n - (i + 1)) (keep_one left map i h) ≡ keep_freed left map i (n - i) h
+  pub keep_step : (n : ℕ) → i < n → keep_freed left map (i + 1) (n - (i + 1)) (keep_one left map i h) ≡ keep_freed left map i (n - i) h
   unfolding keep_freed
-  keep-step n g = rw (more i n g, add-one i) refl
+  keep_step n g = rw (more i n g, add-one i) refl
 
-  pub keep-end : (n : ℕ) → n ≤ i → keep_freed left map i (n - i) h ≡ h
+  pub keep_end : (n : ℕ) → n ≤ i → keep_freed left map i (n - i) h ≡ h
   unfolding keep_freed
-  keep-end n g = rw (over i n g) refl
+  keep_end n g = rw (over i n g) refl
 
-  pub keep-length : length (keep_one left map i h) ≡ length h
+  pub keep_length : length (keep_one left map i h) ≡ length h
   unfolding keep_one
-  keep-length = go (holds i map && eqb (get_or h (word_of left i) 0) 0)
+  keep_length = go (holds i map && eqb (get_or h (word_of left i) 0) 0)
     where
       go : (t : Bool) → length (cond t (set h (word_of left i) freed) h) ≡ length h
       go true = simp length-set
       go false = refl
+
+pub ruleset everies = (every_step, every_stop, every_end)
+
+pub ruleset keeps = (keep_step, keep_end, keep_length)
+
+pub ruleset stores = (set_out)

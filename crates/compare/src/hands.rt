@@ -1,6 +1,7 @@
 // Objects that changed hands: a number that one column freed and gave again, while the other column still named it.
 // The memory `hands` has a word for each object of each column: 0 until the column frees the object, FREED from then on, and once
-// it changes hands the line at which it does, above 16 bits for the place that named it.
+// it changes hands the line at which it does, above 16 bits for the place that named it. Packed, as the memory of the program is
+// fixed, and has one word for an object.
 ghost use Rattle.std.specs.Prelude.{◌≡◌, get_or, set};
 ghost use Rattle.compare.specs.Hands.{given_by, collects, word_of, keep_one, keep_freed, found, naming, is_again, note_given};
 
@@ -15,13 +16,14 @@ pub const FREED: u64 = 65535;
 // The places of roots begin here; those of slots are below.
 pub const ROOT_PLACE: usize = 32768;
 
-// No place.
+// A word has no room for a place from here on.
 const NOWHERE: usize = 65535;
 
 // The first line number that has no room in a word; a list ends long before.
 const LINES: u64 = 281474976710656;
 
 // Where the word of an object is.
+#[tactic(auto, unfolding(crate::specs::Hands::word_of))]
 fn word_of(is_left: bool, x: u32) -> usize
     ensures { result ≡ word_of is_left x }
 {
@@ -32,90 +34,86 @@ fn word_of(is_left: bool, x: u32) -> usize
     }
 }
 
-// The object that a call of this kind gave, 0 for none.
-pub fn given(is_there: bool, kind: usize, ran: Ran) -> u32
-    ensures { result ≡ given_by is_there kind ran }
+// The object that the call of a line gave, 0 for none.
+#[tactic(auto, unfolding(crate::specs::Hands::given_by))]
+pub fn given(is_there: bool, call: Option<Call>, ran: Ran) -> u32
+    ensures { result ≡ given_by is_there call ran }
 {
-    if is_there & (kind == ALLOCATE) {
-        ran.a
-    } else {
-        0
+    match call {
+        Some(c) if is_there && c.kind == Kind::Allocate => ran.a,
+        // No `Option`: 0 is nil, which the library answers where it refuses to allocate.
+        _ => 0,
     }
 }
 
-// Whether a call of this kind was a collection that was accepted.
-pub fn did_collect(is_there: bool, kind: usize, ran: Ran) -> bool
-    ensures { result ≡ collects is_there kind ran }
+// Whether the call of a line was a collection that was accepted.
+#[tactic(auto, unfolding(crate::specs::Hands::collects))]
+pub fn did_collect(is_there: bool, call: Option<Call>, ran: Ran) -> bool
+    ensures { result ≡ collects is_there call ran }
 {
-    is_there & (kind == COLLECT) & (ran.refusal == 0)
+    match call {
+        Some(c) => is_there && c.kind == Kind::Collect && ran.refusal == 0,
+        None => false,
+    }
 }
 
 // The word of object x of a column, 0 past the end.
 pub fn hand_of(hands: &[u64], is_left: bool, x: u32) -> u64
     ensures { result ≡ get_or hands.now (word_of is_left x) 0 }
 {
-    let i = word_of(is_left, x);
-    if i < hands.len() { hands[i] } else { 0 }
+    hands.get(word_of(is_left, x)).copied().unwrap_or(0)
 }
 
 // Stores the word of object x of a column, nothing past the end.
+#[tactic(auto, using(crate::proofs::DecideLaws::stores))]
 fn set_hand(hands: &mut [u64], is_left: bool, x: u32, word: u64)
     ensures { hands.new ≡ set hands.old (word_of is_left x) word }
 {
     let i = word_of(is_left, x);
+    // By index: no contract says what a slice's `get_mut` leaves in the slice.
     if i < hands.len() {
         hands[i] = word;
     }
 }
 
 // Notes that object i of a column was freed, if its map has it. One that changed hands stays as it is.
+#[tactic(auto, unfolding(crate::specs::Hands::keep_one))]
 fn keep_one(hands: &mut [u64], is_left: bool, map: &[u64], i: u32)
     ensures { hands.new ≡ keep_one is_left map.now i hands.old }
 {
-    if has_bit(map, i as usize) & (hand_of(hands, is_left, i) == 0) {
+    if has_bit(map, i as usize) && hand_of(hands, is_left, i) == 0 {
         set_hand(hands, is_left, i, FREED);
     }
 }
 
 // Notes that the objects of a column's map were freed.
+#[tactic(auto, using(crate::proofs::DecideLaws::keeps))]
 pub fn keep_freed(hands: &mut [u64], is_left: bool, map: &[u64])
     ensures { hands.new ≡ keep_freed is_left map.now 0 4096 hands.old }
 {
-    let mut i: u32 = 0;
-    while i < 4096 {
+    for i in 0..4096 {
         keep_one(hands, is_left, map, i);
-        i += 1;
     }
 }
 
 // The place of the first of the words that is x.
-fn find(words: &[u32], x: u32) -> usize
-    ensures { result ≡ found x 0 words.now }
+#[tactic(auto, unfolding(crate::specs::Hands::found))]
+fn find(words: &[u32], x: u32) -> Option<usize>
+    ensures { result ≡ found x words.now }
 {
-    let mut i = 0;
-    while i < words.len() {
-        if words[i] == x {
-            return i;
-        }
-        i += 1;
-    }
-    NOWHERE
+    words.iter().take(NOWHERE).position(|w| *w == x)
 }
 
 // The first slot that names x, or else the first root.
-fn named_at(slots: &[u32], roots: &[u32], x: u32) -> usize
+#[tactic(auto, using(crate::proofs::DecideLaws::found_below), unfolding(crate::specs::Hands::naming))]
+fn named_at(slots: &[u32], roots: &[u32], x: u32) -> Option<usize>
     ensures { result ≡ naming slots.now roots.now x }
 {
-    let slot = find(slots, x);
-    if slot < NOWHERE {
-        return slot;
+    if let Some(slot) = find(slots, x) {
+        return Some(slot);
     }
-    let root = find(roots, x);
-    if root < NOWHERE {
-        ROOT_PLACE + root
-    } else {
-        NOWHERE
-    }
+    let root = find(roots, x)?;
+    Some(ROOT_PLACE + root)
 }
 
 // Whether the object x that a column was given now was freed before, has not changed hands yet, is not what the other column was
@@ -124,17 +122,12 @@ fn named_at(slots: &[u32], roots: &[u32], x: u32) -> usize
 fn is_again(hands: &[u64], is_left: bool, x: u32, y: u32, records: &[u32]) -> bool
     ensures { result ≡ is_again hands.now is_left x y records.now }
 {
-    if x == 0 {
-        return false;
-    }
-    if x == y {
-        return false;
-    }
-    (hand_of(hands, is_left, x) == FREED) & (word_at(records, x as usize - 1) != 0)
+    x != 0 && x != y && hand_of(hands, is_left, x) == FREED && word_at(records, x as usize - 1) != 0
 }
 
 // Notes whether the object x that a column was given at a line changed hands, where a place names it. The other column was given
 // y, and has these buffers.
+#[tactic(auto, unfolding(crate::specs::Hands::note_given, crate::specs::Hands::handed))]
 pub fn note_given(
     hands: &mut [u64],
     is_left: bool,
@@ -147,12 +140,12 @@ pub fn note_given(
 )
     ensures { hands.new ≡ note_given is_left x y line records.now slots.now roots.now hands.old }
 {
-    if is_again(hands, is_left, x, y, records) {
-        let place = named_at(slots, roots, x);
-        if place < NOWHERE {
-            if line < LINES {
-                set_hand(hands, is_left, x, line * 65536 + place as u64);
-            }
+    if !is_again(hands, is_left, x, y, records) {
+        return;
+    }
+    if let Some(place) = named_at(slots, roots, x) {
+        if place < NOWHERE && line < LINES {
+            set_hand(hands, is_left, x, line * 65536 + place as u64);
         }
     }
 }

@@ -1,5 +1,5 @@
 // What a report says, decided without text and files: which calls are beside each other, where two columns first differ, what
-// changed hands, and whether the survivors are the same. Tests that cost little are joined by `&` and `|`, as the definitions join them.
+// changed hands, and whether the survivors are the same.
 #![tactic(auto)]
 
 pub mod answers;

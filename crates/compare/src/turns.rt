@@ -1,18 +1,18 @@
 // Two columns beside each other: the k-th call of one with the k-th of the other. Analyses have rows of their own.
-ghost use Rattle.std.specs.Prelude.{◌≡◌, cond};
+ghost use Rattle.std.specs.Prelude.{◌≡◌};
 ghost use Rattle.compare.specs.Turns.{state_after, next_turn, is_over, noted_after};
 ghost use Rattle.compare.specs.Turns as T;
 
 use lines::kinds::*;
 
 // Where a column is: on its way to the next call, at a call that was run, at an analysis that was run, past the last line.
-pub const READING: u32 = 0;
-
-pub const AT_CALL: u32 = 1;
-
-pub const AT_ANALYSIS: u32 = 2;
-
-pub const DONE: u32 = 3;
+#[derive(Clone, Copy, PartialEq, Eq)]
+pub enum State {
+    Reading,
+    AtCall,
+    AtAnalysis,
+    Done,
+}
 
 // What comes next: which columns are at it, and whether it is a difference.
 #[derive(Clone, Copy)]
@@ -22,46 +22,46 @@ pub struct Turn {
     pub mark: bool,
 }
 
-// The lines of the first difference; 0 for a list that has no call there, and for both while the columns agree.
+// The lines of the first difference; none for a list that has no call there, and for both while the columns agree.
 #[derive(Clone, Copy)]
 pub struct Verdict {
-    pub left: u64,
-    pub right: u64,
+    pub left: Option<u64>,
+    pub right: Option<u64>,
 }
 
 // Where a column is after it ran the call of a line.
-pub fn state_after(call: Call) -> u32
+#[tactic(auto, unfolding(crate::specs::Turns::state_after))]
+pub fn state_after(call: Option<Call>) -> State
     ensures { result ≡ state_after call }
 {
-    if call.kind < CREATE {
-        return READING;
-    }
-    if call.kind == ANALYSE {
-        AT_ANALYSIS
-    } else {
-        AT_CALL
+    let Some(call) = call else {
+        return State::Reading;
+    };
+    match call.kind {
+        Kind::Wrote | Kind::Loaded => State::Reading,
+        Kind::Analyse => State::AtAnalysis,
+        _ => State::AtCall,
     }
 }
 
 // Which columns are next, by where they are; `same` says whether a pair of calls answered the same.
-pub fn next_turn(left: u32, right: u32, same: bool) -> Turn
+#[tactic(auto, unfolding(crate::specs::Turns::next_turn))]
+pub fn next_turn(left: State, right: State, same: bool) -> Turn
     ensures { result ≡ next_turn left right same }
 {
-    if left == AT_ANALYSIS {
-        return Turn {
+    match (left, right) {
+        (State::AtAnalysis, _) => Turn {
             has_left: true,
             has_right: false,
             mark: false,
-        };
-    }
-    if right == AT_ANALYSIS {
-        return Turn {
+        },
+        (_, State::AtAnalysis) => Turn {
             has_left: false,
             has_right: true,
             mark: false,
-        };
+        },
+        _ => paired(left != State::Done, right != State::Done, same),
     }
-    paired(left != DONE, right != DONE, same)
 }
 
 // The turn of calls, where each list has one or is at its end.
@@ -71,7 +71,7 @@ fn paired(has_left: bool, has_right: bool, same: bool) -> Turn
     Turn {
         has_left,
         has_right,
-        mark: !has_left | !has_right | !same,
+        mark: !has_left || !has_right || !same,
     }
 }
 
@@ -82,22 +82,15 @@ pub fn is_over(t: Turn) -> bool
     !t.has_left && !t.has_right
 }
 
-// The number of a line, 0 where there is none.
-fn there(is_there: bool, line: u64) -> u64
-    ensures { result ≡ cond is_there line 0 }
-{
-    if is_there { line } else { 0 }
-}
-
 // The first difference, after this turn at these lines.
 #[tactic(auto, unfolding(crate::specs::Turns::noted_after))]
 pub fn noted(v: Verdict, t: Turn, left: u64, right: u64) -> Verdict
     ensures { result ≡ noted_after v t left right }
 {
-    if (v.left == 0) & (v.right == 0) & t.mark {
+    if v.left.is_none() && v.right.is_none() && t.mark {
         return Verdict {
-            left: there(t.has_left, left),
-            right: there(t.has_right, right),
+            left: t.has_left.then_some(left),
+            right: t.has_right.then_some(right),
         };
     }
     v

@@ -3,15 +3,19 @@
 use Prim.Native.Nat.{ℕ, zero, suc, ◌+◌, ◌-◌, ◌*◌, ◌/◌, ◌%◌, ◌^◌, ◌≤◌, ◌<◌}
 use mathlib.Core.Path.{◌≡◌, refl, sym, ap, ap₂, subst, ◌∙◌}
 use mathlib.Core.List.Memᴰ
-use mathlib.Core.List.{List, [], ◌∷◌, ◌++◌, append_assoc, Memᴰ}
-use native.Mathlib.Nat.{pow-succ', not-suc-le-zero}
-use native.Mathlib.Numerals.{add-one}
+use mathlib.Core.List.{List, [], ◌∷◌, ◌++◌, append_assoc, append-nil, Memᴰ}
+use mathlib.Core.Logic.{◌⊎◌}
+use native.Mathlib.Nat.{pow-succ'}
+use native.Mathlib.Decide.{dec_lt}
 use native.Mathlib.Omega.{arith}
-use mathlib.Core.Bool.{Bool, true, false}
-use lib.Dec.{leb}
-use borrow.Author.Tests.{leb-true, leb-false, le-leb, lt-leb}
-use lib.ListN.{length, get_or, set, take, drop, length-append, length-drop, take-append-drop, drop_of_length-le}
-use lib.Seq.{take_at, drop-append-add, drop-nil, take-nil, length-take-le, sets, set_out}
+use lib.ListN.{length, get_or, set, take, drop, replicate, length-append, length-drop, length-set, take-append-drop, drop_of_length-le}
+use lib.Seq.{take_at, take_all, set_at, drop-append-add, drop-drop, length-take-le, take-suc-set, sets, sets-eq, set_out}
+use borrow.Rule.Slice.PartMut.{put_mid}
+use denote.Ref.{Bor}
+use Rattle.std.specs.Prelude.{Option, Some, None}
+use Rattle.std.specs.Option.{unwrap_or}
+use Rattle.std.specs.Slice.{IsGetRangeResult}
+use Rattle.std.proofs.lemmas.List.{take_more}
 use Rattle.endian.specs.Bytes.{Octets, bytes, number, number_at, bytes_of}
 
 pub length-bytes : (k v : ℕ) → length (bytes k v) ≡ k
@@ -102,83 +106,95 @@ module _ (k i : ℕ) (l : List ℕ) (h : Octets l) (p : i + k ≤ length l) wher
   unfolding number_at
   number-below = subst (λ (m : ℕ). number part < 256 ^ m) part_length (number_bound part octets-part)
 
--- ---- reading byte by byte
+-- ---- reading
 
--- the lowest byte, and the rest
-pub number_step : (k i : ℕ) (l : List ℕ) → number_at (suc k) i l ≡ get_or l i 0 + 256 * number_at k (suc i) l
-unfolding number_at number
-number_step k i [] = rw (drop-nil i, take-nil k) refl
-number_step k zero (x ∷ l) = refl
-number_step k (suc i) (x ∷ l) = number_step k i l
+-- what is left from place i on
+pub rest-is : (r : Option (Bor (List ℕ))) (e : Bor (List ℕ)) (l : List ℕ) (i : ℕ) → e.now ≡ [] → IsGetRangeResult l i (length l) r → (unwrap_or r e).now ≡ drop i l
+rest-is None e l i h p = h ∙ sym (drop_of_length-le l (past p.0))
+  where
+    past : (length l < i) ⊎ (length l < length l) → length l ≤ i
+    past q = omega (arith, q)
+rest-is (Some x) e l i h p = p.0.2 ∙ take_all (length l - i) (drop i l) (omega (arith, length-drop i l))
 
--- the same, where the next place is known only by what stands there
-next-step : (k i j : ℕ) (l : List ℕ) → drop j l ≡ drop (i + 1) l → get_or l i 0 + 256 * number_at k j l ≡ number_at (suc k) i l
-unfolding number_at
-next-step k i j l e =
-    ap (λ (m : List ℕ). get_or l i 0 + 256 * number (take k m)) (e ∙ ap (λ (m : ℕ). drop m l) (add-one i)) ∙ sym (number_step k i l)
-
-last_step : (i : ℕ) (l : List ℕ) → number (get_or l i 0 ∷ []) ≡ number_at 1 i l
-unfolding number number_at
-last_step i l = sym (number_step 0 i l)
-
-pub number-at-two : (l : List ℕ) (i j : ℕ) → drop j l ≡ drop (i + 1) l → number (get_or l i 0 ∷ get_or l j 0 ∷ []) ≡ number_at 2 i l
+-- zeros behind the highest byte change nothing
+pub number-pad : (l : List ℕ) (k : ℕ) → number (l ++ replicate k 0) ≡ number l
 unfolding number
-number-at-two l i j e = ap (λ (m : ℕ). get_or l i 0 + 256 * m) (last_step j l) ∙ next-step 1 i j l e
+number-pad [] zero = refl
+number-pad [] (suc k) = omega (arith, number-pad [] k)
+number-pad (b ∷ l) k = ap (λ (n : ℕ). b + 256 * n) (number-pad l k)
 
-pub number-at-four : (l : List ℕ) (i j k m : ℕ) → drop j l ≡ drop (i + 1) l → drop k l ≡ drop (j + 1) l → drop m l ≡ drop (k + 1) l
-    → number (get_or l i 0 ∷ get_or l j 0 ∷ get_or l k 0 ∷ get_or l m 0 ∷ []) ≡ number_at 4 i l
+-- the copy of one byte more over zeros
+pub pad-more : (l : List ℕ) (k n : ℕ) → k < length l → k < n
+    → set (take k l ++ replicate (n - k) 0) k (get_or l k 0) ≡ take (k + 1) l ++ replicate (n - (k + 1)) 0
+pad-more l k n h p =
+    let e : n - k ≡ suc (n - (k + 1)) = omega arith in
+    let z : List ℕ = replicate (n - (k + 1)) 0 in
+    ap (λ (m : ℕ). set (take k l ++ replicate m 0) k (get_or l k 0)) e
+    ∙ set_at (take k l) 0 z (get_or l k 0) k (length-take-le k l (omega arith))
+    ∙ sym (ap (λ (m : List ℕ). m ++ z) (take_more l k 0 h) ∙ append_assoc (take k l) (get_or l k 0 ∷ []) z)
+
+pub number_two : (l : List ℕ) → length l ≡ 2 → number l ≡ get_or l 0 0 + 256 * get_or l 1 0
 unfolding number
-number-at-four l i j k m e f g =
-    ap (λ (x : ℕ). get_or l i 0 + 256 * (get_or l j 0 + 256 * x)) (number-at-two l k m g)
-    ∙ ap (λ (x : ℕ). get_or l i 0 + 256 * x) (next-step 2 j k l f) ∙ next-step 3 i j l e
+number_two [] h = absurd (omega arith)
+number_two (a ∷ []) h = absurd (omega arith)
+number_two (a ∷ b ∷ []) h = omega arith
+number_two (a ∷ b ∷ c ∷ l) h = absurd (omega arith)
 
-pub number-at-next-four : (l : List ℕ) (i : ℕ) → number (get_or l i 0 ∷ get_or l (i + 1) 0 ∷ get_or l (i + 2) 0 ∷ get_or l (i + 3) 0 ∷ []) ≡ number_at 4 i l
-number-at-next-four l i =
-    let a : i + 2 ≡ i + 1 + 1 = omega arith in
-    let b : i + 3 ≡ i + 2 + 1 = omega arith in
-    number-at-four l i (i + 1) (i + 2) (i + 3) refl (ap (λ (m : ℕ). drop m l) a) (ap (λ (m : ℕ). drop m l) b)
+pub number_four : (l : List ℕ) → length l ≡ 4 → number l ≡ get_or l 0 0 + 256 * get_or l 1 0 + 65536 * get_or l 2 0 + 16777216 * get_or l 3 0
+unfolding number
+number_four [] h = absurd (omega arith)
+number_four (a ∷ []) h = absurd (omega arith)
+number_four (a ∷ b ∷ []) h = absurd (omega arith)
+number_four (a ∷ b ∷ c ∷ []) h = absurd (omega arith)
+number_four (a ∷ b ∷ c ∷ d ∷ []) h = omega arith
+number_four (a ∷ b ∷ c ∷ d ∷ e ∷ l) h = absurd (omega arith)
 
--- past the end nothing is left
-pub next_past : (l : List ℕ) (i : ℕ) → length l ≤ i → drop i l ≡ drop (i + 1) l
-next_past l i h = drop_of_length-le l {i = i} h ∙ sym (drop_of_length-le l {i = i + 1} (omega arith))
-
--- ---- storing byte by byte
+-- ---- storing
 
 pub sets-past : (vs l : List ℕ) (i : ℕ) → length l ≤ i → sets l i vs ≡ l
 sets-past [] l i h = refl
 sets-past (a ∷ vs) l i h = ap (λ (m : List ℕ). sets m (suc i) vs) (set_out l i a h) ∙ sets-past vs l (suc i) (omega arith)
 
-pub sets-two : (l : List ℕ) (i v : ℕ) → set (set l i (v % 256)) (i + 1) (v / 256 % 256) ≡ sets l i (bytes 2 v)
-unfolding bytes
-sets-two l i v = rw (add-one i) refl
-
-pub sets-four : (l : List ℕ) (i v : ℕ)
-    → set (set (set (set l i (v % 256)) (i + 1) (v / 256 % 256)) (i + 2) (v / 65536 % 256)) (i + 3) (v / 16777216 % 256) ≡ sets l i (bytes 4 v)
-unfolding bytes
-sets-four l i v =
-    let a : i + 1 ≡ suc i = omega arith in
-    let b : i + 2 ≡ suc (suc i) = omega arith in
-    let c : i + 3 ≡ suc (suc (suc i)) = omega arith in
-    let d : v / 65536 ≡ v / 256 / 256 = omega arith in
-    let e : v / 16777216 ≡ v / 256 / 256 / 256 = omega arith in
-    rw (a, b, c, d, e) refl
-
-pub sets-none : (l : List ℕ) (i k v : ℕ) → k ≤ 0 → sets l i (bytes k v) ≡ l
-unfolding bytes
-sets-none l i zero v h = refl
-sets-none l i (suc k) v h = absurd (not-suc-le-zero h)
-
--- a byte more
-pub sets-step : (l : List ℕ) (i k v : ℕ) → 0 < k → sets (set l i (v % 256)) (i + 1) (bytes (k - 1) (v / 256)) ≡ sets l i (bytes k v)
-unfolding bytes
-sets-step l i zero v h = absurd (not-suc-le-zero h)
-sets-step l i (suc k) v h = let e : suc k - 1 ≡ k = omega arith in rw (add-one i, e) refl
-
--- ---- the test whether bytes are there
-
-pub fits-leb : (i k n : ℕ) → k ≤ n → leb i (n - k) ≡ leb (i + k) n
-fits-leb i k n h = go (leb i (n - k)) refl
+-- the values that have a place
+pub sets_cut : (vs l : List ℕ) (i : ℕ) → i ≤ length l → length l ≤ i + length vs → sets l i vs ≡ take i l ++ take (length l - i) vs
+sets_cut [] l i h p = let e : length l - i ≡ 0 = omega arith in rw e (sym (append-nil (take i l) ∙ take_all i l (omega arith)))
+sets_cut (a ∷ vs) l i h p = go (dec_lt i (length l)) (sets_cut vs (set l i a) (suc i))
   where
-    go : (t : Bool) → leb i (n - k) ≡ t → t ≡ leb (i + k) n
-    go true e = let a = leb-true i (n - k) e in sym (le-leb (i + k) n (omega arith))
-    go false e = let a = leb-false i (n - k) e in sym (lt-leb (i + k) n (omega arith))
+    go : Dec (i < length l)
+        → (suc i ≤ length (set l i a) → length (set l i a) ≤ suc i + length vs → sets (set l i a) (suc i) vs ≡ take (suc i) (set l i a) ++ take (length (set l i a) - suc i) vs)
+        → sets l i (a ∷ vs) ≡ take i l ++ take (length l - i) (a ∷ vs)
+    go (no g) ih =
+        let e : length l - i ≡ 0 = omega (arith, g) in
+        sets-past (a ∷ vs) l i (omega (arith, g)) ∙ rw e (sym (append-nil (take i l) ∙ take_all i l (omega (arith, g))))
+    go (yes g) ih =
+        let e : length l - i ≡ suc (length l - suc i) = omega arith in
+        ih (omega (arith, length-set l i a)) (omega (arith, length-set l i a))
+        ∙ rw (length-set l i a, take-suc-set l i a g, e) (append_assoc (take i l) (a ∷ []) (take (length l - suc i) vs))
+
+-- what is left from place i on, replaced
+pub rest-put : (l ys : List ℕ) (i : ℕ) → i ≤ length l → put_mid i (length l - i) l ys ≡ take i l ++ ys
+rest-put l ys i h =
+    ap (λ (m : List ℕ). take i l ++ (ys ++ m)) (drop_of_length-le (drop i l) (omega (arith, length-drop i l))) ∙ ap (λ (m : List ℕ). take i l ++ m) (append-nil ys)
+
+module _ (l vs : List ℕ) (i : ℕ) (h : i ≤ length l) where
+  abbrev rest : List ℕ
+  rest = take (length l - i) (drop i l)
+
+  rest_all : rest ≡ drop i l
+  rest_all = take_all (length l - i) (drop i l) (omega (arith, length-drop i l))
+
+  rest_length : length rest ≡ length l - i
+  rest_length = ap length rest_all ∙ length-drop i l
+
+  pub put-whole : (k : ℕ) → length vs ≡ k → k ≤ length rest → put_mid i (length l - i) l (vs ++ drop k rest) ≡ sets l i vs
+  put-whole k e p =
+      rest-put l (vs ++ drop k rest) i h
+      ∙ sym (append_assoc (take i l) vs (drop k rest))
+      ∙ ap (λ (m : List ℕ). take i l ++ vs ++ m) (ap (drop k) rest_all ∙ drop-drop k i l ∙ ap (λ (m : ℕ). drop (i + m) l) (sym e))
+      ∙ sym (sets-eq vs l i (omega (arith, rest_length)))
+
+  pub put-part : (k : ℕ) → length vs ≡ k → length rest < k → (ys : List ℕ) → ys ≡ take (length rest) vs → put_mid i (length l - i) l ys ≡ sets l i vs
+  put-part k e p ys q =
+      rest-put l ys i h
+      ∙ ap (λ (m : List ℕ). take i l ++ m) (q ∙ ap (λ (m : ℕ). take m vs) rest_length)
+      ∙ sym (sets_cut vs l i h (omega (arith, rest_length)))

@@ -6,7 +6,7 @@ ghost use Rattle.std.specs.Prelude.{◌≡◌, ◌-◌, ◌+◌, ◌≤◌, leng
 ghost use Rattle.std.proofs.Math.Seq.{paste};
 ghost use Rattle.files.specs.Reading.{room, new_source, held, line_state, taken, looked, Found, Searched, call_at, end_problem};
 
-use lines::kinds::{Call, no_call};
+use lines::kinds::{Call, Problem};
 use lines::parse::parse;
 use lines::words::line_end;
 use std::io;
@@ -19,22 +19,14 @@ pub const ROOM: usize = 65536;
 const LONGEST: usize = 4096;
 
 // The state of a source: bytes are wanted, a line was found, the file is at its end, a line is too long, a read failed.
-const MORE: u32 = 0;
-
-pub const LINE: u32 = 1;
-
-const END: u32 = 2;
-
-const LONG: u32 = 3;
-
-pub const FAILED: u32 = 4;
-
-// What is wrong with a list where no line was found, after the numbers of lines::kinds.
-pub const NO_CREATE: u32 = 9;
-
-pub const TOO_LONG: u32 = 10;
-
-pub const UNREADABLE: u32 = 11;
+#[derive(Clone, Copy, PartialEq, Eq)]
+pub enum State {
+    More,
+    Line,
+    End,
+    Long,
+    Failed,
+}
 
 // A list. Of its input the bytes from `from` to `end` are still to be used; the line found has those from `start` to `stop`. Which list it is, `fd`
 // says to the caller, who hands over the reader of it.
@@ -46,7 +38,7 @@ pub struct Source {
     pub number: u64,
     pub start: usize,
     pub stop: usize,
-    pub state: u32,
+    pub state: State,
 }
 
 pub fn opened(fd: i32) -> Source
@@ -59,68 +51,67 @@ pub fn opened(fd: i32) -> Source
         number: 0,
         start: 0,
         stop: 0,
-        state: MORE,
+        state: State::More,
     }
 }
 
 // The source with other bytes to use.
-fn holding(s: Source, from: usize, end: usize, state: u32) -> Source
+fn holding(s: Source, from: usize, end: usize, state: State) -> Source
     ensures { result ≡ held s from end state }
 {
-    let mut t = s;
-    t.from = from;
-    t.end = end;
-    t.state = state;
-    t
-}
-
-// a - b, or 0 where b is more.
-pub fn less(a: usize, b: usize) -> usize
-    ensures { result ≡ a - b }
-{
-    if b < a { a - b } else { 0 }
+    Source {
+        from,
+        end,
+        state,
+        ..s
+    }
 }
 
 // The state of a source whose line has `length` bytes.
 #[tactic(auto, unfolding(crate::specs::Reading::line_state))]
-fn line_state(length: usize) -> u32
+fn line_state(length: usize) -> State
     ensures { result ≡ line_state length }
 {
-    if LONGEST < length { LONG } else { LINE }
+    if LONGEST < length {
+        State::Long
+    } else {
+        State::Line
+    }
 }
 
 // The source with a line from `from` to `stop`, and the next one from `next` on.
 fn found(s: Source, stop: usize, next: usize) -> Source
     ensures { result ≡ taken s stop next }
 {
-    let mut t = s;
-    t.number = s.number.wrapping_add(1);
-    t.start = s.from;
-    t.stop = stop;
-    t.state = line_state(less(stop, s.from));
-    t.from = next;
-    t
+    Source {
+        from: next,
+        number: s.number.wrapping_add(1),
+        start: s.from,
+        stop,
+        state: line_state(stop.saturating_sub(s.from)),
+        ..s
+    }
 }
 
 // Looks for a whole line among the bytes at hand.
+#[tactic(auto, using(crate::proofs::ReadingLaws::held_found), unfolding(crate::specs::Reading::looked))]
 fn look(s: Source, input: &[u8; ROOM]) -> Source
     ensures value { result ≡ looked s input.now }
     ensures found { Found s result }
 {
     let from = s.from;
     let end = s.end;
-    let whole = &input[..];
     if ROOM < end {
-        return holding(s, from, end, FAILED);
+        return holding(s, from, end, State::Failed);
     }
-    let stop = line_end(&whole[0..end], from);
+    let stop = line_end(&input[..end], from);
     if stop < end {
         return found(s, stop, stop + 1);
     }
-    if LONGEST < less(end, from) {
+    if LONGEST < end.saturating_sub(from) {
         return found(s, end, end);
     }
-    holding(s, from, end, MORE)
+    holding(s, from, end, State::More)
 }
 
 // Moves the bytes from `from` to `end` to the front, and answers how many they are.
@@ -129,14 +120,10 @@ fn to_front(input: &mut [u8], from: usize, end: usize) -> usize
     ensures value { result ≡ end - from }
     ensures input_after { input.new ≡ paste input.old 0 (drop from input.old) (end - from) }
 {
-    let mut k = 0;
-    let mut i = from;
-    while i < end {
-        input[k] = input[i];
-        k += 1;
-        i += 1;
+    if from < end {
+        input.copy_within(from..end, 0);
     }
-    k
+    end.saturating_sub(from)
 }
 
 // Reads once into the bytes from `kept` on.
@@ -148,20 +135,21 @@ fn read_on<R: Read>(reader: &mut R, input: &mut [u8], kept: usize) -> io::Result
 }
 
 // Moves the bytes at hand to the front, reads on, and looks again.
+#[tactic(auto, using(crate::proofs::ReadingLaws::fills))]
 fn fill<R: Read>(s: Source, reader: &mut R, input: &mut [u8; ROOM]) -> Source
     requires { s.end ≤ room }
     ensures { Found s result }
 {
     let kept = to_front(input, s.from, s.end);
     match read_on(reader, input, kept) {
-        Err(_) => holding(s, 0, kept, FAILED),
+        Err(_) => holding(s, 0, kept, State::Failed),
         Ok(0) => {
             if kept == 0 {
-                return holding(s, 0, 0, END);
+                return holding(s, 0, 0, State::End);
             }
-            found(holding(s, 0, kept, MORE), kept, kept)
+            found(holding(s, 0, kept, State::More), kept, kept)
         }
-        Ok(more) => look(holding(s, 0, kept + more, MORE), input),
+        Ok(more) => look(holding(s, 0, kept + more, State::More), input),
     }
 }
 
@@ -171,39 +159,35 @@ pub fn next_line<R: Read>(s: Source, reader: &mut R, input: &mut [u8; ROOM]) -> 
     ensures searched { Searched s input.old result input.new }
 {
     let mut t = look(s, input);
-    let mut turns = ROOM;
-    while 0 < turns && t.state == MORE {
+    for _ in 0..ROOM {
+        if t.state != State::More {
+            return t;
+        }
         t = fill(t, reader, input);
-        turns -= 1;
     }
     t
 }
 
 // The call that the line found makes; none where its places are out of order.
-pub fn call_of(s: Source, input: &[u8; ROOM]) -> Call
+#[tactic(auto, unfolding(crate::specs::Reading::call_at))]
+pub fn call_of(s: Source, input: &[u8; ROOM]) -> Result<Option<Call>, Problem>
     ensures { result ≡ call_at s input.now }
 {
-    let start = s.start;
-    let stop = s.stop;
-    let whole = &input[..];
-    if stop < start {
-        return no_call(0);
+    match input.get(s.start..s.stop) {
+        Some(line) => parse(line),
+        None => Ok(None),
     }
-    if ROOM < stop {
-        return no_call(0);
-    }
-    parse(&whole[start..stop])
 }
 
-// What is wrong where no line was found, with an earlier create or without one; 0 for nothing.
-pub fn end_problem(state: u32, created: bool) -> u32
+// What is wrong where no line was found, with an earlier create or without one.
+#[tactic(auto, unfolding(crate::specs::Reading::end_problem))]
+pub fn end_problem(state: State, created: bool) -> Option<Problem>
     ensures { result ≡ end_problem state created }
 {
-    if state == LONG {
-        return TOO_LONG;
+    match (state, created) {
+        (State::Long, _) => Some(Problem::TooLong),
+        (State::Failed, _) => Some(Problem::Unreadable),
+        (_, true) => None,
+        (_, false) => Some(Problem::NeverCreated),
     }
-    if state == FAILED {
-        return UNREADABLE;
-    }
-    if created { 0 } else { NO_CREATE }
 }

@@ -8,8 +8,8 @@ use layout::answers::{Done, Tuning};
 use layout::control::{new_control, no_control};
 use layout::limits::{SINK_MAX, slots_len};
 use layout::refusals::{Refusal, bad_sizes, bad_tuning};
-use table::buffers::{zero, zero_sets};
-use table::room::short_heap;
+use table::buffers::zero;
+use table::room::{Buffers, short_heap};
 
 // The first test that holds refuses, where a slice is too short or not.
 #[tactic(auto, unfolding(layout::specs::Refusal::first))]
@@ -43,7 +43,14 @@ pub fn create(
     ensures { Create.gives result records.new slots.new roots.new sinks.new sets.new
         ≡ Create.create n r t records.old slots.old roots.old sinks.old sets.old }
 {
-    let short = short_heap(n, r, records, slots, roots, sinks, sets);
+    let lent = Buffers {
+        records,
+        slots,
+        roots,
+        sinks,
+        sets,
+    };
+    let short = short_heap(n, r, &lent);
     if let Err(e) = create_refusal(n, r, t, short) {
         return Done {
             refusal: u32::from(e),
@@ -54,7 +61,7 @@ pub fn create(
     zero(slots, slots_len(n));
     zero(roots, r as usize);
     zero(sinks, SINK_MAX as usize);
-    zero_sets(sets, n as usize);
+    zero(sets, n as usize);
     Done {
         refusal: 0,
         control: new_control(n, r, t),

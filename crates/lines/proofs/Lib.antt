@@ -1,6 +1,5 @@
 -- Laws of these.
 pub mod WordLaws
 pub mod NumeralLaws
-pub mod KindLaws
 pub mod LineLaws
 pub mod Trials

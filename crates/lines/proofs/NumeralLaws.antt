@@ -1,15 +1,17 @@
 -- Laws of numerals, a digit at a time. Assumes nothing.
-use Prim.Native.Nat.{ℕ, ◌+◌, ◌*◌, ◌≤◌, ◌<◌, ◌^◌}
+use Prim.Native.Nat.{ℕ, ◌+◌, ◌*◌, ◌≤◌, ◌<◌, ◌^◌, min}
 use mathlib.Core.Path.{◌≡◌, refl, ◌∙◌}
-use mathlib.Core.Bool.{Bool, true, false, cond, ◌&&◌, and-false, false≢true}
+use mathlib.Core.Bool.{Bool, true, false, cond, and-false}
 use mathlib.Core.List.{List, [], ◌∷◌}
+use native.Mathlib.Decide.{dec_le}
 use native.Mathlib.Nat.{mul-le-mul_left}
 use native.Mathlib.Omega.{arith}
-use lib.Dec.{eqb, leb, ltb}
+use lib.Dec.{eqb, ltb}
 use lib.ListN.{length, get_or, drop, drop_of_length-le}
-use borrow.Author.Tests.{lt-ltb, le-ltb, ltb-true, ltb-false, leb-true}
-use Rattle.lines.specs.declared.numbers.Number.TheVariants.{NotNumber, TooLarge, Value}
-use Rattle.lines.specs.Numeral.{between, digit_of, digits, numeral_of, is_hex}
+use borrow.Author.Tests.{lt-ltb, le-ltb}
+use Rattle.std.proofs.Common.{Ok, Err}
+use Rattle.lines.specs.declared.kinds.Problem.TheVariants.{NoNumber, LargeNumber}
+use Rattle.lines.specs.Numeral.{digit_of, digits, numeral_of, is_hex}
 use Rattle.lines.proofs.WordLaws.{next-at}
 
 module _ (base : ℕ) (s : List ℕ) (i : ℕ) where
@@ -17,30 +19,29 @@ module _ (base : ℕ) (s : List ℕ) (i : ℕ) where
   unfolding digits
   digits_step v h l = rw (next-at s i h, lt-ltb (digit_of (get_or s i 0)) base l, digits)
 
-  pub digits-bad : (v : ℕ) → i < length s → base ≤ digit_of (get_or s i 0) → digits base v (drop i s) ≡ NotNumber
+  pub digits-bad : (v : ℕ) → i < length s → base ≤ digit_of (get_or s i 0) → digits base v (drop i s) ≡ Err NoNumber
   unfolding digits
   digits-bad v h l = rw (next-at s i h, le-ltb (digit_of (get_or s i 0)) base l, digits)
 
-  digits-end : (v : ℕ) → length s ≤ i → digits base v (drop i s) ≡ cond (ltb v (2 ^ 32)) (Value v) TooLarge
+  digits-end : (v : ℕ) → length s ≤ i → digits base v (drop i s) ≡ cond (ltb v (2 ^ 32)) (Ok v) (Err LargeNumber)
   unfolding digits
   digits-end v h = rw (drop_of_length-le s h, digits)
 
-  pub digits_value : (v : ℕ) → length s ≤ i → v < 2 ^ 32 → digits base v (drop i s) ≡ Value v
+  pub digits_value : (v : ℕ) → length s ≤ i → v < 2 ^ 32 → digits base v (drop i s) ≡ Ok v
   digits_value v h l = digits-end v h ∙ rw (lt-ltb v (2 ^ 32) l) refl
 
-  pub digits-too-large : (v : ℕ) → length s ≤ i → 2 ^ 32 ≤ v → digits base v (drop i s) ≡ TooLarge
+  pub digits-too-large : (v : ℕ) → length s ≤ i → 2 ^ 32 ≤ v → digits base v (drop i s) ≡ Err LargeNumber
   digits-too-large v h l = digits-end v h ∙ rw (le-ltb v (2 ^ 32) l) refl
 
-  pub numeral-some : i < length s → numeral_of base (drop i s) ≡ digits base 0 (drop i s)
-  unfolding numeral_of
-  numeral-some h = rw (next-at s i h, numeral_of)
+pub numeral-some : (base : ℕ) (s : List ℕ) → (length s ≡ 0 → ⊥) → digits base 0 s ≡ numeral_of base s
+unfolding numeral_of
+numeral-some base [] d = absurd (d refl)
+numeral-some base (x ∷ s) d = refl
 
-  pub numeral-none : length s ≤ i → numeral_of base (drop i s) ≡ NotNumber
-  unfolding numeral_of
-  numeral-none h = rw (drop_of_length-le s h, numeral_of)
-
-pub grown-bound : (v base : ℕ) → v ≤ 2 ^ 32 → base ≤ 16 → v * base ≤ 2 ^ 36
-grown-bound v base h b = omega (arith, mul-le-mul_left v b)
+pub numeral-none : (base : ℕ) (s : List ℕ) → length s ≡ 0 → Err NoNumber ≡ numeral_of base s
+unfolding numeral_of
+numeral-none base [] e = refl
+numeral-none base (x ∷ s) e = absurd (omega arith)
 
 -- what is too large stays so
 large-grows : (base v d : ℕ) → 1 ≤ base → 2 ^ 32 ≤ v → 2 ^ 32 ≤ v * base + d
@@ -57,30 +58,17 @@ digits-large base (x ∷ s) v u b h k =
     go true e r = rw (e, digits) r
     go false e r = rw (e, digits)
 
-pub digits-capped : (base : ℕ) (s : List ℕ) (v : ℕ) → 1 ≤ base → digits base (cond (ltb v (2 ^ 32)) v (2 ^ 32)) s ≡ digits base v s
-digits-capped base s v b = go (ltb v (2 ^ 32)) refl
+pub digits-capped : (base : ℕ) (s : List ℕ) (v : ℕ) → 1 ≤ base → digits base (min v (2 ^ 32)) s ≡ digits base v s
+digits-capped base s v b = go (dec_le (2 ^ 32) v)
   where
-    go : (t : Bool) → ltb v (2 ^ 32) ≡ t → digits base (cond t v (2 ^ 32)) s ≡ digits base v s
-    go true e = refl
-    go false e = digits-large base s (2 ^ 32) v b (omega arith) (ltb-false v (2 ^ 32) e)
+    go : Dec (2 ^ 32 ≤ v) → digits base (min v (2 ^ 32)) s ≡ digits base v s
+    go (yes h) = let e : min v (2 ^ 32) ≡ 2 ^ 32 = omega arith in rw e (digits-large base s (2 ^ 32) v b (omega arith) h)
+    go (no h) = let e : min v (2 ^ 32) ≡ v = omega arith in rw e refl
 
-pub capped-bound : (v : ℕ) → cond (ltb v (2 ^ 32)) v (2 ^ 32) ≤ 2 ^ 32
-capped-bound v = go (ltb v (2 ^ 32)) refl
-  where
-    go : (t : Bool) → ltb v (2 ^ 32) ≡ t → cond t v (2 ^ 32) ≤ 2 ^ 32
-    go true e = omega (arith, ltb-true v (2 ^ 32) e)
-    go false e = omega arith
-
-pub between-low : (a b x : ℕ) → between a b x ≡ true → a ≤ x
-unfolding between
-between-low a b x e = go (leb a x) refl e
-  where
-    go : (t : Bool) → leb a x ≡ t → t && leb x b ≡ true → a ≤ x
-    go true q r = leb-true a x q
-    go false q r = absurd (false≢true r)
-
-pub short-no-hex : (w : List ℕ) → length w < 2 → is_hex w ≡ false
+pub short_no_hex : (w : List ℕ) → length w < 2 → is_hex w ≡ false
 unfolding is_hex
-short-no-hex [] h = refl
-short-no-hex (x ∷ []) h = and-false (eqb x 48)
-short-no-hex (x ∷ y ∷ w) h = absurd (omega arith)
+short_no_hex [] h = refl
+short_no_hex (x ∷ []) h = and-false (eqb x 48)
+short_no_hex (x ∷ y ∷ w) h = absurd (omega arith)
+
+pub ruleset numerals = (digits_step, digits-bad, digits_value, digits-too-large, digits-capped, numeral-some, numeral-none)

@@ -3,16 +3,18 @@ use Prim.Native.Nat.{ℕ}
 use Prim.Native.String.{String}
 use mathlib.Core.Path.{◌≡◌, refl}
 use mathlib.Core.List.{map}
+use Rattle.std.specs.Prelude.{Option, Result}
+use Rattle.lines.specs.declared.kinds.Problem.{Problem}
 use Rattle.lines.specs.declared.kinds.Call.{Call}
 use Rattle.lines.specs.Text.{bytes}
-use Rattle.lines.specs.Word.{is_blank, in_word, in_line, has, run, run_end, word_at, none, text, same_bytes, line_end}
+use Rattle.lines.specs.Word.{is_blank, in_word, in_line, has, run, run_end, word_at, line_end}
 use Rattle.lines.specs.Numeral.{between, digit_of, digits, numeral_of, is_hex, value_of}
-use Rattle.lines.specs.Line.{ended, next_of, number_at, and_then, row_from, row_of, numbers_from, further, sizes, named, way, follows, parsed}
+use Rattle.lines.specs.Line.{ended, number_at, row_from, row_of, numbers_from, sizes, named, way, follows, parsed}
 use Rattle.lines.specs.Kinds.{with_number}
 use Rattle.lines.specs.Examples.{examples, line_ends}
 
-pub all_right : map (λ (e : String × Call). parsed (bytes e.0)) examples ≡ map (λ (e : String × Call). e.1) examples
-unfolding is_blank in_word has run run_end word_at none text same_bytes between digit_of digits numeral_of is_hex value_of with_number ended next_of number_at and_then row_from row_of numbers_from further sizes named way follows parsed
+pub all_right : map (λ (e : String × Result (Option Call) Problem). parsed (bytes e.0)) examples ≡ map (λ (e : String × Result (Option Call) Problem). e.1) examples
+unfolding is_blank in_word has run run_end word_at between digit_of digits numeral_of is_hex value_of with_number ended number_at row_from row_of numbers_from sizes named way follows parsed
 all_right = refl
 
 pub ends-right : map (λ (e : String × ℕ × ℕ). line_end (bytes e.0) e.1) line_ends ≡ map (λ (e : String × ℕ × ℕ). e.2) line_ends

@@ -1,19 +1,17 @@
 -- Laws of runs, words and equal bytes, a byte at a time. Assumes nothing.
-use Prim.Native.Nat.{ℕ, suc, ◌+◌, ◌-◌, ◌≤◌, ◌<◌}
-use mathlib.Core.Path.{◌≡◌, refl, ap, sym}
-use mathlib.Core.Bool.{Bool, true, false, ◌&&◌}
+use Prim.Native.Nat.{ℕ, ◌+◌, ◌-◌, ◌≤◌, ◌<◌}
+use mathlib.Core.Path.{◌≡◌, refl, sym}
+use mathlib.Core.Bool.{Bool, true, false}
 use mathlib.Core.List.{List, [], ◌∷◌}
 use native.Mathlib.Decide.{dec_le}
 use native.Mathlib.Numerals.{add-one}
 use native.Mathlib.Omega.{arith}
-use lib.Dec.{eqb}
 use lib.ListN.{length, get_or, drop, drop_of_length-le, length-drop}
 use lib.Seq.{drop-cons}
-use borrow.Author.Tests.{eq-eqb, ne_eqb}
 use Rattle.lines.specs.declared.words.Span.{Span}
 use Rattle.lines.specs.declared.words.Kind.{Kind}
 use Rattle.lines.specs.declared.words.Kind.TheVariants.{Blank, Word}
-use Rattle.lines.specs.Word.{has, run, run_end, word_at, text, same_bytes}
+use Rattle.lines.specs.Word.{has, run, run_end, word_at, text}
 
 pub next-at : (s : List ℕ) (i : ℕ) → i < length s → drop i s ≡ get_or s i 0 ∷ drop (i + 1) s
 next-at s i h = rw (add-one, drop-cons s i 0 h)
@@ -57,37 +55,12 @@ module _ (k : Kind) (s : List ℕ) (i : ℕ) where
 -- ---- words
 
 module _ (s : List ℕ) (from : ℕ) (w : Span) (e : w ≡ word_at s from) where
-  pub word-inside : (w.start ≡ w.end → ⊥) → (w.start ≤ w.end) × (w.end ≤ length s)
+  pub word_inside : (w.start ≡ w.end → ⊥) → (w.start ≤ w.end) × (w.end ≤ length s)
   unfolding word_at
-  word-inside d =
+  word_inside d =
       (rw e (run-from Word s (run_end Blank s from)), rw e (run-within Word s (run_end Blank s from) (λ q. d (rw e q))))
 
-pub text-none : (s : List ℕ) (w : Span) → w.start ≡ w.end → text s w ≡ []
-unfolding text
-text-none s w e = let z : w.end - w.start ≡ 0 = omega arith in rw z
+pub text_none : (s : List ℕ) (w : Span) → w.start ≡ w.end → text s w ≡ []
+text_none s w e = let z : w.end - w.start ≡ 0 = omega arith in rw z
 
--- ---- equal bytes
-
-pub same-lengths : (a b : List ℕ) → (length a ≡ length b → ⊥) → same_bytes a b ≡ false
-unfolding same_bytes
-same-lengths [] [] d = absurd (d refl)
-same-lengths [] (y ∷ b) d = refl
-same-lengths (x ∷ a) [] d = refl
-same-lengths (x ∷ a) (y ∷ b) d = go (eqb x y) (same-lengths a b (λ e. d (ap suc e)))
-  where
-    go : (t : Bool) → same_bytes a b ≡ false → (t && same_bytes a b) ≡ false
-    go true h = h
-    go false h = refl
-
-module _ (a b : List ℕ) (i : ℕ) where
-  pub same_step : i < length a → i < length b → get_or a i 0 ≡ get_or b i 0 → same_bytes (drop i a) (drop i b) ≡ same_bytes (drop (i + 1) a) (drop (i + 1) b)
-  unfolding same_bytes
-  same_step h k e = rw (next-at a i h, next-at b i k, same_bytes, eq-eqb (get_or a i 0) (get_or b i 0) e)
-
-  pub same-differ : i < length a → i < length b → (get_or a i 0 ≡ get_or b i 0 → ⊥) → same_bytes (drop i a) (drop i b) ≡ false
-  unfolding same_bytes
-  same-differ h k d = rw (next-at a i h, next-at b i k, same_bytes, ne_eqb (get_or a i 0) (get_or b i 0) d)
-
-  pub same_out : length a ≤ i → length b ≤ i → same_bytes (drop i a) (drop i b) ≡ true
-  unfolding same_bytes
-  same_out h k = rw (drop_of_length-le a h, drop_of_length-le b k)
+pub ruleset runs = (run_step, run-stop, run_out)

@@ -1,5 +1,6 @@
 -- The words of a line: runs of bytes that are neither blank nor '#'. A '#' ends the words of the line.
 use Rattle.std.specs.Prelude.{ℕ, suc, ◌+◌, ◌-◌, Bool, true, false, not, cond, ◌&&◌, ◌||◌, List, [], ◌∷◌, eqb, leb, length, take, drop}
+use Rattle.std.specs.Str.{bytes_eq}
 use Rattle.lines.specs.declared.words.Span.{Span}
 use Rattle.lines.specs.declared.words.Kind.{Kind}
 use Rattle.lines.specs.declared.words.Kind.TheVariants.{Blank, Word, Line}
@@ -36,19 +37,16 @@ unfoldable pub word_at : List ℕ → ℕ → Span
 word_at s from = record { start = run_end Blank s from; end = run_end Word s (run_end Blank s from) }
 
 -- no word is left
-unfoldable pub none : Span → Bool
+abbrev pub none : Span → Bool
 none w = eqb w.start w.end
 
 -- the bytes of a word
-unfoldable pub text : List ℕ → Span → List ℕ
+abbrev pub text : List ℕ → Span → List ℕ
 text s w = take (w.end - w.start) (drop w.start s)
 
 -- byte by byte, to the end of both
-unfoldable pub same_bytes : List ℕ → List ℕ → Bool
-same_bytes [] [] = true
-same_bytes [] (y ∷ b) = false
-same_bytes (x ∷ a) [] = false
-same_bytes (x ∷ a) (y ∷ b) = eqb x y && same_bytes a b
+abbrev pub same_bytes : List ℕ → List ℕ → Bool
+same_bytes = bytes_eq
 
 -- the index of the first newline at or after `from`, or the length
 unfoldable pub line_end : List ℕ → ℕ → ℕ

@@ -1,86 +1,104 @@
-// The call that a line makes: its kind, and its numbers.
+// The call that a line makes, and what may be wrong with a line.
 ghost use Rattle.std.specs.Prelude.{◌≡◌};
-ghost use Rattle.lines.specs.Kinds.{no_call, with_number, with_count, problem_of};
+ghost use Rattle.lines.specs.Kinds.{with_number, problem_of};
+
+use std::fmt;
 
 // The most numbers of a call.
 pub const MOST: usize = 5;
 
-// A line's kind is its place in the table, from 1 on. Of its numbers only the first `count` are used, and the others are 0. `collect` has one: 0 for
-// `plain`, 1 for `clusters`. `create` has its two sizes, or TUNED numbers. A line that makes no call has the kind 0, and its first number says what was
-// expected, 0 for nothing.
-#[derive(Clone, Copy)]
-pub struct Call {
-    pub kind: usize,
-    pub count: u32,
-    pub numbers: [u32; MOST],
-}
-
-// For each kind of line the first word, and how many numbers belong to it.
+// For each kind of line the first word, and how many numbers belong to it: a text, as in the definition of the table.
 pub const TABLE: [u8; 106] =
     *b"wrote 0 loaded 0 create 2 allocate 1 read 2 show 1 write 3 root 2 sink 1 analyse 0 collect 1 save 0 load 0";
-
-pub const NO_CALL: usize = 0;
-
-pub const WROTE: usize = 1;
-
-pub const LOADED: usize = 2;
-
-// From here on a line makes a call.
-pub const CREATE: usize = 3;
-
-pub const ALLOCATE: usize = 4;
-
-pub const READ: usize = 5;
-
-pub const SHOW: usize = 6;
-
-pub const WRITE: usize = 7;
-
-pub const ROOT: usize = 8;
-
-pub const SINK: usize = 9;
-
-pub const ANALYSE: usize = 10;
-
-pub const COLLECT: usize = 11;
-
-pub const SAVE: usize = 12;
-
-pub const LOAD: usize = 13;
 
 // The numbers of a create that names those of the analysis behind its sizes.
 pub const TUNED: u32 = 5;
 
-// What a line should have had: the name of a call, a number, one below 2^32, no further word, `plain` or `clusters`, a name.
-pub const A_CALL: u32 = 1;
+// The kinds of line, in the order of TABLE.
+#[derive(Clone, Copy, PartialEq, Eq)]
+pub enum Kind {
+    Wrote,
+    Loaded,
+    Create,
+    Allocate,
+    Read,
+    Show,
+    Write,
+    Root,
+    Sink,
+    Analyse,
+    Collect,
+    Save,
+    Load,
+}
 
-pub const A_NUMBER: u32 = 2;
+// The kinds in the order of TABLE.
+pub const KINDS: [Kind; 13] = [
+    Kind::Wrote,
+    Kind::Loaded,
+    Kind::Create,
+    Kind::Allocate,
+    Kind::Read,
+    Kind::Show,
+    Kind::Write,
+    Kind::Root,
+    Kind::Sink,
+    Kind::Analyse,
+    Kind::Collect,
+    Kind::Save,
+    Kind::Load,
+];
 
-pub const A_SMALL_NUMBER: u32 = 3;
+// Of the numbers only the first `count` are used, and the others are 0. `collect` has one: 0 for `plain`, 1 for `clusters`. `create` has its two
+// sizes, or TUNED numbers.
+#[derive(Clone, Copy, PartialEq, Eq)]
+pub struct Call {
+    pub kind: Kind,
+    pub count: u32,
+    pub numbers: [u32; MOST],
+}
 
-pub const THE_END: u32 = 4;
+// What is wrong with a list.
+#[derive(Clone, Copy, PartialEq, Eq)]
+pub enum Problem {
+    // A line that should have had: the name of a call, a number, one below 2^32, no further word, `plain` or `clusters`, a name.
+    NoCall,
+    NoNumber,
+    LargeNumber,
+    NoEnd,
+    NoWay,
+    NoName,
+    // A call before create.
+    NoCreate,
+    SecondCreate,
+    // A list without a create.
+    NeverCreated,
+    // A line that is too long.
+    TooLong,
+    // A list that could not be read.
+    Unreadable,
+}
 
-pub const A_WAY: u32 = 5;
-
-pub const A_NAME: u32 = 6;
-
-// What else is wrong with a list: a call before create, a second create.
-pub const NOT_CREATE: u32 = 7;
-
-pub const SECOND_CREATE: u32 = 8;
-
-// A line that makes no call.
-pub fn no_call(expected: u32) -> Call
-    ensures { result ≡ no_call expected }
-{
-    Call {
-        kind: NO_CALL,
-        count: 0,
-        numbers: [expected, 0, 0, 0, 0],
+impl fmt::Display for Problem {
+    fn fmt<W: fmt::Write>(&self, f: &mut fmt::Formatter<W>) -> fmt::Result {
+        f.write_str(match self {
+            Problem::NoCall => "expected the name of a call",
+            Problem::NoNumber => "expected a number",
+            Problem::LargeNumber => "expected a number below 4294967296",
+            Problem::NoEnd => "expected the end of the line",
+            Problem::NoWay => "expected plain or clusters",
+            Problem::NoName => "expected a name",
+            Problem::NoCreate => "expected create, which is the first call of a list",
+            Problem::SecondCreate => "a second create, and a list has one",
+            Problem::NeverCreated => "expected create, and the list has no call",
+            Problem::TooLong => "the line is longer than 4096 bytes",
+            Problem::Unreadable => "the list could not be read",
+        })
     }
 }
 
 // The call with v as its k-th number.
+#[tactic(auto, unfolding(crate::specs::Kinds::with_number))]
 pub fn with_number(call: Call, k: usize, v: u32) -> Call
     ensures { result ≡ with_number k v call }
 {
@@ -91,28 +109,19 @@ pub fn with_number(call: Call, k: usize, v: u32) -> Call
     c
 }
 
-// The call with another count of numbers.
-pub fn with_count(call: Call, count: u32) -> Call
-    ensures { result ≡ with_count count call }
+// What is wrong with a line, after an earlier create or before one.
+#[tactic(auto, unfolding(crate::specs::Kinds::problem_of, crate::specs::Kinds::call_problem))]
+pub fn problem_of(line: Result<Option<Call>, Problem>, created: bool) -> Option<Problem>
+    ensures { result ≡ problem_of line created }
 {
-    let mut c = call;
-    c.count = count;
-    c
-}
-
-// What is wrong with a line, after an earlier create or before one; 0 for nothing.
-pub fn problem_of(call: Call, created: bool) -> u32
-    ensures { result ≡ problem_of call created }
-{
-    let numbers = call.numbers;
-    if call.kind == NO_CALL {
-        return numbers[0];
+    match line {
+        Err(problem) => Some(problem),
+        Ok(None) => None,
+        Ok(Some(call)) => match (call.kind, created) {
+            (Kind::Wrote | Kind::Loaded, _) => None,
+            (Kind::Create, true) => Some(Problem::SecondCreate),
+            (Kind::Create, false) | (_, true) => None,
+            (_, false) => Some(Problem::NoCreate),
+        },
     }
-    if call.kind < CREATE {
-        return 0;
-    }
-    if call.kind == CREATE {
-        return if created { SECOND_CREATE } else { 0 };
-    }
-    if created { 0 } else { NOT_CREATE }
 }

@@ -1,94 +1,59 @@
 // Numbers: decimal, hexadecimal after 0x or 0X, or `nil`; each below 2^32.
-ghost use Rattle.std.specs.Prelude.{◌≡◌, cond, ◌≤◌, ◌^◌, ltb, drop};
-ghost use Rattle.lines.specs.Numeral.{between, digit_of, numeral_of, is_hex, value_of};
+ghost use Rattle.std.specs.Prelude.{◌≡◌, ◌≤◌};
+ghost use Rattle.lines.specs.Numeral.{digit_of, numeral_of, value_of};
 
-use crate::words::same;
-
-#[derive(Clone, Copy)]
-pub enum Number {
-    NotNumber,
-    TooLarge,
-    Value(u32),
-}
+use crate::kinds::Problem;
 
 const BOUND: u64 = 0x1_0000_0000;
 
-// Whether a ≤ x ≤ b.
-fn within(a: u8, b: u8, x: u8) -> bool
-    ensures { result ≡ between a b x }
-{
-    a <= x && x <= b
-}
-
 // The value of a digit to base 16, or 16.
+#[tactic(auto, unfolding(crate::specs::Numeral::digit_of, crate::specs::Numeral::between))]
 fn digit(b: u8) -> u64
     ensures { result ≡ digit_of b }
 {
-    if within(b'0', b'9', b) {
-        return (b - b'0') as u64;
+    match b {
+        b'0'..=b'9' => u64::from(b - b'0'),
+        b'a'..=b'f' => u64::from(b - b'a') + 10,
+        b'A'..=b'F' => u64::from(b - b'A') + 10,
+        _ => 16,
     }
-    if within(b'a', b'f', b) {
-        return (b - 87) as u64;
-    }
-    if within(b'A', b'F', b) {
-        return (b - 55) as u64;
-    }
-    16
 }
 
-// x, but never above 2^32: a number that is too large stays so.
-fn capped(x: u64) -> u64
-    ensures { result ≡ cond (ltb x (2 ^ 32)) x (2 ^ 32) }
-{
-    if x < BOUND { x } else { BOUND }
-}
-
-// The number that the digits from `from` on write.
-fn numeral(word: &[u8], from: usize, base: u64) -> Number
+// The number that the digits write.
+#[tactic(auto, using(crate::proofs::NumeralLaws::numerals))]
+fn numeral(digits: &[u8], base: u64) -> Result<u32, Problem>
     requires { (1 ≤ base) × (base ≤ 16) }
-    ensures { result ≡ numeral_of base (drop from word.now) }
+    ensures { result ≡ numeral_of base digits.now }
 {
-    if word.len() <= from {
-        return Number::NotNumber;
+    if digits.is_empty() {
+        return Err(Problem::NoNumber);
     }
     let mut v: u64 = 0;
-    let mut i = from;
-    while i < word.len() {
-        let d = digit(word[i]);
+    for b in digits {
+        let d = digit(*b);
         if base <= d {
-            return Number::NotNumber;
+            return Err(Problem::NoNumber);
         }
-        v = capped(v * base + d);
-        i += 1;
+        // Never above 2^32: a number that is too large stays so.
+        v = (v * base + d).min(BOUND);
     }
     if v < BOUND {
-        Number::Value(v as u32)
+        Ok(v as u32)
     } else {
-        Number::TooLarge
+        Err(Problem::LargeNumber)
     }
-}
-
-fn is_hex(word: &[u8]) -> bool
-    ensures { result ≡ is_hex word.now }
-{
-    if word.len() < 2 {
-        return false;
-    }
-    if word[0] != b'0' {
-        return false;
-    }
-    word[1] == b'x' || word[1] == b'X'
 }
 
 // The number that a word says.
-pub fn value(word: &[u8]) -> Number
+#[tactic(auto, using(crate::proofs::NumeralLaws::short_no_hex), unfolding(crate::specs::Numeral::value_of, crate::specs::Numeral::is_hex))]
+pub fn value(word: &[u8]) -> Result<u32, Problem>
     ensures { result ≡ value_of word.now }
 {
-    if same(word, b"nil") {
-        return Number::Value(0);
+    if word == b"nil".as_slice() {
+        return Ok(0);
     }
-    if is_hex(word) {
-        return numeral(word, 2, 16);
+    match word {
+        [b'0', b'x' | b'X', digits @ ..] => numeral(digits, 16),
+        _ => numeral(word, 10),
     }
-    numeral(word, 0, 10)
 }

@@ -1,8 +1,8 @@
 // The words of a line: runs of bytes that are neither blank nor '#'.
 ghost use Rattle.std.specs.Prelude.{◌≡◌};
-ghost use Rattle.lines.specs.Word.{is_blank, has, run_end, word_at, same_bytes, line_end};
+ghost use Rattle.lines.specs.Word.{is_blank, has, run_end, word_at, line_end};
 
-// A word from start to end; where there is none, start is end.
+// A word from start to end; where there is none, start is end. No `Option`: the place counts there too, as `word_at` says.
 #[derive(Clone, Copy)]
 pub struct Span {
     pub start: usize,
@@ -17,40 +17,38 @@ pub enum Kind {
     Line,
 }
 
+#[tactic(auto, unfolding(crate::specs::Word::is_blank))]
 fn is_blank(b: u8) -> bool
     ensures { result ≡ is_blank b }
 {
-    if b == b' ' {
-        return true;
-    }
-    b == b'\t' || b == b'\r'
+    matches!(b, b' ' | b'\t' | b'\r')
 }
 
+#[tactic(auto, unfolding(crate::specs::Word::has, crate::specs::Word::in_word, crate::specs::Word::in_line))]
 fn belongs(kind: Kind, b: u8) -> bool
     ensures { result ≡ has kind b }
 {
     match kind {
         Kind::Blank => is_blank(b),
-        Kind::Word => { if is_blank(b) { false } else { b != b'#' } }
+        Kind::Word => !is_blank(b) && b != b'#',
         Kind::Line => b != b'\n',
     }
 }
 
 // Where the run of the kind that begins at from ends.
+#[tactic(auto, using(crate::proofs::WordLaws::runs))]
 fn run_end(kind: Kind, s: &[u8], from: usize) -> usize
     ensures { result ≡ run_end kind s.now from }
 {
-    let mut i = from;
-    while i < s.len() {
-        if belongs(kind, s[i]) {
-            i += 1;
-        } else {
+    for i in from..s.len() {
+        if !belongs(kind, s[i]) {
             return i;
         }
     }
-    i
+    s.len().max(from)
 }
 
+#[tactic(auto, unfolding(crate::specs::Word::word_at))]
 pub fn next_word(line: &[u8], from: usize) -> Span
     ensures { result ≡ word_at line.now from }
 {
@@ -59,24 +57,8 @@ pub fn next_word(line: &[u8], from: usize) -> Span
     Span { start, end }
 }
 
-// Whether a and b hold the same bytes.
-pub fn same(a: &[u8], b: &[u8]) -> bool
-    ensures { result ≡ same_bytes a.now b.now }
-{
-    if a.len() != b.len() {
-        return false;
-    }
-    let mut i = 0;
-    while i < a.len() {
-        if a[i] != b[i] {
-            return false;
-        }
-        i += 1;
-    }
-    true
-}
-
 // The index of the first newline at or after from, or the length.
+#[tactic(auto, unfolding(crate::specs::Word::line_end))]
 pub fn line_end(buf: &[u8], from: usize) -> usize
     ensures { result ≡ line_end buf.now from }
 {

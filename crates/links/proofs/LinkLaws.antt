@@ -9,7 +9,7 @@ use native.Mathlib.Decide.{ℕ_discrete, dec_le}
 use native.Mathlib.Omega.{arith}
 use lib.ListN.{length, get_or, set, drop, length-set}
 use lib.Seq.{drop-set-lt}
-use borrow.Author.Tests.{lt-ltb, le-ltb}
+use borrow.Author.Tests.{le-ltb}
 use Rattle.layout.specs.Limits.{within}
 use Rattle.layout.specs.Field.{field, flag}
 use Rattle.layout.proofs.LimitLaws.{within-true, in_within}
@@ -192,21 +192,9 @@ link-end n cl work₀ work e long rest L =
     let s : rec_of n work x ≡ next_at n work x + 4096 * first_at n work x = omega arith in
     s ∙ ap₂ (λ (u v : ℕ). u + 4096 * v) b a)
 
--- ---- where nothing is written
+-- ---- where n is a size and no slice is too short
 
 module _ (n : ℕ) (cl : ℕ → ℕ) (recs work : List ℕ) where
-  pub not-many : 4095 < n → work ≡ cond (linkable n recs work) (links n cl work) work
-  unfolding linkable
-  not-many h = rw (lt-ltb 4095 n h) refl
-
-  pub short-recs : n ≤ 4095 → length recs < n → work ≡ cond (linkable n recs work) (links n cl work) work
-  unfolding linkable short
-  short-recs p h = rw (le-ltb 4095 n p, lt-ltb (length recs) n h) refl
-
-  pub short-work : n ≤ 4095 → n ≤ length recs → length work < n → work ≡ cond (linkable n recs work) (links n cl work) work
-  unfolding linkable short
-  short-work p q h = rw (le-ltb 4095 n p, le-ltb (length recs) n q, lt-ltb (length work) n h) refl
-
   pub linked : n ≤ 4095 → n ≤ length recs → n ≤ length work → links n cl work ≡ cond (linkable n recs work) (links n cl work) work
   unfolding linkable short
   linked p q h = rw (le-ltb 4095 n p, le-ltb (length recs) n q, le-ltb (length work) n h) refl

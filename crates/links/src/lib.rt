@@ -27,10 +27,7 @@ pub fn top_member(link: u32) -> u32
 fn linked_in(outs: bool, r: u32) -> u32
     ensures { result ≡ linked_in outs r }
 {
-    if !outs {
-        return cluster_of(r);
-    }
-    if is_out(r) { cluster_of(r) } else { 0 }
+    if outs && !is_out(r) { 0 } else { cluster_of(r) }
 }
 
 // Puts object x, if it is linked in a cluster, in front of the lower ones that are.
@@ -44,7 +41,7 @@ fn link_one(outs: bool, n: u32, records: &[u32], work: &mut [u32], x: u32)
     if within(1, n, d) {
         let j = d as usize - 1;
         let first = work[j] / 4096;
-        work[i] = work[i] + first;
+        work[i] += first;
         work[j] = work[j] % 4096 + 4096 * x;
     }
 }
@@ -54,25 +51,18 @@ fn link_all(outs: bool, n: u32, records: &[u32], work: &mut [u32])
     ensures { work.new ≡ links n (linked_at outs n records.now) work.old }
 {
     zero(work, n as usize);
-    let mut k = 0;
-    while k < n {
-        k += 1;
-        link_one(outs, n, records, work, k);
+    for x in 1..=n {
+        link_one(outs, n, records, work, x);
     }
 }
 
 // Writes the link words of n objects, `outs`: of the out members alone; nothing changes where n is above 4,095 or a slice is too short.
+#[tactic(auto, unfolding(crate::specs::Links::linkable, rules::specs::Buffers::short))]
 pub fn link(outs: bool, n: u32, records: &[u32], work: &mut [u32])
     ensures { work.new ≡ cond (linkable n records.now work.old) (links n (linked_at outs n records.now) work.old) work.old }
 {
-    if OBJECT_MAX < n {
-        return;
+    let count = n as usize;
+    if n <= OBJECT_MAX && count <= records.len() && count <= work.len() {
+        link_all(outs, n, records, work);
     }
-    if records.len() < n as usize {
-        return;
-    }
-    if work.len() < n as usize {
-        return;
-    }
-    link_all(outs, n, records, work);
 }

@@ -12,9 +12,10 @@ use lib.Dec.{eqb, ltb}
 use lib.ListN.{length, take, drop, length-drop}
 use lib.Seq.{drop-drop}
 use Rattle.layout.specs.Limits.{within}
-use Rattle.layout.specs.Refusal.{first, by}
+use Rattle.layout.specs.declared.refusals.Refusal.{Refusal}
+use Rattle.layout.specs.Refusal.{number, first, by}
 use Rattle.layout.proofs.LimitLaws.{within-true}
-use Rattle.layout.proofs.RefusalLaws.{by_zero, by_number}
+use Rattle.layout.proofs.RefusalLaws.{numbered, by_zero, by_number}
 use Rattle.endian.specs.Bytes.{number_at}
 use Rattle.rules.specs.Image.{front_len, sinks_kind, body_len, kind_of, body_of, past, cut}
 use Rattle.rules.specs.Load.{known, passed, misplaced, bad_body, bad_sinks, chunk_tests, image_tests}
@@ -90,9 +91,9 @@ module _ (t : ℕ) (image : List ℕ) (at : ℕ) (p : at ≤ length image) where
 uncut : (b : List ℕ) → cut b ≡ false → front_len + body_len b ≤ length b
 uncut b e = let f = fronted b e in omega (arith, f.0, f.1)
 
-pub front-uncut : (t : ℕ) (b : List ℕ) → front_refusal t b ≡ 0 → cut b ≡ false
+pub front-uncut : (t : ℕ) (b : List ℕ) → 0 ≡ front_refusal t b → cut b ≡ false
 unfolding front_refusal
-front-uncut t b e = go (cut b) refl e
+front-uncut t b e = go (cut b) refl (sym e)
   where
     go : (c : Bool) → cut b ≡ c → cond c 26 (kind_refusal t (kind_of b)) ≡ 0 → cut b ≡ false
     go true q z = absurd (omega arith)
@@ -118,9 +119,9 @@ chunk-at image at v p e is =
 -- ---- a whole chunk
 
 module _ (t : ℕ) (b : List ℕ) (bad : Bool) where
-  pub chunk_front : (k : ℕ) → k ≡ front_refusal t b → k ≢ 0 → k ≡ chunk_refusal t b bad
+  pub chunk_front : (e : Refusal) → number e ≡ front_refusal t b → number e ≡ chunk_refusal t b bad
   unfolding chunk_refusal by
-  chunk_front k e d = go k e d
+  chunk_front e is = go (number e) is (numbered e)
     where
       go : (k : ℕ) → k ≡ front_refusal t b → k ≢ 0 → k ≡ by (front_refusal t b) (cond bad 27 0) (λ j. j)
       go zero e d = absurd (d refl)
@@ -131,13 +132,13 @@ module _ (t : ℕ) (b : List ℕ) (bad : Bool) where
   chunk-body e = rw (sym e) refl
 
   -- and back: what 0 says
-  pub chunk-none : chunk_refusal t b bad ≡ 0 → (front_refusal t b ≡ 0) × (bad ≡ false)
+  pub chunk-none : 0 ≡ chunk_refusal t b bad → (0 ≡ front_refusal t b) × (bad ≡ false)
   unfolding chunk_refusal by
   chunk-none e = go (front_refusal t b) bad refl refl e
     where
-      go : (k : ℕ) (c : Bool) → front_refusal t b ≡ k → bad ≡ c → by k (cond c 27 0) (λ j. j) ≡ 0 → (front_refusal t b ≡ 0) × (bad ≡ false)
+      go : (k : ℕ) (c : Bool) → front_refusal t b ≡ k → bad ≡ c → 0 ≡ by k (cond c 27 0) (λ j. j) → (0 ≡ front_refusal t b) × (bad ≡ false)
       go zero true p q z = absurd (omega arith)
-      go zero false p q z = (p, q)
+      go zero false p q z = (sym p, q)
       go (suc k) c p q z = absurd (omega arith)
 
 -- ---- the tests of all chunks
@@ -270,12 +271,14 @@ module _ (image : List ℕ) where
         go (yes e) = rw (e, lt-ltb t 3 l) refl
         go (no d) = some d ∙ ap (λ (b : Bool). by (chunk_refusal t bytes (cond b (bad_body image t) (sinks_bad t))) (refusal_from image (suc t)) (λ j. j)) (lt-ltb t 3 l)
 
-    module _ (k : ℕ) (is : k ≡ chunk_refusal t bytes (bad_body image t)) (l : t < 3) where
-      pub step-stop : k ≢ 0 → k ≡ refusal_from image t
-      step-stop d = sym (by_number (refusal_from image (suc t)) (λ j. j) k d) ∙ ap (λ (m : ℕ). by m (refusal_from image (suc t)) (λ j. j)) is ∙ sym (step l)
+    module _ (l : t < 3) where
+      pub step-stop : (e : Refusal) → number e ≡ chunk_refusal t bytes (bad_body image t) → number e ≡ refusal_from image t
+      step-stop e is =
+          sym (by_number (refusal_from image (suc t)) (λ j. j) (number e) (numbered e))
+          ∙ ap (λ (m : ℕ). by m (refusal_from image (suc t)) (λ j. j)) is ∙ sym (step l)
 
-      pub step-on : k ≡ 0 → refusal_from image t ≡ refusal_from image (suc t)
-      step-on z = step l ∙ by_zero (refusal_from image (suc t)) (λ j. j) _ (sym is ∙ z)
+      pub step-on : 0 ≡ chunk_refusal t bytes (bad_body image t) → refusal_from image t ≡ refusal_from image (suc t)
+      step-on is = step l ∙ by_zero (refusal_from image (suc t)) (λ j. j) _ (sym is)
 
     -- ---- behind the third
 
@@ -296,15 +299,15 @@ module _ (image : List ℕ) where
       unfolding refusal_from chunk_tests first
       late-end e = sym (rw (e, le-ltb t 3 late) refl)
 
-      module _ (d : length bytes ≢ 0) (k : ℕ) (is : k ≡ chunk_refusal 3 bytes (sinks_bad t)) where
-        pub late-stop : k ≢ 0 → k ≡ refusal_from image t
-        late-stop z =
-            sym (by_number (refusal_from image (suc t)) (λ j. j) k z)
+      module _ (d : length bytes ≢ 0) where
+        pub late-stop : (e : Refusal) → number e ≡ chunk_refusal 3 bytes (sinks_bad t) → number e ≡ refusal_from image t
+        late-stop e is =
+            sym (by_number (refusal_from image (suc t)) (λ j. j) (number e) (numbered e))
             ∙ ap (λ (m : ℕ). by m (refusal_from image (suc t)) (λ j. j)) (is ∙ sym late-front)
             ∙ sym (some d)
 
-        pub late-on : k ≡ 0 → refusal_from image (suc t) ≡ refusal_from image t
-        late-on z = sym (some d ∙ by_zero (refusal_from image (suc t)) (λ j. j) _ (late-front ∙ sym is ∙ z))
+        pub late-on : 0 ≡ chunk_refusal 3 bytes (sinks_bad t) → refusal_from image (suc t) ≡ refusal_from image t
+        late-on is = sym (some d ∙ by_zero (refusal_from image (suc t)) (λ j. j) _ (late-front ∙ sym is))
 
 -- ---- a chunk whose body was tested
 

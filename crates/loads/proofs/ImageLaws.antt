@@ -4,14 +4,14 @@ use Prim.Native.Nat.{ℕ, suc, ◌+◌, ◌≤◌}
 use mathlib.Core.Path.{◌≡◌, refl, sym, ap, ◌∙◌}
 use mathlib.Core.Bool.{Bool, true, false, not, ◌&&◌, ◌||◌}
 use mathlib.Core.List.{List}
-use mathlib.Core.Logic.{◌≢◌}
 use native.Mathlib.Omega.{arith}
 use borrow.Author.Tests.{eqb-true, leb-true, not-true, not-false}
 use lib.Dec.{eqb, leb, ltb}
 use lib.ListN.{length, drop, replicate, length-take, length-replicate}
 use Rattle.layout.specs.Limits.{object_max, sink_max}
 use Rattle.layout.specs.ControlRecord.{bad_sizes}
-use Rattle.layout.specs.Refusal.{first}
+use Rattle.layout.specs.declared.refusals.Refusal.{Refusal}
+use Rattle.layout.specs.Refusal.{number, first}
 use Rattle.layout.proofs.ControlLaws.{Sizes, sizes-facts}
 use Rattle.bitmap.proofs.BitLaws.{holds-blank}
 use Rattle.endian.specs.Bytes.{number_at}
@@ -33,8 +33,8 @@ pub empty : Empty blank
 empty = (length-replicate {A = ℕ} 64 0, holds-blank 64)
 
 -- a chunk with no refusal is whole
-pub chunk-uncut : (t : ℕ) (b : List ℕ) (bad : Bool) (k : ℕ) → k ≡ chunk_refusal t b bad → k ≡ 0 → cut b ≡ false
-chunk-uncut t b bad k e z = front-uncut t b (chunk-none t b bad (sym e ∙ z)).0
+pub chunk-uncut : (t : ℕ) (b : List ℕ) (bad : Bool) → 0 ≡ chunk_refusal t b bad → cut b ≡ false
+chunk-uncut t b bad e = front-uncut t b (chunk-none t b bad e).0
 
 -- ---- the sizes
 
@@ -88,19 +88,12 @@ sized image e =
 -- ---- chunk after chunk
 
 module _ (image : List ℕ) where
-  module _ (k : ℕ) (is : k ≡ chunk_refusal 0 image (not (sizes_ok (body_of image)))) where
-    as_first : k ≡ chunk_refusal 0 (past 0 image) (bad_body image 0)
-    unfolding past bad_body
-    as_first = is
+  first-is : chunk_refusal 0 image (not (sizes_ok (body_of image))) ≡ chunk_refusal 0 (past 0 image) (bad_body image 0)
+  unfolding past bad_body
+  first-is = refl
 
-    pub first-stop : k ≢ 0 → k ≡ first (image_tests image)
-    first-stop d = step-stop image 0 k as_first (omega arith) d ∙ refusal-all image
-
-    pub first-sized : k ≡ 0 → Sized image
-    first-sized z = sized image (not-false _ (chunk-none 0 image (not (sizes_ok (body_of image))) (sym is ∙ z)).1)
-
-    pub first_on : k ≡ 0 → refusal_from image 1 ≡ first (image_tests image)
-    first_on z = sym (step-on image 0 k as_first (omega arith) z) ∙ refusal-all image
+  pub first-stop : (e : Refusal) → number e ≡ chunk_refusal 0 image (not (sizes_ok (body_of image))) → number e ≡ first (image_tests image)
+  first-stop e is = step-stop image 0 (omega arith) e (is ∙ first-is) ∙ refusal-all image
 
   -- the chunk behind chunk t, which is at a place
   pub place-next : (t at : ℕ) → past t image ≡ drop at image → (e : ℕ) → Chunk image at e → past (suc t) image ≡ drop e image
@@ -114,16 +107,16 @@ module _ (image : List ℕ) where
     pub is-r : number_at 2 10 image ≡ image_r image
     pub same : refusal_from image 1 ≡ first (image_tests image)
 
-  pub second : (k : ℕ) → k ≡ chunk_refusal 0 image (not (sizes_ok (body_of image))) → k ≡ 0 → (at n : ℕ) → Chunk image 0 at → n ≡ number_at 2 8 image → Second at n
+  pub second : 0 ≡ chunk_refusal 0 image (not (sizes_ok (body_of image))) → (at n : ℕ) → Chunk image 0 at → n ≡ number_at 2 8 image → Second at n
   unfolding past
-  second k is z at n c e =
-      let s = first-sized k is z in
+  second is at n c e =
+      let s = sized image (not-false _ (chunk-none 0 image (not (sizes_ok (body_of image))) is).1) in
       record {
         here = place-next 0 0 refl at c;
         most = let a = s.sizes.most in omega (arith, e, s.n-at);
         is-n = e ∙ s.n-at;
         is-r = s.r-at;
-        same = first_on k is z;
+        same = sym (step-on image 0 (omega arith) (is ∙ first-is)) ∙ refusal-all image;
       }
 
   module _ (at n : ℕ) (s : Second at n) where
@@ -138,12 +131,8 @@ module _ (image : List ℕ) where
         either true false = refl
         either false b = refl
 
-    module _ (k : ℕ) (is : k ≡ chunk_refusal 1 (drop at image) (not (objects_pass n (body_of (drop at image))))) where
-      pub second-stop : k ≢ 0 → k ≡ first (image_tests image)
-      second-stop d = step-stop image 1 k (is ∙ second_is) (omega arith) d ∙ s.same
-
-      second-on : k ≡ 0 → refusal_from image 2 ≡ first (image_tests image)
-      second-on z = sym (step-on image 1 k (is ∙ second_is) (omega arith) z) ∙ s.same
+    pub second-stop : (e : Refusal) → number e ≡ chunk_refusal 1 (drop at image) (not (objects_pass n (body_of (drop at image)))) → number e ≡ first (image_tests image)
+    second-stop e is = step-stop image 1 (omega arith) e (is ∙ second_is) ∙ s.same
 
     -- the numbers of the image itself
     pub second-most : image_n image ≤ object_max
@@ -157,12 +146,11 @@ module _ (image : List ℕ) where
     pub here : past 2 image ≡ drop at image
     pub same : refusal_from image 2 ≡ first (image_tests image)
 
-  pub third : (at n : ℕ) → Second at n → (k : ℕ) → k ≡ chunk_refusal 1 (drop at image) (not (objects_pass n (body_of (drop at image)))) → k ≡ 0
-      → (e : ℕ) → Chunk image at e → Third e
-  third at n s k is z e c =
+  pub third : (at n : ℕ) → Second at n → 0 ≡ chunk_refusal 1 (drop at image) (not (objects_pass n (body_of (drop at image)))) → (e : ℕ) → Chunk image at e → Third e
+  third at n s is e c =
       record {
         here = place-next 1 at s.here e c;
-        same = second-on at n s k is z;
+        same = sym (step-on image 1 (omega arith) (is ∙ second_is at n s)) ∙ s.same;
       }
 
   module _ (a b n r : ℕ) (words : List ℕ) (s : Second a n) (t : Third b) (has : Listed n (body_of (drop a image)) words) (e : r ≡ number_at 2 10 image) where
@@ -172,10 +160,9 @@ module _ (image : List ℕ) where
         rw (t.here, s.here, sym s.is-n, sym s.is-r, sym e)
         (ap (λ (x : Bool). chunk_refusal 2 (drop b image) (not x)) (sym (roots-pass n (body_of (drop a image)) words has r (body_of (drop b image)))))
 
-    module _ (k : ℕ) (is : k ≡ chunk_refusal 2 (drop b image) (not (roots_pass n r words (body_of (drop b image))))) where
-      pub third-stop : k ≢ 0 → k ≡ first (image_tests image)
-      third-stop d = step-stop image 2 k (is ∙ third-is) (omega arith) d ∙ t.same
+    pub third-stop : (x : Refusal) → number x ≡ chunk_refusal 2 (drop b image) (not (roots_pass n r words (body_of (drop b image)))) → number x ≡ first (image_tests image)
+    third-stop x is = step-stop image 2 (omega arith) x (is ∙ third-is) ∙ t.same
 
-      -- the chunks behind the third decide
-      pub third-on : k ≡ 0 → (q : ℕ) → q ≡ refusal_from image 3 → q ≡ first (image_tests image)
-      third-on z q h = h ∙ sym (step-on image 2 k (is ∙ third-is) (omega arith) z) ∙ t.same
+    -- the chunks behind the third decide
+    pub third-on : 0 ≡ chunk_refusal 2 (drop b image) (not (roots_pass n r words (body_of (drop b image)))) → (q : ℕ) → q ≡ refusal_from image 3 → q ≡ first (image_tests image)
+    third-on is q h = h ∙ sym (step-on image 2 (omega arith) (is ∙ third-is)) ∙ t.same

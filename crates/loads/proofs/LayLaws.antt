@@ -108,7 +108,7 @@ laid-four body at base l a b c d ea eb ec ed =
     let y : at + 0 ≡ at = omega arith in
     rw (z, y, ea, eb, ec, ed) refl
 
--- the words from a place on, stored one after the other, with so many left
+-- some of the words from a place on are stored, and so many are left
 pub record Storing (body : List ℕ) (from k : ℕ) (words₀ : List ℕ) (base : ℕ) (words : List ℕ) (at to left : ℕ) : Type 0 where
   pub few : left ≤ k
   pub place : at ≡ from + 4 * (k - left)
@@ -117,23 +117,6 @@ pub record Storing (body : List ℕ) (from k : ℕ) (words₀ : List ℕ) (base 
   pub stored : words ≡ laid base (k - left) (λ i. number_at 4 (from + 4 * i) body) words₀
 
 module _ (body : List ℕ) (from k : ℕ) (words₀ : List ℕ) (base : ℕ) where
-  pub storing-start : Storing body from k words₀ base words₀ from base k
-  storing-start =
-      let z : k - k ≡ 0 = omega arith in
-      record { few = omega arith; place = omega arith; target = omega arith; long = refl; stored = rw z (laid_none base _ words₀) }
-
-  pub storing-turn : (words : List ℕ) (at to left : ℕ) → Storing body from k words₀ base words at to left → left ≢ 0 → (v : ℕ) → v ≡ number_at 4 at body
-      → Storing body from k words₀ base (set words to v) (at + 4) (to + 1) (left - 1)
-  storing-turn words at to left s d v e =
-      let z : k - (left - 1) ≡ k - left + 1 = omega (arith, s.few, d) in
-      record {
-        few = omega (arith, s.few);
-        place = omega (arith, s.place, s.few, d);
-        target = omega (arith, s.target, s.few, d);
-        long = length-set words to v ∙ s.long;
-        stored = rw (z, s.target) (laid-turn base (k - left) _ words₀ words v s.stored (e ∙ ap (λ (a : ℕ). number_at 4 a body) s.place));
-      }
-
   -- the first four are stored
   pub storing-four : 3 < k → (words : List ℕ) (at to left : ℕ) → words ≡ laid base 4 (λ i. number_at 4 (from + 4 * i) body) words₀ → at ≡ from + 16
       → to ≡ base + 4 → left ≡ k - 4 → Storing body from k words₀ base words at to left
@@ -149,7 +132,9 @@ module _ (body : List ℕ) (from k : ℕ) (words₀ : List ℕ) (base : ℕ) whe
 
   -- none is
   pub storing-none : (words : List ℕ) (at to left : ℕ) → words ≡ words₀ → at ≡ from → to ≡ base → left ≡ k → Storing body from k words₀ base words at to left
-  storing-none words at to left e ea et el = rw (e, ea, et, el) storing-start
+  storing-none words at to left e ea et el =
+      let z : k - k ≡ 0 = omega arith in
+      rw (e, ea, et, el) (record { few = omega arith; place = omega arith; target = omega arith; long = refl; stored = rw z (laid_none base _ words₀) })
 
   -- the others behind them
   pub storing-end : (words : List ℕ) (at to left : ℕ) → Storing body from k words₀ base words at to left → (e : ℕ) (out : List ℕ)

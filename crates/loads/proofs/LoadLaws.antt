@@ -4,7 +4,6 @@ use Prim.Native.Nat.{ℕ, zero, suc, ◌+◌, ◌-◌, ◌*◌, ◌/◌, ◌%◌
 use mathlib.Core.Path.{◌≡◌, refl, sym, ap, ap₂, ◌∙◌}
 use mathlib.Core.Bool.{Bool, true, false, cond}
 use mathlib.Core.List.{List, [], ◌∷◌, ◌++◌}
-use mathlib.Core.Logic.{◌≢◌}
 use native.Mathlib.Omega.{arith}
 use borrow.Author.Tests.{eqb-true}
 use lib.Dec.{eqb}
@@ -12,9 +11,12 @@ use lib.ListN.{length, get_or, take, drop}
 use Rattle.layout.specs.declared.answers.Control.{Control}
 use Rattle.layout.specs.declared.answers.Tuning.{Tuning}
 use Rattle.layout.specs.Limits.{width_max, sink_max, slots_len}
-use Rattle.layout.specs.ControlRecord.{bad_tuning, new_control, no_control, with_last}
-use Rattle.layout.specs.Refusal.{Test, first}
-use Rattle.layout.proofs.RefusalLaws.{Numbered, nil, cons, first-passed, first-front, first-skip, first-zero, first_holds, first-fails, outcome-zero, outcome-number}
+use Rattle.layout.specs.ControlRecord.{bad_tuning, new_control, with_last}
+use Rattle.std.specs.Prelude.{Ok, Err}
+use Rattle.layout.specs.declared.refusals.Refusal.{Refusal}
+use Rattle.layout.specs.declared.refusals.Refusal.TheVariants.{TooShort}
+use Rattle.layout.specs.Refusal.{Test, number, first}
+use Rattle.layout.proofs.RefusalLaws.{numbered as above, Numbered, nil, cons, first-passed, first-front, first-skip, first-zero, first_holds, first-fails, outcome-zero, outcome-number}
 use Rattle.endian.specs.Bytes.{number_at}
 use Rattle.rules.specs.Buffers.{short_heap, each_from, each_record, zeros}
 use Rattle.rules.specs.Image.{front_len, body_of, past, cut, saved_root, roots_ok}
@@ -26,7 +28,7 @@ use Rattle.rules.proofs.BufferLaws.{zeros-from}
 use Rattle.rules.proofs.AcceptedLaws.{accepted-places, sizes-right, objects-right, roots-right}
 use Rattle.table.proofs.RoomLaws.{heap-long}
 use Rattle.loads.specs.Chunks.{Chunk}
-use Rattle.loads.specs.Laid.{laid, record_or, slot_or, Roomy, Placed, Accepted}
+use Rattle.loads.specs.Laid.{laid, record_or, slot_or, Roomy, Placed, Accepted, answer_of}
 use Rattle.loads.proofs.ImageLaws.{place-next, Sized, sized}
 use Rattle.loads.proofs.SinkPlaces.{shape_of}
 use Rattle.loads.proofs.LayLaws.{laid-all}
@@ -142,26 +144,24 @@ module _ (t : Tuning) (image recs slots roots list sets : List ℕ) where
   unfolding Load.load_tests
   tests = refl
 
-  refused : (k : ℕ) → first (Load.load_tests t image recs slots roots list sets) ≡ k → k ≢ 0 → (c : Control) → c ≡ no_control
-      → Load.gives (record { refusal = k; control = c }) recs slots roots list sets ≡ Load.load t image recs slots roots list sets
+  refused : (e : Refusal) → first (Load.load_tests t image recs slots roots list sets) ≡ number e
+      → Load.gives (answer_of (Err e)) recs slots roots list sets ≡ Load.load t image recs slots roots list sets
   unfolding Load.load
-  refused k e d c f = rw f (sym (outcome-number _ _ (Load.load_tests t image recs slots roots list sets) k e d))
+  refused e is = sym (outcome-number _ _ (Load.load_tests t image recs slots roots list sets) (number e) is (above e))
 
-  pub image-refused : (k : ℕ) → k ≡ first (input_tests t image) → k ≢ 0 → (c : Control) → c ≡ no_control
-      → Load.gives (record { refusal = k; control = c }) recs slots roots list sets ≡ Load.load t image recs slots roots list sets
-  image-refused k e d =
-      refused k (ap first tests ∙ first-front (input_tests t image) ends (λ z. d (e ∙ z)) ∙ sym e) d
+  pub image-refused : (e : Refusal) → number e ≡ first (input_tests t image) → Load.gives (answer_of (Err e)) recs slots roots list sets ≡ Load.load t image recs slots roots list sets
+  image-refused e is = refused e (ap first tests ∙ first-front (input_tests t image) ends (λ z. above e (is ∙ z)) ∙ sym is)
 
-  module _ (given : first (input_tests t image) ≡ 0) where
+  module _ (given : 0 ≡ first (input_tests t image)) where
     none : first (image_tests image) ≡ 0
     unfolding input_tests
-    none = (first-passed 29 _ _ given).1
+    none = (first-passed 29 _ _ (sym given)).1
 
     short-decides : first (Load.load_tests t image recs slots roots list sets) ≡ first ends
     unfolding image_tests input_tests
     short-decides =
         ap first tests
-        ∙ first-skip (input_tests t image) ends (first-zero (input_tests t image) (cons {t = (30, bad_tuning t)} (omega arith) (numbered image (suc (length image)) 0)) given)
+        ∙ first-skip (input_tests t image) ends (first-zero (input_tests t image) (cons {t = (30, bad_tuning t)} (omega arith) (numbered image (suc (length image)) 0)) (sym given))
 
     -- the sizes stand at fixed places
     module _ (n r : ℕ) (en : n ≡ number_at 2 8 image) (er : r ≡ number_at 2 10 image) where
@@ -174,10 +174,9 @@ module _ (t : Tuning) (image recs slots roots list sets : List ℕ) where
       same-r : r ≡ image_r image
       same-r = er ∙ is-sized.r-at
 
-      pub too_short : short_heap n r recs slots roots list sets ≡ true → (c : Control) → c ≡ no_control
-          → Load.gives (record { refusal = 2; control = c }) recs slots roots list sets ≡ Load.load t image recs slots roots list sets
+      pub too_short : short_heap n r recs slots roots list sets ≡ true → Load.gives (answer_of (Err TooShort)) recs slots roots list sets ≡ Load.load t image recs slots roots list sets
       too_short h =
-          refused 2 (short-decides ∙ first_holds 2 [] (short_heap (image_n image) (image_r image) recs slots roots list sets) (rw (sym same-n, sym same-r) h)) (λ z. omega arith)
+          refused TooShort (short-decides ∙ first_holds 2 [] (short_heap (image_n image) (image_r image) recs slots roots list sets) (rw (sym same-n, sym same-r) h))
 
       pub accepted : short_heap n r recs slots roots list sets ≡ false → Accepted n r image recs slots roots list sets
       unfolding slots_len
@@ -200,7 +199,7 @@ module _ (t : Tuning) (image recs slots roots list sets : List ℕ) where
           → slots' ≡ each_from 0 (slots_len n) (λ j w. loaded_word image (j / width_max + 1) (j % width_max)) slots
           → roots' ≡ each_from 0 r (λ j w. saved_root (root_words image) j) roots
           → list' ≡ each_from 0 sink_max (λ k y. get_or (loaded_sinks image) k 0) list → sets' ≡ zeros n sets
-          → Load.gives (record { refusal = 0; control = d }) recs' slots' roots' list' sets' ≡ Load.load t image recs slots roots list sets
+          → Load.gives (answer_of (Ok d)) recs' slots' roots' list' sets' ≡ Load.load t image recs slots roots list sets
       unfolding Load.load
       loaded h c d last recs' slots' roots' list' sets' p q s e f g u v =
           rw (s, p, q, e, f, g, u, v, is-sized.last-at, same-n, same-r)
@@ -208,10 +207,10 @@ module _ (t : Tuning) (image recs slots roots list sets : List ℕ) where
           (short-decides ∙ first-fails 2 [] (short_heap (image_n image) (image_r image) recs slots roots list sets) (rw (sym same-n, sym same-r) h) ∙ none_first)))
 
 -- an image that is not refused may be laid into slices that are not too short
-pub may-lay : (t : Tuning) (image recs slots roots list sets : List ℕ) (n r k : ℕ) (b : Bool) → k ≡ first (input_tests t image) → k ≡ 0
+pub may-lay : (t : Tuning) (image recs slots roots list sets : List ℕ) (n r : ℕ) (b : Bool) → 0 ≡ first (input_tests t image)
     → n ≡ number_at 2 8 image → r ≡ number_at 2 10 image → b ≡ short_heap n r recs slots roots list sets → b ≡ false
     → Accepted n r image recs slots roots list sets
-may-lay t image recs slots roots list sets n r k b e z en er s h = accepted t image recs slots roots list sets (sym e ∙ z) n r en er (sym s ∙ h)
+may-lay t image recs slots roots list sets n r b e en er s h = accepted t image recs slots roots list sets e n r en er (sym s ∙ h)
 
 -- the ends of a load, for the search
 pub ruleset loading = (image-refused, too_short, loaded)

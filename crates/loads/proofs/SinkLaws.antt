@@ -297,57 +297,50 @@ exact_none n t h = facts-exact n t [] (unfold has in refl) (record { from = λ y
 -- ---- the numbers of a body in turn
 
 -- so far all of them were in the set, and those left decide
-pub record Taking (body words₀ words : List ℕ) (at : ℕ) : Type 0 where
-  pub turn : ℕ
-  pub few : turn ≤ length body / 2
-  pub place : at ≡ 2 * turn
-  pub even : length body ≡ 2 * (length body / 2)
+pub record Taking (body words₀ words : List ℕ) (k turn : ℕ) : Type 0 where
+  pub long : length body ≡ 2 * k
   pub zero : NoZero words
-  pub same : exact object_max (λ z. holds z words) (map (λ k. number_at 2 (2 * k) body) (numbers turn (length body / 2 - turn))) ≡ sinks_ok object_max (λ z. holds z words₀) body
-  pub left : size words ≡ length body / 2 - turn
+  pub same : exact object_max (λ z. holds z words) (map (λ k. number_at 2 (2 * k) body) (numbers turn (k - turn))) ≡ sinks_ok object_max (λ z. holds z words₀) body
+  pub left : size words ≡ k - turn
 
 module _ (body words₀ : List ℕ) (z : NoZero words₀) where
   -- a body of another length
-  pub taking-no : (k : ℕ) → k ≡ length (numbers_in 0 (take map_max words₀)) → eqb (length body) 0 || not (eqb (length body) (2 * k)) ≡ true
+  pub taking-no : (k : ℕ) → k ≡ length (numbers_in 0 (take map_max words₀)) → eqb k 0 || not (eqb (length body) (2 * k)) ≡ true
       → false ≡ sinks_ok object_max (λ y. holds y words₀) body
   taking-no k is e = sym (is_false _ (λ q. false≢true (sym (no q) ∙ e)))
     where
-      no : sinks_ok object_max (λ y. holds y words₀) body ≡ true → eqb (length body) 0 || not (eqb (length body) (2 * k)) ≡ false
+      no : sinks_ok object_max (λ y. holds y words₀) body ≡ true → eqb k 0 || not (eqb (length body) (2 * k)) ≡ false
       no q =
-          rw (
-            ne_eqb (length body) 0 (sinks-some object_max (λ y. holds y words₀) body q),
-            eq-eqb (length body) (2 * k) (omega (arith, sinks-length object_max (λ y. holds y words₀) body q, is, ones-size words₀ z)),
-          ) refl
+          let d = sinks-some object_max (λ y. holds y words₀) body q in
+          let l : length body ≡ 2 * k = omega (arith, sinks-length object_max (λ y. holds y words₀) body q, is, ones-size words₀ z) in
+          rw (ne_eqb k 0 (λ e. d (omega arith)), eq-eqb (length body) (2 * k) l) refl
 
-  pub taking-start : (k : ℕ) → k ≡ length (numbers_in 0 (take map_max words₀)) → eqb (length body) 0 || not (eqb (length body) (2 * k)) ≡ false → Taking body words₀ words₀ 0
+  pub taking-start : (k : ℕ) → k ≡ length (numbers_in 0 (take map_max words₀)) → eqb k 0 || not (eqb (length body) (2 * k)) ≡ false → Taking body words₀ words₀ k 0
   unfolding saved_list
   taking-start k is e =
-      let s = or_split (eqb (length body) 0) (not (eqb (length body) (2 * k))) e in
-      let d = eqb-false (length body) 0 s.0 in
+      let s = or_split (eqb k 0) (not (eqb (length body) (2 * k))) e in
+      let d = eqb-false k 0 s.0 in
       let l = eqb-true (length body) (2 * k) (not-false (eqb (length body) (2 * k)) s.1) in
-      let m : length body / 2 - 0 ≡ length body / 2 = omega arith in
+      let m : k - 0 ≡ length body / 2 = omega arith in
       record {
-        turn = 0;
-        few = omega arith;
-        place = omega arith;
-        even = omega arith;
+        long = l;
         zero = z;
-        same = rw m (sym (whole-list object_max (λ y. holds y words₀) body d (omega arith)));
+        same = rw m (sym (whole-list object_max (λ y. holds y words₀) body (λ e. d (omega arith)) (omega arith)));
         left = omega (arith, l, is, ones-size words₀ z);
       }
 
-  module _ (words : List ℕ) (at : ℕ) (s : Taking body words₀ words at) where
-    module _ (more : at < length body) (x : ℕ) (is : x ≡ number_at 2 at body) where
+  module _ (words : List ℕ) (k i : ℕ) (s : Taking body words₀ words k i) where
+    module _ (more : i < k) (x : ℕ) (is : x ≡ number_at 2 (2 * i) body) where
       abbrev later : List ℕ
-      later = map (λ k. number_at 2 (2 * k) body) (numbers (suc s.turn) (length body / 2 - suc s.turn))
+      later = map (λ k. number_at 2 (2 * k) body) (numbers (suc i) (k - suc i))
 
       here : sinks_ok object_max (λ y. holds y words₀) body ≡ exact object_max (λ y. holds y words) (x ∷ later)
       unfolding numbers
       here =
-          let e : length body / 2 - s.turn ≡ suc (length body / 2 - suc s.turn) = omega (arith, s.place, s.even) in
+          let e : k - i ≡ suc (k - suc i) = omega arith in
           sym s.same
-          ∙ ap (λ (k : ℕ). exact object_max (λ y. holds y words) (map (λ k. number_at 2 (2 * k) body) (numbers s.turn k))) e
-          ∙ ap (λ (v : ℕ). exact object_max (λ y. holds y words) (v ∷ later)) (sym (is ∙ ap (λ (a : ℕ). number_at 2 a body) s.place))
+          ∙ ap (λ (k : ℕ). exact object_max (λ y. holds y words) (map (λ k. number_at 2 (2 * k) body) (numbers i k))) e
+          ∙ ap (λ (v : ℕ). exact object_max (λ y. holds y words) (v ∷ later)) (sym is)
 
       pub taking-stop : holds x words ≡ false → false ≡ sinks_ok object_max (λ y. holds y words₀) body
       taking-stop e = sym (here ∙ exact-stop object_max (λ y. holds y words) x later e)
@@ -367,36 +360,34 @@ module _ (body words₀ : List ℕ) (z : NoZero words₀) where
             positive (yes q) = absurd (false≢true (sym s.zero.1 ∙ ap (λ (y : ℕ). holds y words) (sym q) ∙ e))
             positive (no q) = omega (arith, q)
 
-        pub taking-turn : Taking body words₀ (take_bit x words) (at + 2)
+        pub taking-turn : Taking body words₀ (take_bit x words) k (i + 1)
         taking-turn =
             let f : (y : ℕ) → holds y (take_bit x words) ≡ (holds y words && not (eqb y x)) = take-holds words x taking-inside in
+            let o : i + 1 ≡ suc i = omega arith in
             record {
-              turn = suc s.turn;
-              few = omega (arith, s.place, s.even);
-              place = omega (arith, s.place);
-              even = s.even;
+              long = s.long;
               zero = (length-set words (x / 64) _ ∙ s.zero.0, f 0 ∙ ap (λ (b : Bool). b && not (eqb 0 x)) s.zero.1);
               same =
-                  ap (λ (t : ℕ → Bool). exact object_max t later) (fun_ext f)
-                  ∙ exact-turn object_max (λ y. holds y words) x later object e ∙ sym here;
+                  rw o (ap (λ (t : ℕ → Bool). exact object_max t later) (fun_ext f)
+                  ∙ exact-turn object_max (λ y. holds y words) x later object e ∙ sym here);
               left =
                   let a = count-ext object_max (λ y. holds y (take_bit x words)) (λ y. holds y words && not (eqb y x)) (λ y o. f y) in
                   let b = fewer object_max (λ y. holds y words) x later object e in
-                  omega (arith, a, b, s.left, s.place, s.even);
+                  omega (arith, a, b, s.left);
             }
 
-    module _ (over : length body ≤ at) where
+    module _ (over : k ≤ i) where
       nothing : size words ≡ 0
-      nothing = omega (arith, s.left, s.few, s.place, s.even)
+      nothing = omega (arith, s.left)
 
       none : (x : ℕ) → Obj object_max x → holds x words ≡ false
       none x o = is_false (holds x words) (λ e. false≢true (count-back object_max (λ y. false) (λ y. holds y words) (λ y p q. absurd (false≢true q)) (omega (arith, nothing)) x o e))
 
       pub taking-ok : true ≡ sinks_ok object_max (λ y. holds y words₀) body
       taking-ok =
-          let e : length body / 2 - s.turn ≡ 0 = omega (arith, s.few, s.place, s.even) in
+          let e : k - i ≡ 0 = omega arith in
           sym (sym s.same
-          ∙ ap (λ (k : ℕ). exact object_max (λ y. holds y words) (map (λ k. number_at 2 (2 * k) body) (numbers s.turn k))) e
+          ∙ ap (λ (k : ℕ). exact object_max (λ y. holds y words) (map (λ k. number_at 2 (2 * k) body) (numbers i k))) e
           ∙ unfold numbers in exact_none object_max (λ y. holds y words) none)
 
       pub taking-empty : Empty words

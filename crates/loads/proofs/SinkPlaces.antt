@@ -1,6 +1,7 @@
 -- The list of the sinks of an image that is not refused: its chunk is found, or the objects are read in turn, and their numbers are put into places.
 -- Assumes nothing.
-use Prim.Native.Nat.{ℕ, zero, suc, ◌+◌, ◌-◌, ◌*◌, ◌/◌, ◌%◌, ◌≤◌, ◌<◌}
+use Rattle.std.specs.Prelude.{Option, Some, None, MatchOption}
+use Prim.Native.Nat.{ℕ, zero, suc, ◌+◌, ◌-◌, ◌*◌, ◌/◌, ◌≤◌, ◌<◌}
 use mathlib.Core.Path.{◌≡◌, refl, sym, ap, ap₂, ◌∙◌}
 use mathlib.Core.Bool.{Bool, true, false, not, ◌&&◌, cond, and-false}
 use mathlib.Core.List.{List, [], ◌∷◌, ◌++◌, map, append-nil}
@@ -40,13 +41,9 @@ shape_of n body e = (and_split (all_to n (shaped body) && eqb (length (left body
 
 -- ---- the chunk of sinks
 
--- its kind stands behind its length
-module _ (image : List ℕ) (at found k : ℕ) (is : k ≡ number_at 2 (at + 4) image) where
-  pub newer-here : k ≡ sinks_kind → at ≡ cond (eqb (kind_of (drop at image)) sinks_kind) at found
-  newer-here e = sym (rw (eq-eqb (kind_of (drop at image)) sinks_kind (sym (kind_at image at k is) ∙ e)) refl)
-
-  pub newer-other : k ≢ sinks_kind → found ≡ cond (eqb (kind_of (drop at image)) sinks_kind) at found
-  newer-other d = sym (rw (ne_eqb (kind_of (drop at image)) sinks_kind (λ q. d (kind_at image at k is ∙ q))) refl)
+either-way : {P P' : Type 0} {Q Q' : ℕ → Type 0} (r : Option ℕ) → MatchOption r P Q → (P → P') → ((x : ℕ) → Q x → Q' x) → MatchOption r P' Q'
+either-way None p f g = f p
+either-way (Some x) q f g = g x q
 
 -- one chunk more that passes
 passes-next : (b : List ℕ) (t : ℕ) → Passes b t → length (past t b) ≢ 0 → Sound b t × Passes b (suc t)
@@ -61,17 +58,16 @@ passes-next b t a d = go a.fuel a.enough a.none
     go (suc f) p e = by_next f p (next b f t e)
 
 -- the chunks before place `at` are read, and `found` is where one of sinks is
-pub record Seeking (image : List ℕ) (found at : ℕ) : Type 0 where
+pub record Seeking (image : List ℕ) (found : Option ℕ) (at : ℕ) : Type 0 where
   pub chunk : ℕ
   pub late : 3 ≤ chunk
   pub below : chunk ≤ at
   pub inside : at ≤ length image
   pub here : past chunk image ≡ drop at image
   pub passes : Passes image chunk
-  pub none : found ≡ 0 → sinks_before image chunk ≡ []
-  pub some : found ≢ 0 → Found image chunk found
+  pub sought : MatchOption found (sinks_before image chunk ≡ []) (Found image chunk)
 
-pub seeking-start : (image : List ℕ) (from : ℕ) → Tail image from → Seeking image 0 from
+pub seeking-start : (image : List ℕ) (from : ℕ) → Tail image from → Seeking image None from
 seeking-start image from t =
     record {
       chunk = 3;
@@ -80,11 +76,10 @@ seeking-start image from t =
       inside = t.inside;
       here = t.here;
       passes = (accepted-places image t.none).behind;
-      none = λ e. unfold sinks_before in refl;
-      some = λ d. absurd (d refl);
+      sought = unfold sinks_before in refl;
     }
 
-module _ (image : List ℕ) (found at : ℕ) (s : Seeking image found at) where
+module _ (image : List ℕ) (found : Option ℕ) (at : ℕ) (s : Seeking image found at) where
   abbrev t : ℕ
   t = s.chunk
 
@@ -98,7 +93,10 @@ module _ (image : List ℕ) (found at : ℕ) (s : Seeking image found at) where
     pub seeking-room : at + front_len ≤ length image
     seeking-room = let f = fronted (drop at image) seeking-whole in let a = length-drop at image in omega (arith, f.0)
 
-    module _ (e found' : ℕ) (c : Chunk image at e) (is : found' ≡ cond (eqb (kind_of (drop at image)) sinks_kind) at found) where
+    module _ (e k : ℕ) (found' : Option ℕ) (c : Chunk image at e) (kind : k ≡ number_at 2 (at + 4) image) (is : found' ≡ cond (eqb k sinks_kind) (Some at) found) where
+      found-by : (b : Bool) → eqb (kind_of (drop at image)) sinks_kind ≡ b → found' ≡ cond b (Some at) found
+      found-by b q = is ∙ ap (λ (c : Bool). cond c (Some at) found) (ap (λ (j : ℕ). eqb j sinks_kind) (kind_at image at k kind) ∙ q)
+
       before-next : (b : Bool) → eqb (kind_of (drop at image)) sinks_kind ≡ b → sinks_before image (suc t) ≡ cond b (body_of (past t image)) (sinks_before image t)
       unfolding sinks_before
       before-next b q = rw (le-leb 3 t s.late, s.here, q) refl
@@ -112,7 +110,6 @@ module _ (image : List ℕ) (found at : ℕ) (s : Seeking image found at) where
         where
           go : (b : Bool) → eqb (kind_of (drop at image)) sinks_kind ≡ b → Seeking image found' e
           go true q =
-              let f : found' ≡ at = is ∙ ap (λ (b : Bool). cond b at found) q in
               record {
                 chunk = suc t;
                 late = let m = s.late in omega arith;
@@ -120,8 +117,7 @@ module _ (image : List ℕ) (found at : ℕ) (s : Seeking image found at) where
                 inside = c.inside;
                 here = place-next image t at s.here e c;
                 passes = seeking-next.1;
-                none = λ z. absurd (let m = s.below in let l = s.late in omega (arith, f, z));
-                some = λ d. rw f (record {
+                sought = rw (found-by true q) (record {
                   inside = s.inside;
                   whole = seeking-whole;
                   body = ap body_of (sym s.here) ∙ sym (before-next true q);
@@ -129,7 +125,6 @@ module _ (image : List ℕ) (found at : ℕ) (s : Seeking image found at) where
                 });
               }
           go false q =
-              let f : found' ≡ found = is ∙ ap (λ (b : Bool). cond b at found) q in
               record {
                 chunk = suc t;
                 late = let m = s.late in omega arith;
@@ -137,15 +132,12 @@ module _ (image : List ℕ) (found at : ℕ) (s : Seeking image found at) where
                 inside = c.inside;
                 here = place-next image t at s.here e c;
                 passes = seeking-next.1;
-                none = λ z. before-next false q ∙ s.none (sym f ∙ z);
-                some = λ d.
-                    let g = s.some (λ z. d (f ∙ z)) in
-                    rw f (record {
-                      inside = g.inside;
-                      whole = g.whole;
-                      body = g.body ∙ sym (before-next false q);
-                      right = rw (before-next false q) g.right;
-                    });
+                sought = rw (found-by false q) (either-way found s.sought (λ z. before-next false q ∙ z) (λ x g. record {
+                  inside = g.inside;
+                  whole = g.whole;
+                  body = g.body ∙ sym (before-next false q);
+                  right = rw (before-next false q) g.right;
+                }));
               }
 
   module _ (over : length image ≤ at) where
@@ -169,10 +161,7 @@ module _ (image : List ℕ) (found at : ℕ) (s : Seeking image found at) where
 
     pub seeking-end : SinksAt image found
     seeking-end =
-        record {
-          none = λ e. last ∙ s.none e;
-          some = λ d. (let g = s.some d in record { inside = g.inside; whole = g.whole; body = g.body ∙ sym last; right = rw last g.right });
-        }
+        either-way found s.sought (λ z. last ∙ z) (λ x g. record { inside = g.inside; whole = g.whole; body = g.body ∙ sym last; right = rw last g.right })
 
 -- ---- numbers put into places
 
@@ -214,41 +203,28 @@ places-are l list p q =
 
 -- ---- those of a body of kind 0x8001
 
--- the numbers before place `at` are put
-pub record Listing (body list₀ list : List ℕ) (to at : ℕ) : Type 0 where
-  pub place : at ≡ 2 * to
-  pub few : to ≤ length body / 2
-  pub put : list ≡ sets list₀ 0 (map (λ k. number_at 2 (2 * k) body) (numbers 0 to))
-
 module _ (body list₀ : List ℕ) where
-  pub listing_start : Listing body list₀ list₀ 0 0
-  listing_start = record { place = omega arith; few = omega arith; put = unfold numbers in refl }
+  -- the first i numbers
+  abbrev pub first_numbers : ℕ → List ℕ
+  first_numbers i = map (λ k. number_at 2 (2 * k) body) (numbers 0 i)
 
-  module _ (list : List ℕ) (to at : ℕ) (s : Listing body list₀ list to at) where
-    pub listing-length : length list ≡ length list₀
-    listing-length = ap length s.put ∙ length-sets list₀ 0 (map (λ k. number_at 2 (2 * k) body) (numbers 0 to))
+  pub listing_start : list₀ ≡ sets list₀ 0 (first_numbers 0)
+  unfolding numbers
+  listing_start = refl
 
-    module _ (even : length body % 2 ≡ 0) where
-      pub listing-turn : at < length body → (v : ℕ) → v ≡ number_at 2 at body → Listing body list₀ (set list to v) (to + 1) (at + 2)
-      listing-turn p v e =
-          record {
-            place = omega (arith, s.place);
-            few = omega (arith, s.place);
-            put =
-                let o : to + 1 ≡ suc to = omega arith in
-                let z : 0 + to ≡ to = omega arith in
-                ap (λ (l : List ℕ). set l to v) s.put
-                ∙ put-more (map (λ k. number_at 2 (2 * k) body) (numbers 0 to)) list₀ 0 to v (omega (arith, length-numbers (λ k. number_at 2 (2 * k) body) 0 to))
-                ∙ ap (sets list₀ 0)
-                (ap (λ (x : ℕ). map (λ k. number_at 2 (2 * k) body) (numbers 0 to) ++ (x ∷ [])) (e ∙ ap (λ (a : ℕ). number_at 2 a body) (s.place ∙ ap (λ (k : ℕ). 2 * k) (sym z)))
-                ∙ sym (numbers_more (λ k. number_at 2 (2 * k) body) 0 to) ∙ ap (λ (k : ℕ). map (λ k. number_at 2 (2 * k) body) (numbers 0 k)) (sym o));
-          }
+  pub listing-turn : (i v : ℕ) (list : List ℕ) → list ≡ sets list₀ 0 (first_numbers i) → v ≡ number_at 2 (2 * i) body → set list i v ≡ sets list₀ 0 (first_numbers (i + 1))
+  listing-turn i v list s e =
+      let o : i + 1 ≡ suc i = omega arith in
+      let z : 0 + i ≡ i = omega arith in
+      ap (λ (l : List ℕ). set l i v) s
+      ∙ put-more (first_numbers i) list₀ 0 i v (omega (arith, length-numbers (λ k. number_at 2 (2 * k) body) 0 i))
+      ∙ ap (sets list₀ 0)
+      (ap (λ (x : ℕ). first_numbers i ++ (x ∷ [])) (e ∙ ap (λ (k : ℕ). number_at 2 (2 * k) body) (sym z))
+      ∙ sym (numbers_more (λ k. number_at 2 (2 * k) body) 0 i) ∙ ap first_numbers (sym o))
 
-      pub listing-end : length body ≤ at → list ≡ sets list₀ 0 (saved_list body)
-      unfolding saved_list
-      listing-end p =
-          let e : to ≡ length body / 2 = omega (arith, s.place, s.few) in
-          s.put ∙ ap (λ (k : ℕ). sets list₀ 0 (map (λ k. number_at 2 (2 * k) body) (numbers 0 k))) e
+  pub listing-end : (i : ℕ) → i ≤ length body / 2 → length body / 2 ≤ i → sets list₀ 0 (first_numbers i) ≡ sets list₀ 0 (saved_list body)
+  unfolding saved_list
+  listing-end i p q = let e : i ≡ length body / 2 = omega arith in ap (λ (k : ℕ). sets list₀ 0 (first_numbers k)) e
 
 -- ---- those of the objects in turn
 
@@ -402,8 +378,8 @@ module _ (n : ℕ) (image : List ℕ) (second third tail : ℕ) (a : Placed n im
     body-right : sinks_ok (image_n image) (saved_as_sink (objects image)) body ≡ true
     body-right = rw body_is f.right
 
-    pub chunk-room : (list list₁ : List ℕ) → length list₁ ≡ length list → sink_max ≤ length list → (length body / 2 ≤ length list₁) × (length body % 2 ≡ 0)
-    chunk-room list list₁ q p = let l = sinks-length (image_n image) (saved_as_sink (objects image)) body body-right in (omega (arith, l, few, p), omega (arith, l))
+    pub chunk-room : (list list₁ : List ℕ) → length list₁ ≡ length list → sink_max ≤ length list → length body / 2 ≤ length list₁
+    chunk-room list list₁ q p = let l = sinks-length (image_n image) (saved_as_sink (objects image)) body body-right in omega (arith, l, few, p)
 
     pub by-chunk : (list list₁ list₂ : List ℕ) → sink_max ≤ length list → list₁ ≡ zeros sink_max list → list₂ ≡ sets list₁ 0 (saved_list body)
         → list₂ ≡ each_from 0 sink_max (λ k y. get_or (loaded_sinks image) k 0) list

@@ -11,6 +11,8 @@ use borrow.Author.Tests.{eq-eqb, ne_eqb, le-leb, not-false}
 use lib.Dec.{eqb}
 use lib.ListN.{length, drop, length-drop}
 use Rattle.layout.specs.Limits.{object_max}
+use Rattle.layout.specs.declared.refusals.Refusal.{Refusal}
+use Rattle.layout.specs.Refusal.{number}
 use Rattle.endian.specs.Bytes.{number_at}
 use Rattle.bitmap.specs.Bits.{holds}
 use Rattle.rules.specs.Image.{sinks_kind, kind_of, body_of, past, saved_as_sink, sinks_ok}
@@ -70,23 +72,23 @@ module _ (image words : List ℕ) (at : ℕ) (g : Going image words at) where
         go (no d) =
             rw (ne_eqb (length earlier) 0 d) (ap not (sinks-none object_max (λ z. holds z words) body (g.set.behind d).1))
 
-    module _ (p : at < length image) (k : ℕ) (is : k ≡ chunk_refusal 3 (drop at image) (bad_tail words (drop at image))) where
+    module _ (p : at < length image) where
       more_bytes : length (past t image) ≢ 0
       more_bytes e = let a = ap length g.here ∙ length-drop at image in omega arith
 
-      as-chunk : k ≡ chunk_refusal 3 (past t image) (sinks_bad image t)
-      as-chunk = is ∙ ap (chunk_refusal 3 (drop at image)) tail-bad ∙ ap (λ (b : List ℕ). chunk_refusal 3 b (sinks_bad image t)) (sym g.here)
+      as-chunk : chunk_refusal 3 (drop at image) (bad_tail words (drop at image)) ≡ chunk_refusal 3 (past t image) (sinks_bad image t)
+      as-chunk = ap (chunk_refusal 3 (drop at image)) tail-bad ∙ ap (λ (b : List ℕ). chunk_refusal 3 b (sinks_bad image t)) (sym g.here)
 
-      pub going-stop : k ≢ 0 → k ≡ refusal_from image 3
-      going-stop d = late-stop image t g.late more_bytes k as-chunk d ∙ g.same
+      pub going-stop : (e : Refusal) → number e ≡ chunk_refusal 3 (drop at image) (bad_tail words (drop at image)) → number e ≡ refusal_from image 3
+      going-stop e is = late-stop image t g.late more_bytes e (is ∙ as-chunk) ∙ g.same
 
-      module _ (z : k ≡ 0) (words' : List ℕ) (s : TailSet (drop at image) words words') where
+      module _ (is : 0 ≡ chunk_refusal 3 (drop at image) (bad_tail words (drop at image))) (words' : List ℕ) (s : TailSet (drop at image) words words') where
         -- a chunk of sinks that passes has a body
         filled : eqb (kind_of (past t image)) sinks_kind ≡ true → length (body_of (past t image)) ≢ 0
         unfolding bad_tail
         filled e =
             sinks-some object_max (λ y. holds y words) (body_of (past t image))
-            (not-false _ (rw (sym g.here, e) at (chunk-none 3 (drop at image) (bad_tail words (drop at image)) (sym is ∙ z)).1))
+            (not-false _ (rw (sym g.here, e) at (chunk-none 3 (drop at image) (bad_tail words (drop at image)) is).1))
 
         next-set : SetAt image words' (suc t)
         unfolding sinks_before
@@ -115,7 +117,7 @@ module _ (image words : List ℕ) (at : ℕ) (g : Going image words at) where
               late = let m = g.late in omega arith;
               inside = c.inside;
               here = place-next image t at g.here e c;
-              same = late-on image t g.late more_bytes k as-chunk z ∙ g.same;
+              same = late-on image t g.late more_bytes (is ∙ as-chunk) ∙ g.same;
               set = next-set;
             }
 

@@ -1,13 +1,13 @@
 -- Words tested one by one, by the set of the listed numbers.
 -- Assumes nothing.
-use Prim.Native.Nat.{ℕ, zero, suc, ◌+◌, ◌-◌, ◌*◌, ◌^◌, ◌≤◌, ◌<◌}
+use Prim.Native.Nat.{ℕ, zero, suc, ◌+◌, ◌-◌, ◌*◌, ◌/◌, ◌%◌, ◌^◌, ◌≤◌, ◌<◌}
+use Rattle.std.specs.Prelude.{Option, Some, None}
 use mathlib.Core.Path.{◌≡◌, refl, sym, ap, ap₂, ◌∙◌}
 use mathlib.Core.Bool.{Bool, true, false, ◌&&◌, ◌||◌, true≢false}
 use mathlib.Core.List.{List, [], ◌∷◌, map}
-use mathlib.Core.Logic.{◌≢◌}
 use native.Mathlib.Decide.{dec_le, ℕ_discrete}
 use native.Mathlib.Omega.{arith}
-use borrow.Author.Tests.{lt-ltb, eq-eqb, ne_eqb, eqb-false}
+use borrow.Author.Tests.{lt-ltb, eqb-false}
 use lib.Dec.{eqb, leb}
 use lib.ListN.{length, get_or}
 use lib.Seq.{get_or-drop}
@@ -20,7 +20,7 @@ use Rattle.rules.specs.Buffers.{all_of, all_to, numbers}
 use Rattle.rules.specs.Image.{head_len, listed, saved_width, saved_word, saved_words, saved_root, names_listed, words_ok, objects_ok, roots_ok}
 use Rattle.rules.proofs.ListLaws.{all_to-at, all_to-all, same_numbers}
 use Rattle.rules.proofs.BoolLaws.{is_false, or_split}
-use Rattle.loads.specs.Bodies.{shape_ok, Reached, number_of, width_at, entry_end, Fit, Listed, passes, words_at, four_pass, WordsEnd, roots_pass, Checked}
+use Rattle.loads.specs.Bodies.{shape_ok, Reached, number_of, width_at, entry_end, Fit, Listed, passes, words_at, four_pass, words_end, roots_pass, Checked}
 use Rattle.loads.proofs.PlaceLaws.{number-drop}
 use Rattle.loads.proofs.EntryLaws.{Entry, entry, fits, fit-reached, unlisted, ended, start}
 
@@ -83,45 +83,35 @@ all_start t at k body =
     let z : k - 0 ≡ k = omega arith in
     ap (λ (j : ℕ). all_of t (map (λ i. number_at 4 (at + 4 * i) body) (numbers 0 j))) z
 
--- ---- word after word, with so many left
+-- ---- word after word
 
--- the words before place `at` pass, and those that are left decide
-pub record Testing (t : ℕ → Bool) (from k : ℕ) (body : List ℕ) (at left : ℕ) : Type 0 where
-  pub few : left ≤ k
-  pub place : at ≡ from + 4 * (k - left)
-  pub rest : all_of t (map (λ j. number_at 4 (from + 4 * j) body) (numbers (k - left) (k - (k - left)))) ≡ all_of t (words_at from k body)
+-- the first i words pass, and the others decide
+pub record Testing (t : ℕ → Bool) (from k : ℕ) (body : List ℕ) (at i : ℕ) : Type 0 where
+  pub place : at ≡ from + 4 * i
+  pub rest : all_of t (map (λ j. number_at 4 (from + 4 * j) body) (numbers i (k - i))) ≡ all_of t (words_at from k body)
 
 module _ (t : ℕ → Bool) (from k : ℕ) (body : List ℕ) where
   abbrev word : ℕ → ℕ
   word i = number_at 4 (from + 4 * i) body
 
-  pub testing-start : Testing t from k body from k
-  testing-start =
-      let z : k - k ≡ 0 = omega arith in
-      record { few = omega arith; place = omega arith; rest = rw z (all_start t from k body) }
+  pub testing-start : Testing t from k body from 0
+  testing-start = record { place = omega arith; rest = all_start t from k body }
 
-  module _ (at left : ℕ) (s : Testing t from k body at left) where
-    word-here : (b : Bool) → t (number_at 4 at body) ≡ b → t (word (k - left)) ≡ b
+  module _ (at i : ℕ) (s : Testing t from k body at i) where
+    word-here : (b : Bool) → t (number_at 4 at body) ≡ b → t (word i) ≡ b
     word-here b e = ap (λ (a : ℕ). t (number_at 4 a body)) (sym s.place) ∙ e
 
-    pub testing-stop : left ≢ 0 → t (number_at 4 at body) ≡ false → WordsEnd from k (all_of t (words_at from k body)) 0
-    testing-stop d e =
-        let no = sym s.rest ∙ all-stop t word (k - left) k (omega (arith, s.few, d)) (word-here false e) in
-        record { passed = λ y. absurd (true≢false (sym y ∙ no)); stopped = λ y. refl }
+    pub testing-stop : i < k → t (number_at 4 at body) ≡ false → None ≡ words_end from k (all_of t (words_at from k body))
+    testing-stop p e = let no = sym s.rest ∙ all-stop t word i k p (word-here false e) in rw no refl
 
-    pub testing-turn : left ≢ 0 → t (number_at 4 at body) ≡ true → Testing t from k body (at + 4) (left - 1)
-    testing-turn d e =
-        let z : k - (left - 1) ≡ k - left + 1 = omega (arith, s.few, d) in
-        record {
-          few = omega (arith, s.few);
-          place = omega (arith, s.place, s.few, d);
-          rest = rw z (all-turn t word (k - left) k (omega (arith, s.few, d)) (word-here true e) ∙ s.rest);
-        }
+    pub testing-turn : i < k → t (number_at 4 at body) ≡ true → Testing t from k body (at + 4) (i + 1)
+    testing-turn p e = record { place = omega (arith, s.place); rest = all-turn t word i k p (word-here true e) ∙ s.rest }
 
-    pub testing-end : left ≡ 0 → WordsEnd from k (all_of t (words_at from k body)) at
-    testing-end d =
-        let yes = sym s.rest ∙ all_end t word (k - left) k (omega arith) in
-        record { passed = λ y. omega (arith, s.place); stopped = λ y. absurd (true≢false (sym yes ∙ y)) }
+    pub testing-end : i ≤ k → k ≤ i → Some at ≡ words_end from k (all_of t (words_at from k body))
+    testing-end p q =
+        let yes = sym s.rest ∙ all_end t word i k q in
+        let z : at ≡ from + 4 * k = omega (arith, s.place) in
+        rw (yes, z) refl
 
 -- ---- the first four of k words, and the others
 
@@ -144,24 +134,6 @@ module _ (t : ℕ → Bool) (from : ℕ) (body : List ℕ) where
   joined true false c d r = refl
   joined false b c d r = refl
 
-  -- the four tested one by one
-  pub four-one : t (number_at 4 from body) ≡ false → false ≡ four_pass t from body
-  unfolding four_pass
-  four-one e = sym (rw e refl)
-
-  pub four-two : t (number_at 4 from body) ≡ true → t (number_at 4 (from + 4) body) ≡ false → false ≡ four_pass t from body
-  unfolding four_pass
-  four-two e f = sym (rw (e, f) refl)
-
-  pub four-three : t (number_at 4 from body) ≡ true → t (number_at 4 (from + 4) body) ≡ true → t (number_at 4 (from + 8) body) ≡ false → false ≡ four_pass t from body
-  unfolding four_pass
-  four-three e f g = sym (rw (e, f, g) refl)
-
-  pub four-all : t (number_at 4 from body) ≡ true → t (number_at 4 (from + 4) body) ≡ true → t (number_at 4 (from + 8) body) ≡ true
-      → t (number_at 4 (from + 12) body) ≡ four_pass t from body
-  unfolding four_pass
-  four-all e f g = sym (rw (e, f, g) refl)
-
   by-four : (j : ℕ) → all_of t (words_at from (suc (suc (suc (suc j)))) body) ≡ four_pass t from body && all_of t (words_at (from + 16) j body)
   unfolding four_pass words_at all_of numbers
   by-four j =
@@ -174,53 +146,45 @@ module _ (t : ℕ → Bool) (from : ℕ) (body : List ℕ) where
       let e : k ≡ suc (suc (suc (suc (k - 4)))) = omega arith in
       ap (λ (m : ℕ). all_of t (words_at from m body)) e ∙ by-four (k - 4)
 
--- the words before place `at` pass, four at a time, and those that are left decide
-pub record Halfway (t : ℕ → Bool) (from k : ℕ) (body : List ℕ) (at left : ℕ) : Type 0 where
-  pub few : left ≤ k
-  pub place : at ≡ from + 4 * (k - left)
-  pub same : all_of t (words_at at left body) ≡ all_of t (words_at from k body)
+-- the first i fours of words pass, and the others decide
+pub record Halfway (t : ℕ → Bool) (from k : ℕ) (body : List ℕ) (at i : ℕ) : Type 0 where
+  pub place : at ≡ from + 16 * i
+  pub same : all_of t (words_at at (k - 4 * i) body) ≡ all_of t (words_at from k body)
 
 module _ (t : ℕ → Bool) (from k : ℕ) (body : List ℕ) where
-  pub halfway-start : Halfway t from k body from k
-  halfway-start = record { few = omega arith; place = omega arith; same = refl }
+  pub halfway-start : Halfway t from k body from 0
+  halfway-start = let z : k - 4 * 0 ≡ k = omega arith in record { place = omega arith; same = rw z refl }
 
-  module _ (at left : ℕ) (s : Halfway t from k body at left) where
-    pub halfway-stop : 3 < left → four_pass t at body ≡ false → WordsEnd from k (all_of t (words_at from k body)) 0
-    halfway-stop p e =
-        let no = sym s.same ∙ four-first t at body left p ∙ ap (λ (b : Bool). b && all_of t (words_at (at + 16) (left - 4) body)) e in
-        record { passed = λ y. absurd (true≢false (sym y ∙ no)); stopped = λ y. refl }
+  module _ (at i : ℕ) (s : Halfway t from k body at i) where
+    first-four : i < k / 4 → (b : Bool) → four_pass t at body ≡ b
+        → all_of t (words_at from k body) ≡ b && all_of t (words_at (at + 16) (k - 4 * i - 4) body)
+    first-four p b e =
+        sym s.same ∙ four-first t at body (k - 4 * i) (omega arith) ∙ ap (λ (c : Bool). c && all_of t (words_at (at + 16) (k - 4 * i - 4) body)) e
 
-    pub halfway-turn : 3 < left → four_pass t at body ≡ true → Halfway t from k body (at + 16) (left - 4)
+    pub halfway-stop : i < k / 4 → four_pass t at body ≡ false → None ≡ words_end from k (all_of t (words_at from k body))
+    halfway-stop p e = let no = first-four p false e in rw no refl
+
+    pub halfway-turn : i < k / 4 → four_pass t at body ≡ true → Halfway t from k body (at + 16) (i + 1)
     halfway-turn p e =
-        record {
-          few = omega (arith, s.few);
-          place = omega (arith, s.place, s.few);
-          same = sym (four-first t at body left p ∙ ap (λ (b : Bool). b && all_of t (words_at (at + 16) (left - 4) body)) e) ∙ s.same;
-        }
+        let z : k - 4 * (i + 1) ≡ k - 4 * i - 4 = omega arith in
+        record { place = omega (arith, s.place); same = rw z (sym (first-four p true e)) }
 
-    pub halfway-end : (e : ℕ) → WordsEnd at left (all_of t (words_at at left body)) e → WordsEnd from k (all_of t (words_at from k body)) e
-    halfway-end e w =
-        record { passed = λ y. omega (arith, w.passed (s.same ∙ y), s.place, s.few); stopped = λ y. w.stopped (s.same ∙ y) }
+    pub halfway-end : i ≤ k / 4 → k / 4 ≤ i → (e : Option ℕ) → e ≡ words_end at (k % 4) (all_of t (words_at at (k % 4) body))
+        → e ≡ words_end from k (all_of t (words_at from k body))
+    halfway-end p q e w =
+        let z : k - 4 * i ≡ k % 4 = omega arith in
+        let y : at + 4 * (k % 4) ≡ from + 4 * k = omega (arith, s.place) in
+        w ∙ rw (y, rw z at s.same) refl
 
 -- ---- the place behind the words
 
-pub end-passed : (from k e : ℕ) (all : Bool) → WordsEnd from k all e → e ≢ 0 → all ≡ true
-end-passed from k e true w d = refl
-end-passed from k e false w d = absurd (d (w.stopped refl))
+pub end-some : (from k e : ℕ) (all : Bool) → Some e ≡ words_end from k all → (all ≡ true) × (e ≡ from + 4 * k)
+end-some from k e true w = (refl, cc)
+end-some from k e false w = absurd (cc)
 
-pub end-stopped : (from k e : ℕ) (all : Bool) → WordsEnd from k all e → 1 ≤ from → e ≡ 0 → all ≡ false
-end-stopped from k e true w p z = absurd (omega (arith, w.passed refl))
-end-stopped from k e false w p z = refl
-
--- of words from place 0 on
-pub end-all : (t : ℕ → Bool) (k e : ℕ) (body : List ℕ) → WordsEnd 0 k (all_of t (words_at 0 k body)) e → eqb e (4 * k) ≡ all_of t (words_at 0 k body)
-unfolding words_at all_of numbers
-end-all t zero e body w = eq-eqb e 0 (w.passed refl)
-end-all t (suc k) e body w = go (all_of t (words_at 0 (suc k) body)) w.passed w.stopped
-  where
-    go : (all : Bool) → (all ≡ true → e ≡ 0 + 4 * suc k) → (all ≡ false → e ≡ 0) → eqb e (4 * suc k) ≡ all
-    go true p q = eq-eqb e (4 * suc k) (let z = p refl in omega arith)
-    go false p q = ne_eqb e (4 * suc k) (λ z. absurd (let y = q refl in omega arith))
+pub end-none : (from k : ℕ) (all : Bool) → None ≡ words_end from k all → all ≡ false
+end-none from k true w = absurd (cc)
+end-none from k false w = refl
 
 all_of-same : (t u : ℕ → Bool) (l : List ℕ) → ((w : ℕ) → t w ≡ u w) → all_of t l ≡ all_of u l
 unfolding all_of
@@ -333,13 +297,3 @@ module _ (n : ℕ) (body : List ℕ) (at : ℕ) (c : Checked n body at) where
 pub objects-are : (n : ℕ) (body : List ℕ) (a b : Bool) → a ≡ shape_ok n body → b ≡ all_to n (words_ok body n) → a && b ≡ objects_ok body n
 unfolding objects_ok shape_ok
 objects-are n body a b e f = rw (e, f) refl
-
--- the two tests of the roots
-module _ (n r : ℕ) (words roots : List ℕ) where
-  pub roots-long : (length roots ≡ 4 * r → ⊥) → false ≡ roots_pass n r words roots
-  unfolding roots_pass
-  roots-long d = sym (rw (ne_eqb (length roots) (4 * r) d) refl)
-
-  pub roots-tested : (b : Bool) → length roots ≡ 4 * r → b ≡ all_of (passes false n words) (words_at 0 r roots) → b ≡ roots_pass n r words roots
-  unfolding roots_pass
-  roots-tested b e f = f ∙ sym (rw (eq-eqb (length roots) (4 * r) e) refl)

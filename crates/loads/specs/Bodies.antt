@@ -1,5 +1,5 @@
 -- The bodies of an image as they are read: where an object's bytes stand, what is tested of them, and the sets of the listed objects and the sinks.
-use Rattle.std.specs.Prelude.{ℕ, ◌+◌, ◌*◌, ◌/◌, ◌%◌, ◌≤◌, ◌<◌, ◌≡◌, Bool, true, false, not, ◌&&◌, ◌||◌, List, map, eqb, leb, ltb, length, get_or, drop, set}
+use Rattle.std.specs.Prelude.{ℕ, ◌+◌, ◌*◌, ◌/◌, ◌%◌, ◌≤◌, ◌<◌, ◌≡◌, Bool, true, false, not, ◌&&◌, ◌||◌, cond, Option, Some, None, List, map, eqb, leb, ltb, length, get_or, drop, set}
 use Rattle.layout.specs.Field.{put_flag}
 use Rattle.layout.specs.Limits.{width_max, sink_max}
 use Rattle.layout.specs.Word.{is_nil, is_pointer, is_immediate}
@@ -77,10 +77,9 @@ words_at at k body = map (λ i. number_at 4 (at + 4 * i) body) (numbers 0 k)
 unfoldable pub four_pass : (ℕ → Bool) → ℕ → List ℕ → Bool
 four_pass t at body = t (number_at 4 at body) && t (number_at 4 (at + 4) body) && t (number_at 4 (at + 8) body) && t (number_at 4 (at + 12) body)
 
--- e is the place behind k words of four bytes from a place on, if all of them pass, and else 0
-pub record WordsEnd (from k : ℕ) (all : Bool) (e : ℕ) : Type 0 where
-  pub passed : all ≡ true → e ≡ from + 4 * k
-  pub stopped : all ≡ false → e ≡ 0
+-- the place behind k words of four bytes from a place on, if all of them pass
+abbrev pub words_end : ℕ → ℕ → Bool → Option ℕ
+words_end from k all = cond all (Some (from + 4 * k)) None
 
 -- the roots of a body of kind 3, tested by the set
 unfoldable pub roots_pass : ℕ → ℕ → List ℕ → List ℕ → Bool

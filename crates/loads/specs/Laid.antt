@@ -1,7 +1,11 @@
 -- What the stores of load ask and leave.
-use Rattle.std.specs.Prelude.{ℕ, zero, suc, ◌+◌, ◌/◌, ◌%◌, ◌≤◌, ◌≡◌, Bool, true, false, cond, ◌&&◌, List, [], ◌∷◌, ◌≢◌, eqb, ltb, length, drop, set}
+use Rattle.std.specs.Prelude.{ℕ, zero, suc, ◌+◌, ◌/◌, ◌%◌, ◌≤◌, ◌≡◌, Bool, true, false, cond, ◌&&◌, List, [], ◌∷◌, eqb, ltb, length, drop, set, Option, MatchOption, Result, Ok, Err}
 use Rattle.layout.specs.Limits.{object_max, width_max, sink_max, slots_len}
-use Rattle.layout.specs.Refusal.{first}
+use Rattle.layout.specs.declared.answers.Control.{Control}
+use Rattle.layout.specs.declared.answers.Done.{Done}
+use Rattle.layout.specs.declared.refusals.Refusal.{Refusal}
+use Rattle.layout.specs.ControlRecord.{no_control}
+use Rattle.layout.specs.Refusal.{number, first}
 use Rattle.records.specs.Record.{new_record, with_sink}
 use Rattle.graph.specs.Numbers.{count, gather}
 use Rattle.rules.specs.Image.{body_of, past, cut, listed, saved_width, saved_sink, saved_as_sink, saved_word, sinks_ok}
@@ -57,10 +61,9 @@ pub record Found (image : List ℕ) (t e : ℕ) : Type 0 where
   pub body : body_of (drop e image) ≡ sinks_before image t
   pub right : sinks_ok (image_n image) (saved_as_sink (objects image)) (sinks_before image t) ≡ true
 
--- the chunk of sinks of the image is at place e; 0 says that there is none
-pub record SinksAt (image : List ℕ) (e : ℕ) : Type 0 where
-  pub none : e ≡ 0 → sinks_before image (suc (length image)) ≡ []
-  pub some : e ≢ 0 → Found image (suc (length image)) e
+-- where the chunk of sinks of the image is, if it has one
+abbrev pub SinksAt : List ℕ → Option ℕ → Type 0
+SinksAt image e = MatchOption e (sinks_before image (suc (length image)) ≡ []) (Found image (suc (length image)))
 
 -- the image is not refused, and its chunks are at places
 pub record Placed (n : ℕ) (image : List ℕ) (second third tail : ℕ) : Type 0 where
@@ -81,3 +84,8 @@ pub record Accepted (n r : ℕ) (image recs slots roots list sets : List ℕ) : 
   pub roots-room : r ≤ length roots
   pub sinks-room : sink_max ≤ length list
   pub sets-room : n ≤ length sets
+
+-- what load answers: the control record, or the refusal's number
+abbrev pub answer_of : Result Control Refusal → Done
+answer_of (Ok c) = record { refusal = 0; control = c }
+answer_of (Err e) = record { refusal = number e; control = no_control }

@@ -4,7 +4,7 @@ ghost use Rattle.layout.specs.Limits.{object_max};
 ghost use Rattle.bitmap.specs.Bits.{holds, put_bit};
 ghost use Rattle.rules.specs.Buffers.{all_of, all_to};
 ghost use Rattle.rules.specs.Image.{sizes_ok, words_ok, sinks_ok};
-ghost use Rattle.loads.specs.Bodies.{shape_ok, objects_pass, Fit, Listed, Sunk, Empty, NoZero, take_bit, passes, words_at, four_pass, WordsEnd, roots_pass};
+ghost use Rattle.loads.specs.Bodies.{shape_ok, objects_pass, Fit, Listed, Sunk, Empty, NoZero, take_bit, passes, words_at, four_pass, words_end, roots_pass};
 
 use crate::words::{head_byte, word_at};
 use bitmap::{has_bit, ones, put_bit};
@@ -13,6 +13,7 @@ use layout::limits::{SINK_MAX, WIDTH_MAX};
 use layout::refusals::bad_sizes;
 
 // Whether the body of kind 1 keeps its layout.
+#[tactic(auto, unfolding(rules::specs::Image::sizes_ok, rules::specs::Image::saved_n, rules::specs::Image::saved_r, rules::specs::Image::saved_last))]
 pub(crate) fn sizes_ok(body: &[u8]) -> bool
     ensures { result ≡ sizes_ok body.now }
 {
@@ -41,23 +42,12 @@ pub(crate) fn fits(n: u32, last: u32, body: &[u8], at: usize) -> bool
         return false;
     }
     let x = get2(body, at);
-    if x <= last {
-        return false;
-    }
-    if n < x {
-        return false;
-    }
     let width = byte_at(body, at + 2);
-    if WIDTH_MAX < width {
-        return false;
-    }
-    if 1 < byte_at(body, at + 3) {
-        return false;
-    }
-    if (left - 4) / 4 < width as usize {
-        return false;
-    }
-    true
+    last < x
+        && x <= n
+        && width <= WIDTH_MAX
+        && byte_at(body, at + 3) <= 1
+        && width as usize <= (left - 4) / 4
 }
 
 // Whether the listed objects keep the layout; their numbers go into the first set, and those of the sinks into the second.
@@ -67,8 +57,9 @@ pub(crate) fn shape(n: u32, body: &[u8], words: &mut [u64], sinks: &mut [u64]) -
     ensures listed { result ≡ true → Listed n body.now words.new }
     ensures sunk { result ≡ true → Sunk n body.now sinks.new }
 {
-    let mut last: u32 = 0;
-    let mut at: usize = 0;
+    let mut last = 0;
+    let mut at = 0;
+    // Not a `for`: the place goes on by the width that was read.
     while at < body.len() {
         if !fits(n, last, body, at) {
             return false;
@@ -104,19 +95,13 @@ pub(crate) fn four_pass(immediates: bool, n: u32, body: &[u8], at: usize, words:
     requires { (n ≤ object_max) × (at + 16 ≤ length body.now) }
     ensures { result ≡ four_pass (passes immediates n words.now) at body.now }
 {
-    if !word_passes(immediates, n, word_at(body, at), words) {
-        return false;
-    }
-    if !word_passes(immediates, n, word_at(body, at + 4), words) {
-        return false;
-    }
-    if !word_passes(immediates, n, word_at(body, at + 8), words) {
-        return false;
-    }
-    word_passes(immediates, n, word_at(body, at + 12), words)
+    word_passes(immediates, n, word_at(body, at), words)
+        && word_passes(immediates, n, word_at(body, at + 4), words)
+        && word_passes(immediates, n, word_at(body, at + 8), words)
+        && word_passes(immediates, n, word_at(body, at + 12), words)
 }
 
-// The place behind the k words from a place on, if all of them pass, and else 0. The place is counted on word by word, so that a caller who
+// The place behind the k words from a place on, if all of them pass. The place is counted on word by word, so that a caller who
 // goes on from there need not wait for k.
 pub(crate) fn rest_end(
     immediates: bool,
@@ -125,20 +110,18 @@ pub(crate) fn rest_end(
     from: usize,
     k: u32,
     words: &[u64],
-) -> usize
+) -> Option<usize>
     requires { (n ≤ object_max) × (from + 4 * k ≤ length body.now) }
-    ensures { WordsEnd from k (all_of (passes immediates n words.now) (words_at from k body.now)) result }
+    ensures { result ≡ words_end from k (all_of (passes immediates n words.now) (words_at from k body.now)) }
 {
     let mut at = from;
-    let mut left = k;
-    while left != 0 {
+    for _ in 0..k {
         if !word_passes(immediates, n, word_at(body, at), words) {
-            return 0;
+            return None;
         }
         at += 4;
-        left -= 1;
     }
-    at
+    Some(at)
 }
 
 // The same, four words at a time as long as there are as many.
@@ -149,20 +132,18 @@ pub(crate) fn words_end(
     from: usize,
     k: u32,
     words: &[u64],
-) -> usize
+) -> Option<usize>
     requires { (n ≤ object_max) × (from + 4 * k ≤ length body.now) }
-    ensures { WordsEnd from k (all_of (passes immediates n words.now) (words_at from k body.now)) result }
+    ensures { result ≡ words_end from k (all_of (passes immediates n words.now) (words_at from k body.now)) }
 {
     let mut at = from;
-    let mut left = k;
-    while 3 < left {
+    for _ in 0..k / 4 {
         if !four_pass(immediates, n, body, at, words) {
-            return 0;
+            return None;
         }
         at += 16;
-        left -= 4;
     }
-    rest_end(immediates, n, body, at, left, words)
+    rest_end(immediates, n, body, at, k % 4, words)
 }
 
 // Whether the words of every listed object are legal.
@@ -170,13 +151,14 @@ pub(crate) fn words_ok(n: u32, body: &[u8], words: &[u64]) -> bool
     requires { (n ≤ object_max) × (shape_ok n body.now ≡ true) × Listed n body.now words.now }
     ensures { result ≡ all_to n (words_ok body.now n) }
 {
-    let mut at: usize = 0;
+    let mut at = 0;
+    // Not a `for`: the place goes on by the width that was read.
     while at < body.len() {
         let width = head_byte(body, at, 2);
-        at = words_end(true, n, body, at + 4, width, words);
-        if at == 0 {
+        let Some(end) = words_end(true, n, body, at + 4, width, words) else {
             return false;
-        }
+        };
+        at = end;
     }
     true
 }
@@ -188,25 +170,16 @@ pub(crate) fn objects_ok(n: u32, body: &[u8], words: &mut [u64], sinks: &mut [u6
     ensures listed { result ≡ true → Listed n body.now words.new }
     ensures sunk { result ≡ true → Sunk n body.now sinks.new }
 {
-    if !shape(n, body, words, sinks) {
-        return false;
-    }
-    if SINK_MAX < ones(sinks) {
-        return false;
-    }
-    words_ok(n, body, words)
+    shape(n, body, words, sinks) && ones(sinks) <= SINK_MAX && words_ok(n, body, words)
 }
 
 // Whether the body of kind 3 is r roots, each nil or a number in the set.
+#[tactic(auto, unfolding(crate::specs::Bodies::roots_pass))]
 pub(crate) fn roots_ok(n: u32, r: u32, body: &[u8], words: &[u64]) -> bool
     requires { n ≤ object_max }
     ensures { result ≡ roots_pass n r words.now body.now }
 {
-    let k = r as usize;
-    if body.len() != 4 * k {
-        return false;
-    }
-    rest_end(false, n, body, 0, r, words) == 4 * k
+    body.len() == 4 * r as usize && rest_end(false, n, body, 0, r, words).is_some()
 }
 
 // ---- sinks
@@ -217,9 +190,7 @@ pub(crate) fn take_bit(sinks: &mut [u64], x: u32)
     ensures { sinks.new ≡ take_bit x sinks.old }
 {
     let i = x as usize;
-    let at = i / 64;
-    let w = sinks[at];
-    sinks[at] = w & !(1 << (i % 64));
+    sinks[i / 64] &= !(1 << (i % 64));
 }
 
 // Whether the numbers of a body of kind 0x8001 are those in the set, each once. They are taken out of it, so that no second body passes.
@@ -228,18 +199,16 @@ pub(crate) fn sinks_ok(body: &[u8], sinks: &mut [u64]) -> bool
     ensures value { result ≡ sinks_ok object_max (λ z. holds z sinks.old) body.now }
     ensures empty { result ≡ true → Empty sinks.new }
 {
-    let len = body.len();
-    if (len == 0) | (len != 2 * ones(sinks) as usize) {
+    let k = ones(sinks) as usize;
+    if (k == 0) | (body.len() != 2 * k) {
         return false;
     }
-    let mut at: usize = 0;
-    while at < len {
-        let x = get2(body, at);
+    for i in 0..k {
+        let x = get2(body, 2 * i);
         if !has_bit(sinks, x as usize) {
             return false;
         }
         take_bit(sinks, x);
-        at += 2;
     }
     true
 }

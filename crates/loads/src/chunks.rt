@@ -1,7 +1,7 @@
 // The chunks of an image, in their order. No number is added to a place before it is compared with the bytes left.
-ghost use Rattle.std.specs.Prelude.{◌≡◌, ◌≤◌, false, not, length, drop};
+ghost use Rattle.std.specs.Prelude.{◌≡◌, ◌≤◌, false, not, length, drop, OnOk};
 ghost use Rattle.layout.specs.Limits.{object_max};
-ghost use Rattle.layout.specs.Refusal.{first};
+ghost use Rattle.layout.specs.Refusal.{first, refusal_of};
 ghost use Rattle.rules.specs.Image.{body_of, past, cut, sizes_ok};
 ghost use Rattle.rules.specs.Load.{objects, image_n, image_tests};
 ghost use Rattle.loads.specs.Bodies.{Listed, Sunk, Empty, NoZero, objects_pass, roots_pass};
@@ -9,8 +9,7 @@ ghost use Rattle.loads.specs.Chunks.{kind_refusal, front_refusal, chunk_refusal,
 
 use crate::bodies::{objects_ok, roots_ok, sinks_ok, sizes_ok};
 use endian::{get2, get4};
-use layout::limits::within;
-use layout::refusals::{BAD_IMAGE, IMAGE_CUT, UNKNOWN_KIND};
+use layout::refusals::Refusal;
 
 // The bytes of a chunk before its body.
 pub(crate) const FRONT: usize = 6;
@@ -18,30 +17,28 @@ pub(crate) const FRONT: usize = 6;
 // The kind of the chunk of sinks.
 pub(crate) const SINKS: u32 = 0x8001;
 
-// The refusal of a chunk by its kind, where it is chunk t, counted from 0.
-fn kind_refusal(t: u32, kind: u32) -> u32
-    ensures { result ≡ kind_refusal t kind }
+// The test of a chunk by its kind, where it is chunk t, counted from 0.
+#[tactic(auto, unfolding(crate::specs::Chunks::kind_refusal, rules::specs::Load::known, rules::specs::Load::passed, rules::specs::Load::misplaced, layout::specs::Limits::within))]
+fn kind_refusal(t: u32, kind: u32) -> Result<(), Refusal>
+    ensures { refusal_of result ≡ kind_refusal t kind }
 {
-    if within(1, 3, kind) {
-        return if kind - 1 == t { 0 } else { BAD_IMAGE };
+    match kind {
+        1..=3 if kind - 1 == t => Ok(()),
+        1..=3 => Err(Refusal::BadImage),
+        0x8000.. if 3 <= t => Ok(()),
+        0x8000.. => Err(Refusal::BadImage),
+        _ => Err(Refusal::UnknownKind),
     }
-    if kind < 0x8000 {
-        return UNKNOWN_KIND;
-    }
-    if t < 3 { BAD_IMAGE } else { 0 }
 }
 
 // That of the chunk at a place, by its length and kind.
-fn front_refusal(t: u32, image: &[u8], at: usize) -> u32
+fn front_refusal(t: u32, image: &[u8], at: usize) -> Result<(), Refusal>
     requires { at ≤ length image.now }
-    ensures { result ≡ front_refusal t (drop at image.now) }
+    ensures { refusal_of result ≡ front_refusal t (drop at image.now) }
 {
     let left = image.len() - at;
-    if left < FRONT {
-        return IMAGE_CUT;
-    }
-    if left - FRONT < get4(image, at) as usize {
-        return IMAGE_CUT;
+    if left < FRONT || left - FRONT < get4(image, at) as usize {
+        return Err(Refusal::ImageCut);
     }
     kind_refusal(t, get2(image, at + 4))
 }
@@ -54,119 +51,102 @@ pub(crate) fn end_of(image: &[u8], at: usize) -> usize
     at + FRONT + get4(image, at) as usize
 }
 
-// The refusal of the first chunk.
-fn sizes_refusal(image: &[u8]) -> u32
-    ensures { result ≡ chunk_refusal 0 image.now (not (sizes_ok (body_of image.now))) }
+// The tests of the first chunk.
+fn sizes_refusal(image: &[u8]) -> Result<(), Refusal>
+    ensures { refusal_of result ≡ chunk_refusal 0 image.now (not (sizes_ok (body_of image.now))) }
 {
-    let k = front_refusal(0, image, 0);
-    if k != 0 {
-        return k;
-    }
+    front_refusal(0, image, 0)?;
     let end = end_of(image, 0);
     if sizes_ok(&image[FRONT..end]) {
-        0
+        Ok(())
     } else {
-        BAD_IMAGE
+        Err(Refusal::BadImage)
     }
 }
 
-// That of the second, which is at a place; the numbers of the listed objects go into the first set, and those of the sinks into the second.
-fn objects_refusal(n: u32, image: &[u8], at: usize, words: &mut [u64], sinks: &mut [u64]) -> u32
+// Those of the second, which is at a place; the numbers of the listed objects go into the first set, and those of the sinks into the second.
+fn objects_refusal(
+    n: u32,
+    image: &[u8],
+    at: usize,
+    words: &mut [u64],
+    sinks: &mut [u64],
+) -> Result<(), Refusal>
     requires { (n ≤ object_max) × (at ≤ length image.now) × Empty words.old × Empty sinks.old }
-    ensures value { result ≡ chunk_refusal 1 (drop at image.now) (not (objects_pass n (body_of (drop at image.now)))) }
-    ensures listed { result ≡ 0 → Listed n (body_of (drop at image.now)) words.new }
-    ensures sunk { result ≡ 0 → Sunk n (body_of (drop at image.now)) sinks.new }
+    ensures value { refusal_of result ≡ chunk_refusal 1 (drop at image.now) (not (objects_pass n (body_of (drop at image.now)))) }
+    ensures listed { OnOk result (Listed n (body_of (drop at image.now)) words.new) }
+    ensures sunk { OnOk result (Sunk n (body_of (drop at image.now)) sinks.new) }
 {
-    let k = front_refusal(1, image, at);
-    if k != 0 {
-        return k;
-    }
+    front_refusal(1, image, at)?;
     let start = at + FRONT;
     let end = end_of(image, at);
     if objects_ok(n, &image[start..end], words, sinks) {
-        0
+        Ok(())
     } else {
-        BAD_IMAGE
+        Err(Refusal::BadImage)
     }
 }
 
-// That of the third.
-fn roots_refusal(n: u32, r: u32, image: &[u8], at: usize, words: &[u64]) -> u32
+// Those of the third.
+fn roots_refusal(n: u32, r: u32, image: &[u8], at: usize, words: &[u64]) -> Result<(), Refusal>
     requires { (n ≤ object_max) × (at ≤ length image.now) }
-    ensures { result ≡ chunk_refusal 2 (drop at image.now) (not (roots_pass n r words.now (body_of (drop at image.now)))) }
+    ensures { refusal_of result ≡ chunk_refusal 2 (drop at image.now) (not (roots_pass n r words.now (body_of (drop at image.now)))) }
 {
-    let k = front_refusal(2, image, at);
-    if k != 0 {
-        return k;
-    }
+    front_refusal(2, image, at)?;
     let start = at + FRONT;
     let end = end_of(image, at);
     if roots_ok(n, r, &image[start..end], words) {
-        0
+        Ok(())
     } else {
-        BAD_IMAGE
+        Err(Refusal::BadImage)
     }
 }
 
-// That of a chunk behind the third. One of sinks takes its numbers out of the set.
-fn tail_refusal(image: &[u8], at: usize, sinks: &mut [u64]) -> u32
+// Those of a chunk behind the third. One of sinks takes its numbers out of the set.
+fn tail_refusal(image: &[u8], at: usize, sinks: &mut [u64]) -> Result<(), Refusal>
     requires { (at ≤ length image.now) × NoZero sinks.old }
-    ensures value { result ≡ chunk_refusal 3 (drop at image.now) (bad_tail sinks.old (drop at image.now)) }
-    ensures tail_set { result ≡ 0 → TailSet (drop at image.now) sinks.old sinks.new }
+    ensures value { refusal_of result ≡ chunk_refusal 3 (drop at image.now) (bad_tail sinks.old (drop at image.now)) }
+    ensures tail_set { OnOk result (TailSet (drop at image.now) sinks.old sinks.new) }
 {
-    let k = front_refusal(3, image, at);
-    if k != 0 {
-        return k;
-    }
+    front_refusal(3, image, at)?;
     if get2(image, at + 4) != SINKS {
-        return 0;
+        return Ok(());
     }
     let start = at + FRONT;
     let end = end_of(image, at);
     if sinks_ok(&image[start..end], sinks) {
-        0
+        Ok(())
     } else {
-        BAD_IMAGE
+        Err(Refusal::BadImage)
     }
 }
 
-// That of all chunks behind the third, the first of which is at a place. The set has the sinks.
-fn rest_refusal(image: &[u8], from: usize, sinks: &mut [u64]) -> u32
+// Those of all chunks behind the third, the first of which is at a place. The set has the sinks.
+fn rest_refusal(image: &[u8], from: usize, sinks: &mut [u64]) -> Result<(), Refusal>
     requires from_in_bounds { (from ≤ length image.now) × (past 3 image.now ≡ drop from image.now) × (image_n image.now ≤ object_max) }
     requires sunk { Sunk (image_n image.now) (objects image.now) sinks.old }
-    ensures { result ≡ refusal_from image.now 3 }
+    ensures { refusal_of result ≡ refusal_from image.now 3 }
 {
     let mut at = from;
+    // Not a `for`: a chunk says where the next one is.
     while at < image.len() {
-        let k = tail_refusal(image, at, sinks);
-        if k != 0 {
-            return k;
-        }
+        tail_refusal(image, at, sinks)?;
         at = end_of(image, at);
     }
-    0
+    Ok(())
 }
 
-// The first refusal of an image, 0 for none.
-pub(crate) fn image_refusal(image: &[u8]) -> u32
-    ensures { result ≡ first (image_tests image.now) }
+// The first test of an image that holds refuses.
+pub(crate) fn image_refusal(image: &[u8]) -> Result<(), Refusal>
+    ensures { refusal_of result ≡ first (image_tests image.now) }
 {
-    let sizes = sizes_refusal(image);
-    if sizes != 0 {
-        return sizes;
-    }
+    sizes_refusal(image)?;
     let second = end_of(image, 0);
     let n = get2(image, 8);
     let mut words = [0u64; 64];
     let mut sinks = [0u64; 64];
-    let objects = objects_refusal(n, image, second, &mut words, &mut sinks);
-    if objects != 0 {
-        return objects;
-    }
+    objects_refusal(n, image, second, &mut words, &mut sinks)?;
     let third = end_of(image, second);
-    let roots = roots_refusal(n, get2(image, 10), image, third, &words);
-    if roots != 0 {
-        return roots;
-    }
+    roots_refusal(n, get2(image, 10), image, third, &words)?;
     rest_refusal(image, end_of(image, third), &mut sinks)
 }

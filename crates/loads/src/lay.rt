@@ -1,10 +1,10 @@
 // The stores of load, all of them behind its last test.
-ghost use Rattle.std.specs.Prelude.{◌≡◌, ◌+◌, ◌*◌, ◌/◌, ◌%◌, ◌≤◌, ◌<◌, cond, eqb, length, get_or, drop, set};
+ghost use Rattle.std.specs.Prelude.{◌≡◌, ◌+◌, ◌*◌, ◌/◌, ◌%◌, ◌≤◌, ◌<◌, cond, eqb, length, get_or, set};
 ghost use Rattle.std.proofs.lemmas.List.Edits.{sets};
 ghost use Rattle.layout.specs.Limits.{slots_len, width_max, sink_max};
 ghost use Rattle.endian.specs.Bytes.{number_at};
 ghost use Rattle.rules.specs.Buffers.{each_from, each_record, zeros};
-ghost use Rattle.rules.specs.Image.{front_len, sinks_kind, kind_of, saved_as_sink, saved_root, saved_list};
+ghost use Rattle.rules.specs.Image.{saved_as_sink, saved_root, saved_list};
 ghost use Rattle.rules.specs.Load.{root_words, loaded_record, loaded_word, loaded_sinks};
 ghost use Rattle.loads.specs.Laid.{laid, record_or, slot_or, singles, Roomy, Tail, SinksAt, Listable, Placed, Accepted};
 
@@ -13,7 +13,7 @@ use crate::words::{head_byte, number_at, word_at};
 use endian::get2;
 use layout::limits::{SINK_MAX, slots_len};
 use records::{new_record, with_sink};
-use table::buffers::{zero, zero_sets};
+use table::buffers::zero;
 
 // The four words from a place of a body on, stored from place `to` on. All are read before the first is stored, so that they become one store.
 pub(crate) fn lay_four(body: &[u8], at: usize, words: &mut [u32], to: usize)
@@ -37,13 +37,9 @@ pub(crate) fn lay_rest(body: &[u8], from: usize, k: u32, words: &mut [u32], base
     ensures { (result ≡ from + 4 * k) × (words.new ≡ laid base k (λ i. number_at 4 (from + 4 * i) body.now) words.old) }
 {
     let mut at = from;
-    let mut to = base;
-    let mut left = k;
-    while left != 0 {
-        words[to] = word_at(body, at);
+    for i in 0..k as usize {
+        words[base + i] = word_at(body, at);
         at += 4;
-        to += 1;
-        left -= 1;
     }
     at
 }
@@ -71,7 +67,8 @@ pub(crate) fn lay_objects(n: u32, body: &[u8], records: &mut [u32], slots: &mut 
     ensures records_after { records.new ≡ each_record n (record_or body.now) records.old }
     ensures slots_after { slots.new ≡ each_from 0 (slots_len n) (slot_or body.now) slots.old }
 {
-    let mut at: usize = 0;
+    let mut at = 0;
+    // Not a `for`: the place goes on by the width that was read.
     while at < body.len() {
         let i = number_at(body, at) - 1;
         let width = head_byte(body, at, 2);
@@ -82,27 +79,18 @@ pub(crate) fn lay_objects(n: u32, body: &[u8], records: &mut [u32], slots: &mut 
 
 // ---- sinks
 
-// Place `at`, if a chunk of sinks is there, and else the place found before.
-pub(crate) fn newer(image: &[u8], at: usize, found: usize) -> usize
-    requires { at + front_len ≤ length image.now }
-    ensures { result ≡ cond (eqb (kind_of (drop at image.now)) sinks_kind) at found }
-{
-    if get2(image, at + 4) == SINKS {
-        at
-    } else {
-        found
-    }
-}
-
-// The place of the chunk of sinks among the chunks from a place on, 0 where there is none.
-pub(crate) fn find_sinks(image: &[u8], from: usize) -> usize
+// The place of the chunk of sinks among the chunks from a place on, if there is one.
+pub(crate) fn find_sinks(image: &[u8], from: usize) -> Option<usize>
     requires { Tail image.now from }
     ensures { SinksAt image.now result }
 {
-    let mut found: usize = 0;
+    let mut found = None;
     let mut at = from;
+    // Not a `for`: a chunk says where the next one is.
     while at < image.len() {
-        found = newer(image, at, found);
+        if get2(image, at + 4) == SINKS {
+            found = Some(at);
+        }
         at = end_of(image, at);
     }
     found
@@ -110,15 +98,11 @@ pub(crate) fn find_sinks(image: &[u8], from: usize) -> usize
 
 // The numbers of a body of kind 0x8001, from the first place on.
 pub(crate) fn lay_list(body: &[u8], sinks: &mut [u32])
-    requires { (length body.now / 2 ≤ length sinks.old) × (length body.now % 2 ≡ 0) }
+    requires { length body.now / 2 ≤ length sinks.old }
     ensures { sinks.new ≡ sets sinks.old 0 (saved_list body.now) }
 {
-    let mut to: usize = 0;
-    let mut at: usize = 0;
-    while at < body.len() {
-        sinks[to] = get2(body, at);
-        to += 1;
-        at += 2;
+    for i in 0..body.len() / 2 {
+        sinks[i] = get2(body, 2 * i);
     }
 }
 
@@ -139,8 +123,9 @@ pub(crate) fn lay_numbers(n: u32, body: &[u8], sinks: &mut [u32])
     requires { Listable n body.now sinks.old }
     ensures { sinks.new ≡ sets sinks.old 0 (singles n (saved_as_sink body.now)) }
 {
-    let mut to: usize = 0;
-    let mut at: usize = 0;
+    let mut to = 0;
+    let mut at = 0;
+    // Not a `for`: the place goes on by the width that was read.
     while at < body.len() {
         to = lay_number(number_at(body, at), head_byte(body, at, 3), sinks, to);
         at += 4 + 4 * head_byte(body, at, 2) as usize;
@@ -160,15 +145,10 @@ pub(crate) fn lay_sinks(
     ensures { sinks.new ≡ each_from 0 sink_max (λ k y. get_or (loaded_sinks image.now) k 0) sinks.old }
 {
     zero(sinks, SINK_MAX as usize);
-    let at = find_sinks(image, tail);
-    if at == 0 {
-        let objects = second + FRONT;
-        lay_numbers(n, &image[objects..third], sinks);
-        return;
+    match find_sinks(image, tail) {
+        Some(at) => lay_list(&image[at + FRONT..end_of(image, at)], sinks),
+        None => lay_numbers(n, &image[second + FRONT..third], sinks),
     }
-    let start = at + FRONT;
-    let end = end_of(image, at);
-    lay_list(&image[start..end], sinks);
 }
 
 // The heap of an image that is not refused.
@@ -199,5 +179,5 @@ pub(crate) fn lay(
     let words = third + FRONT;
     lay_words(&image[words..end], 0, r, roots, 0);
     lay_sinks(n, image, second, third, end, sinks);
-    zero_sets(sets, n as usize);
+    zero(sets, n as usize);
 }

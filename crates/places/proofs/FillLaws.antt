@@ -8,10 +8,9 @@ use mathlib.Core.Logic.{◌≢◌, ◌⊎◌, inl, inr}
 use native.Mathlib.Numerals.{add-one}
 use native.Mathlib.Omega.{arith}
 use lib.Dec.{eqb}
-use lib.ListN.{length, get_or, drop, set, length-set, length-take, drop_of_length-le}
+use lib.ListN.{length, get_or, drop, set, length-set, drop_of_length-le}
 use lib.Seq.{drop-cons, set_out, get_or-set_same, get_or-set_other}
-use borrow.Author.Tests.{eq-eqb, ne_eqb, eqb-true, eqb-false}
-use Rattle.layout.specs.Limits.{sink_max}
+use borrow.Author.Tests.{eqb-true, eqb-false}
 use Rattle.graph.specs.Numbers.{has}
 use Rattle.rules.specs.Buffers.{rec_of}
 use Rattle.rules.specs.WellFormed.{once}
@@ -19,57 +18,74 @@ use Rattle.rules.proofs.BoolLaws.{or_split, or_cases}
 use Rattle.rules.proofs.BufferLaws.{rec_of-get}
 use Rattle.rules.proofs.ListedLaws.{once-rest, once-other}
 use Rattle.places.specs.Places.{placed}
-use Rattle.places.proofs.SeenLaws.{places, place_at}
+use Rattle.places.proofs.SeenLaws.{all_to-same, all_to-front}
+use Rattle.std.specs.List.{list_all}
+use lib.Pointwise.{pointwise}
+use mathlib.Core.Path.{ap₂}
+use mathlib.Core.Bool.{Bool, ◌&&◌}
+use lib.ListN.{take}
+use Rattle.rules.specs.Buffers.{all_to}
 
 -- ---- words that are 0, and two lists of words
 
-pub word_at : (n : ℕ) (l : List ℕ) (i : ℕ) → i < n → rec_of n l (i + 1) ≡ get_or l i 0
-word_at n l i p = let z : (i + 1) - 1 ≡ i = omega arith in rec_of-get n l (i + 1) (omega arith) (omega arith) ∙ ap (λ (j : ℕ). get_or l j 0) z
+-- each of the first n words
+pub words-all : (n : ℕ) (p : ℕ → Bool) (l : List ℕ) → n ≤ length l → list_all p (take n l) ≡ all_to n (λ h. p (rec_of n l h))
+words-all n p l b = go n l b ∙ all_to-same n (λ h. p (get_or l (h - 1) 0)) (λ h. p (rec_of n l h)) (λ x q r. ap p (sym (rec_of-get n l x q r)))
+  where
+    go : (k : ℕ) (m : List ℕ) → k ≤ length m → list_all p (take k m) ≡ all_to k (λ h. p (get_or m (h - 1) 0))
+    go zero m q = unfold all_to in refl
+    go (suc k) [] q = absurd (omega arith)
+    go (suc k) (w ∷ m) q =
+        ap (λ (c : Bool). p w && c) (go k m (omega arith) ∙ all_to-same k (λ h. p (get_or m (h - 1) 0)) (λ h. p (get_or (w ∷ m) (suc h - 1) 0)) (λ x r s. ap p (next x r)))
+        ∙ sym (all_to-front k (λ h. p (get_or (w ∷ m) (h - 1) 0)))
+      where
+        next : (x : ℕ) → 1 ≤ x → get_or m (x - 1) 0 ≡ get_or (w ∷ m) (suc x - 1) 0
+        next zero r = absurd (omega arith)
+        next (suc y) r = let z : suc y - 1 ≡ y = omega arith in let t : suc (suc y) - 1 ≡ suc y = omega arith in rw (z, t) refl
 
-module _ (n : ℕ) (a : List ℕ) (i : ℕ) (p : i < n) where
-  pub word-zero : get_or a i 0 ≡ 0 → true ≡ eqb (rec_of n a (i + 1)) 0
-  word-zero e = sym (eq-eqb (rec_of n a (i + 1)) 0 (word_at n a i p ∙ e))
+-- each of the first n words of two lists
+pub words-both : (n : ℕ) (p : ℕ → ℕ → Bool) (a b : List ℕ) → n ≤ length a → n ≤ length b
+    → pointwise p (take n a) (take n b) ≡ all_to n (λ h. p (rec_of n a h) (rec_of n b h))
+words-both n p a b q r =
+    go n a b q r
+    ∙ all_to-same n (λ h. p (get_or a (h - 1) 0) (get_or b (h - 1) 0)) (λ h. p (rec_of n a h) (rec_of n b h))
+    (λ x s t. ap₂ p (sym (rec_of-get n a x s t)) (sym (rec_of-get n b x s t)))
+  where
+    next : (w : ℕ) (m : List ℕ) (x : ℕ) → 1 ≤ x → get_or m (x - 1) 0 ≡ get_or (w ∷ m) (suc x - 1) 0
+    next w m zero r = absurd (omega arith)
+    next w m (suc y) r = let z : suc y - 1 ≡ y = omega arith in let t : suc (suc y) - 1 ≡ suc y = omega arith in rw (z, t) refl
 
-  pub word-other : get_or a i 0 ≢ 0 → false ≡ eqb (rec_of n a (i + 1)) 0
-  word-other h = sym (ne_eqb (rec_of n a (i + 1)) 0 (λ e. h (sym (word_at n a i p) ∙ e)))
-
-module _ (n : ℕ) (a b : List ℕ) (i : ℕ) (p : i < n) where
-  pub words_same : get_or a i 0 ≡ get_or b i 0 → true ≡ eqb (rec_of n a (i + 1)) (rec_of n b (i + 1))
-  words_same e = sym (eq-eqb (rec_of n a (i + 1)) (rec_of n b (i + 1)) (word_at n a i p ∙ e ∙ sym (word_at n b i p)))
-
-  pub words-differ : get_or a i 0 ≢ get_or b i 0 → false ≡ eqb (rec_of n a (i + 1)) (rec_of n b (i + 1))
-  words-differ h = sym (ne_eqb (rec_of n a (i + 1)) (rec_of n b (i + 1)) (λ e. h (sym (word_at n a i p) ∙ e ∙ word_at n b i p)))
+    go : (k : ℕ) (l m : List ℕ) → k ≤ length l → k ≤ length m → pointwise p (take k l) (take k m) ≡ all_to k (λ h. p (get_or l (h - 1) 0) (get_or m (h - 1) 0))
+    go zero l m s t = unfold all_to in refl
+    go (suc k) [] m s t = absurd (omega arith)
+    go (suc k) (v ∷ l) [] s t = absurd (omega arith)
+    go (suc k) (v ∷ l) (w ∷ m) s t =
+        ap (λ (c : Bool). p v w && c)
+        (go k l m (omega arith) (omega arith)
+        ∙ all_to-same k (λ h. p (get_or l (h - 1) 0) (get_or m (h - 1) 0)) (λ h. p (get_or (v ∷ l) (suc h - 1) 0) (get_or (w ∷ m) (suc h - 1) 0))
+        (λ x c d. ap₂ p (next v l x c) (next w m x c)))
+        ∙ sym (all_to-front k (λ h. p (get_or (v ∷ l) (h - 1) 0) (get_or (w ∷ m) (h - 1) 0)))
 
 -- ---- the places filled
 
 module _ (list : List ℕ) where
-  -- the places from k on
+  -- those from k on
   abbrev pub left : ℕ → List ℕ → List ℕ
-  left k place = placed k (drop k (places list)) place
+  left k place = placed k (drop k list) place
 
-  pub left-start : (place : List ℕ) → left 0 place ≡ placed 0 (places list) place
-  left-start place = refl
-
-  pub left_end : (k : ℕ) (place : List ℕ) → length (places list) ≤ k → left k place ≡ place
+  pub left_end : (k : ℕ) (place : List ℕ) → length list ≤ k → left k place ≡ place
   unfolding placed
-  left_end k place p = rw (drop_of_length-le (places list) {i = k} p) refl
+  left_end k place p = rw (drop_of_length-le list {i = k} p) refl
 
-  module _ (k : ℕ) (place : List ℕ) (p : k < 64) (q : k < length list) where
-    inside : k < length (places list)
-    inside = let e = length-take sink_max list in omega arith
-
-    left-turn : left (k + 1) (set place (get_or list k 0) (k + 1)) ≡ left k place
+  module _ (k : ℕ) (place : List ℕ) (inside : k < length list) where
+    pub left-put : left (k + 1) (set place (get_or list k 0) (k + 1)) ≡ left k place
     unfolding placed
-    left-turn =
-        ap (λ (j : ℕ). placed j (drop j (places list)) (set place (get_or list k 0) j)) (add-one k)
-        ∙ ap (λ (y : ℕ). placed (suc k) (drop (suc k) (places list)) (set place y (suc k))) (sym (place_at list k inside))
-        ∙ sym (ap (λ (l : List ℕ). placed k l place) (drop-cons (places list) k 0 inside))
-
-    pub left-put : (y : ℕ) → y ≡ get_or list k 0 → left (k + 1) (set place y (k + 1)) ≡ left k place
-    left-put y e = rw e left-turn
+    left-put =
+        ap (λ (j : ℕ). placed j (drop j list) (set place (get_or list k 0) j)) (add-one k)
+        ∙ sym (ap (λ (l : List ℕ). placed k l place) (drop-cons list k 0 inside))
 
     pub left_out : length place ≤ get_or list k 0 → left (k + 1) place ≡ left k place
-    left_out l = ap (left (k + 1)) (sym (set_out place (get_or list k 0) (k + 1) l)) ∙ left-turn
+    left_out l = ap (left (k + 1)) (sym (set_out place (get_or list k 0) (k + 1) l)) ∙ left-put
 
 -- ---- what they say
 

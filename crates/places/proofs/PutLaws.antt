@@ -9,14 +9,14 @@ use native.Mathlib.Decide.{dec_lt, ℕ_discrete}
 use native.Mathlib.Numerals.{add-one}
 use native.Mathlib.Omega.{arith}
 use lib.Bits.{or_lt}
-use lib.Dec.{eqb, ltb}
+use lib.Dec.{eqb}
 use lib.Pow.{pow-lt}
-use lib.ListN.{length, get_or, take, drop, drop_of_length-le, length-take}
-use lib.Seq.{drop-cons, take-take, take_all, take-nil, get_or-set_same, get_or-set_other}
-use borrow.Author.Tests.{lt-ltb, le-ltb, eq-eqb, ne_eqb}
+use lib.ListN.{length, get_or, take, drop, drop_of_length-le}
+use lib.Seq.{drop-cons, get_or-set_same, get_or-set_other}
+use borrow.Author.Tests.{eq-eqb, ne_eqb}
 use Rattle.layout.specs.Field.{put_flag}
 use Rattle.layout.specs.Word.{is_pointer}
-use Rattle.layout.specs.Limits.{slots_len, width_max, within}
+use Rattle.layout.specs.Limits.{within}
 use Rattle.layout.proofs.FieldLaws.{or-flag}
 use Rattle.records.specs.Record.{width, cluster}
 use Rattle.bitmap.specs.Bits.{holds, put_bit}
@@ -25,7 +25,6 @@ use Rattle.graph.specs.Numbers.{has, gather, some}
 use Rattle.rules.specs.Buffers.{rec_of, used_words, eight}
 use Rattle.rules.specs.View.{target}
 use Rattle.table.specs.Clusters.{cluster_of}
-use Rattle.table.proofs.ClusterLaws.{eight-from}
 use Rattle.places.specs.Places.{put_all, kids_of, place_bits, is_member, object_bits}
 
 -- ---- numbers put
@@ -120,39 +119,15 @@ has-gather z (suc n) t f =
 
 -- ---- the words of an object
 
-module _ (n : ℕ) (slots : List ℕ) (to : ℕ) where
-  -- what the words from place `at` on point at
-  abbrev pub rest : ℕ → List ℕ
-  rest at = map (target n) (take (to - at) (drop at slots))
+-- what the words from place `at` on point at
+abbrev pub rest : ℕ → List ℕ → ℕ → List ℕ
+rest n words at = map (target n) (drop at words)
 
-  pub rest-turn : (at : ℕ) → at < to → at < length slots → rest at ≡ target n (get_or slots at 0) ∷ rest (at + 1)
-  rest-turn at p q =
-      let s : to - at ≡ suc (to - (at + 1)) = omega arith in
-      let d : drop at slots ≡ get_or slots at 0 ∷ drop (at + 1) slots = rw (add-one at) (drop-cons slots at 0 q) in
-      ap₂ (λ (k : ℕ) (l : List ℕ). map (target n) (take k l)) s d
+pub rest-turn : (n : ℕ) (words : List ℕ) (at : ℕ) → at < length words → rest n words at ≡ target n (get_or words at 0) ∷ rest n words (at + 1)
+rest-turn n words at q = rw (add-one at) (ap (map (target n)) (drop-cons words at 0 q))
 
-  pub rest-none : (at : ℕ) → to ≤ at → rest at ≡ []
-  rest-none at p = let z : to - at ≡ 0 = omega arith in rw z refl
-
-  pub rest-past : (at : ℕ) → length slots ≤ at → rest at ≡ []
-  rest-past at p = rw (drop_of_length-le slots {i = at} p, take-nil {A = ℕ} (to - at)) refl
-
-module _ (n x : ℕ) (recs slots : List ℕ) (low : 1 ≤ x) (r from u : ℕ) (e : r ≡ rec_of n recs x) (d : from ≡ slots_len (x - 1))
-    (w : u ≡ cond (ltb width_max (width r)) width_max (width r)) where
-  -- the words that are read are those of the used slots
-  pub rest-used : rest n slots (from + u) from ≡ kids_of n recs slots x
-  unfolding kids_of used_words
-  rest-used = ap (map (target n)) words
-    where
-      m : (from + u) - from ≡ u
-      m = omega arith
-
-      go : Dec (8 < width r) → take (width r) (take 8 (drop from slots)) ≡ take (cond (ltb 8 (width r)) 8 (width r)) (drop from slots)
-      go (yes l) = rw (lt-ltb 8 (width r) l) (take_all (width r) (take 8 (drop from slots)) (let a = length-take 8 (drop from slots) in omega arith))
-      go (no l) = rw (le-ltb 8 (width r) (omega (arith, l))) (take-take (width r) 8 (drop from slots) (omega (arith, l)))
-
-      words : take ((from + u) - from) (drop from slots) ≡ take (width (rec_of n recs x)) (eight slots x)
-      words = rw (m, ← e, eight-from x slots low from d, w) (sym (go (dec_lt 8 (width r))))
+pub rest-none : (n : ℕ) (words : List ℕ) (at : ℕ) → length words ≤ at → rest n words at ≡ []
+rest-none n words at p = rw (drop_of_length-le words {i = at} p) refl
 
 -- ---- the places of words
 
@@ -178,49 +153,33 @@ module _ (place : List ℕ) (c y : ℕ) where
       f ∙ ap (λ (m : ℕ). put_bit (64 * (c - 1) + (m - 1)) words) e ∙ rw (ne_eqb (get_or place y 0) 0 (λ q. z (e ∙ q))) refl
 
 -- what is left to put comes to the same after a word
-module _ (n : ℕ) (slots : List ℕ) (to at : ℕ) (p : at < to) (q : at < length slots) where
-  pub words-turn : (y : ℕ) (now next all : List ℕ) → y ≡ target n (get_or slots at 0) → next ≡ put_bit y now → put_all (rest n slots to at) now ≡ all
-      → put_all (rest n slots to (at + 1)) next ≡ all
+module _ (n : ℕ) (words : List ℕ) (at : ℕ) (q : at < length words) where
+  pub words-turn : (y : ℕ) (now next all : List ℕ) → y ≡ target n (get_or words at 0) → next ≡ put_bit y now → put_all (rest n words at) now ≡ all
+      → put_all (rest n words (at + 1)) next ≡ all
   unfolding put_all
   words-turn y now next all e f g =
-      ap (put_all (rest n slots to (at + 1))) (f ∙ ap (λ (z : ℕ). put_bit z now) e)
-      ∙ sym (ap (λ (l : List ℕ). put_all l now) (rest-turn n slots to at p q)) ∙ g
+      ap (put_all (rest n words (at + 1))) (f ∙ ap (λ (z : ℕ). put_bit z now) e)
+      ∙ sym (ap (λ (l : List ℕ). put_all l now) (rest-turn n words at q)) ∙ g
 
-  pub places-turn : (place : List ℕ) (c : ℕ) (now next all : List ℕ) → next ≡ put_all (place_bits place c (target n (get_or slots at 0) ∷ [])) now
-      → put_all (place_bits place c (rest n slots to at)) now ≡ all → put_all (place_bits place c (rest n slots to (at + 1))) next ≡ all
+  pub places-turn : (place : List ℕ) (c : ℕ) (now next all : List ℕ) → next ≡ put_all (place_bits place c (target n (get_or words at 0) ∷ [])) now
+      → put_all (place_bits place c (rest n words at)) now ≡ all → put_all (place_bits place c (rest n words (at + 1))) next ≡ all
   places-turn place c now next all f g =
-      ap (put_all (place_bits place c (rest n slots to (at + 1)))) f
-      ∙ sym (ap (λ (l : List ℕ). put_all l now) (ap (place_bits place c) (rest-turn n slots to at p q) ∙ place-cons place c (target n (get_or slots at 0)) (rest n slots to (at + 1)))
-      ∙ put-append (place_bits place c (target n (get_or slots at 0) ∷ [])) (place_bits place c (rest n slots to (at + 1))) now)
+      ap (put_all (place_bits place c (rest n words (at + 1)))) f
+      ∙ sym (ap (λ (l : List ℕ). put_all l now) (ap (place_bits place c) (rest-turn n words at q) ∙ place-cons place c (target n (get_or words at 0)) (rest n words (at + 1)))
+      ∙ put-append (place_bits place c (target n (get_or words at 0) ∷ [])) (place_bits place c (rest n words (at + 1))) now)
       ∙ g
 
 -- nothing is left
-module _ (n : ℕ) (slots : List ℕ) (to at : ℕ) (now all : List ℕ) where
-  pub words-end : to ≤ at → put_all (rest n slots to at) now ≡ all → now ≡ all
+module _ (n : ℕ) (words : List ℕ) (at : ℕ) (now all : List ℕ) (p : length words ≤ at) where
+  pub words-end : put_all (rest n words at) now ≡ all → now ≡ all
   unfolding put_all
-  words-end p g = sym (ap (λ (l : List ℕ). put_all l now) (rest-none n slots to at p)) ∙ g
+  words-end g = sym (ap (λ (l : List ℕ). put_all l now) (rest-none n words at p)) ∙ g
 
-  pub words-past : length slots ≤ at → put_all (rest n slots to at) now ≡ all → now ≡ all
-  unfolding put_all
-  words-past p g = sym (ap (λ (l : List ℕ). put_all l now) (rest-past n slots to at p)) ∙ g
-
-  module _ (place : List ℕ) (c : ℕ) (g : put_all (place_bits place c (rest n slots to at)) now ≡ all) where
-    pub places-end : to ≤ at → now ≡ all
-    unfolding put_all place_bits
-    places-end p = sym (ap (λ (l : List ℕ). put_all (place_bits place c l) now) (rest-none n slots to at p)) ∙ g
-
-    pub places-past : length slots ≤ at → now ≡ all
-    unfolding put_all place_bits
-    places-past p = sym (ap (λ (l : List ℕ). put_all (place_bits place c l) now) (rest-past n slots to at p)) ∙ g
+  pub places-end : (place : List ℕ) (c : ℕ) → put_all (place_bits place c (rest n words at)) now ≡ all → now ≡ all
+  unfolding put_all place_bits
+  places-end place c g = sym (ap (λ (l : List ℕ). put_all (place_bits place c l) now) (rest-none n words at p)) ∙ g
 
 -- ---- one object
-
-pub used-most : (w u : ℕ) → u ≡ cond (ltb width_max w) width_max w → u ≤ 8
-used-most w u e = go (dec_lt 8 w)
-  where
-    go : Dec (8 < w) → u ≤ 8
-    go (yes l) = let f : u ≡ 8 = e ∙ rw (lt-ltb 8 w l) refl in omega arith
-    go (no l) = let f : u ≡ w = e ∙ rw (le-ltb 8 w (omega (arith, l))) refl in omega (arith, l)
 
 module _ (n x : ℕ) (recs slots : List ℕ) (r k : ℕ) (e : r ≡ rec_of n recs x) (f : k ≡ cluster r) (words : List ℕ) where
   carries : cluster_of n recs x ≡ k
@@ -237,12 +196,13 @@ module _ (n x : ℕ) (recs slots : List ℕ) (r k : ℕ) (e : r ≡ rec_of n rec
   unfolding put_all is_member is_pointer
   object-none place b g h = rw (carries, ← g, h) refl
 
-  module _ (low : 1 ≤ x) (from u : ℕ) (d : from ≡ slots_len (x - 1)) (w : u ≡ cond (ltb width_max (width r)) width_max (width r)) (next : List ℕ) where
-    pub member-put : (c : ℕ) → k ≡ c → next ≡ put_all (rest n slots (from + u) from) words
+  module _ (used : List ℕ) (d : used ≡ take (width r) (eight slots x)) (next : List ℕ) where
+    pub member-put : (c : ℕ) → k ≡ c → next ≡ put_all (map (target n) used) words
         → next ≡ put_all (cond (eqb (cluster_of n recs x) c) (kids_of n recs slots x) []) words
-    member-put c h g = g ∙ rw (carries, eq-eqb k c h, rest-used n x recs slots low r from u e d w) refl
+    unfolding kids_of used_words
+    member-put c h g = g ∙ rw (carries, eq-eqb k c h, ← e, d) refl
 
-    pub object-put : (place : List ℕ) (b : Bool) → b ≡ within 1 n k → b ≡ true → next ≡ put_all (place_bits place k (rest n slots (from + u) from)) words
+    pub object-put : (place : List ℕ) (b : Bool) → b ≡ within 1 n k → b ≡ true → next ≡ put_all (place_bits place k (map (target n) used)) words
         → next ≡ put_all (cond (is_member n recs x) (object_bits n recs slots place x) []) words
-    unfolding is_member is_pointer object_bits
-    object-put place b q h g = g ∙ rw (carries, ← q, h, rest-used n x recs slots low r from u e d w) refl
+    unfolding is_member is_pointer object_bits kids_of used_words
+    object-put place b q h g = g ∙ rw (carries, ← q, h, ← e, d) refl

@@ -4,12 +4,12 @@ use Prim.Native.Nat.{ℕ, zero, suc, ◌+◌, ◌-◌, ◌≤◌, ◌<◌}
 use mathlib.Core.Path.{◌≡◌, refl, sym, ap, ap₂, ◌∙◌}
 use mathlib.Core.Bool.{Bool, true, false, not, ◌&&◌, ◌||◌, false≢true}
 use mathlib.Core.List.{List, [], ◌∷◌}
-use native.Mathlib.Decide.{dec_le}
 use native.Mathlib.Omega.{arith}
 use lib.Dec.{eqb, leb}
-use lib.ListN.{length, get_or, take, drop, length-take, replicate, length-replicate, get_or-eq_default}
-use lib.Seq.{drop-cons, drop-length, get_or-take}
-use borrow.Author.Tests.{le-leb, lt-leb}
+use lib.ListN.{length, get_or, take, drop, replicate, length-replicate}
+use lib.Seq.{drop-cons, drop-length}
+use borrow.Author.Tests.{le-leb, lt-leb, eqb-true}
+use Rattle.std.specs.List.{list_all, range_with_len}
 use Rattle.layout.specs.Limits.{object_max, sink_max, within}
 use Rattle.layout.specs.Word.{is_nil, is_pointer}
 use Rattle.layout.proofs.LimitLaws.{within-true}
@@ -20,7 +20,6 @@ use Rattle.graph.specs.Numbers.{has}
 use Rattle.rules.specs.Buffers.{rec_of, all_of, all_to}
 use Rattle.rules.specs.WellFormed.{once, lists, list_ok}
 use Rattle.rules.proofs.BoolLaws.{and_split, is_false}
-use Rattle.rules.proofs.WellFormedLaws.{all_to-more, all_to-fails}
 use Rattle.places.specs.Places.{put_all, Tested}
 use Rattle.places.proofs.PutLaws.{put-all}
 
@@ -30,27 +29,14 @@ module _ (list : List ℕ) where
   abbrev pub places : List ℕ
   places = take sink_max list
 
-  -- a place that is read is one of them
-  pub place_at : (k : ℕ) → k < length places → get_or places k 0 ≡ get_or list k 0
-  place_at k p = get_or-take sink_max list k 0 (let e = length-take sink_max list in omega arith)
-
-  -- the first k places are empty
-  abbrev pub EmptyTo : ℕ → Type 0
-  EmptyTo k = (j : ℕ) → j < k → get_or places j 0 ≡ 0
-
-  pub empty-more : (k : ℕ) → k < length places → EmptyTo k → get_or list k 0 ≡ 0 → EmptyTo (k + 1)
-  empty-more k p h e j q = go (dec_le (j + 1) k)
+  -- with every place empty there is no number at any
+  pub empty-all : list_all (λ y. eqb y 0) places ≡ true → (k : ℕ) → get_or places k 0 ≡ 0
+  empty-all h = go places h
     where
-      go : Dec (j + 1 ≤ k) → get_or places j 0 ≡ 0
-      go (yes l) = h j (omega arith)
-      go (no l) = let i : j ≡ k = omega (arith, l) in rw i (place_at k p ∙ e)
-
-  pub empty-all : (k : ℕ) → length places ≤ k → EmptyTo k → (j : ℕ) → get_or places j 0 ≡ 0
-  empty-all k p h j = go (dec_le (j + 1) k)
-    where
-      go : Dec (j + 1 ≤ k) → get_or places j 0 ≡ 0
-      go (yes l) = h j (omega arith)
-      go (no l) = get_or-eq_default places 0 (omega (arith, l))
+      go : (l : List ℕ) → list_all (λ y. eqb y 0) l ≡ true → (k : ℕ) → get_or l k 0 ≡ 0
+      go [] e k = refl
+      go (y ∷ l) e zero = eqb-true y 0 (and_split (eqb y 0) (list_all (λ z. eqb z 0) l) e).0
+      go (y ∷ l) e (suc k) = go l (and_split (eqb y 0) (list_all (λ z. eqb z 0) l) e).1 k
 
 -- ---- the places
 
@@ -85,15 +71,15 @@ module _ (n : ℕ) (recs : List ℕ) where
   module _ (list : List ℕ) where
     -- the places from k on are good, and the set has their numbers
     pub record Seeing (seen : List ℕ) (k : ℕ) : Type 0 where
-      pub most : k ≤ length (places list)
-      pub so_far : good (drop k (places list)) ≡ true
-      pub numbers : (z : ℕ) → z ≤ n → holds z seen ≡ has z (drop k (places list))
+      pub most : k ≤ length list
+      pub so_far : good (drop k list) ≡ true
+      pub numbers : (z : ℕ) → z ≤ n → holds z seen ≡ has z (drop k list)
       pub long : length seen ≡ 64
 
-    pub seeing-start : (seen : List ℕ) (k : ℕ) → seen ≡ replicate 64 0 → k ≡ length (places list) → Seeing seen k
+    pub seeing-start : (seen : List ℕ) (k : ℕ) → seen ≡ replicate 64 0 → k ≡ length list → Seeing seen k
     unfolding all_of once has
     seeing-start seen k e f =
-        let d : drop k (places list) ≡ [] = rw f (drop-length (places list)) in
+        let d : drop k list ≡ [] = rw f (drop-length list) in
         record {
           most = omega arith;
           so_far = rw d refl;
@@ -105,19 +91,18 @@ module _ (n : ℕ) (recs : List ℕ) where
       abbrev y : ℕ
       y = get_or list (k - 1) 0
 
-      at : drop (k - 1) (places list) ≡ y ∷ drop k (places list)
+      at : drop (k - 1) list ≡ y ∷ drop k list
       at =
-          let l : k - 1 < length (places list) = omega (arith, s.most) in
+          let l : k - 1 < length list = omega (arith, s.most) in
           let z : suc (k - 1) ≡ k = omega arith in
-          drop-cons (places list) (k - 1) 0 l
-          ∙ ap₂ (λ (v : ℕ) (i : ℕ). v ∷ drop i (places list)) (place_at list (k - 1) l) z
+          drop-cons list (k - 1) 0 l ∙ ap (λ (i : ℕ). get_or list (k - 1) 0 ∷ drop i list) z
 
       -- the set has what the other places have
-      same : (b : Bool) → b ≡ is_nil y || ((is_pointer n y && is_sink (rec_of n recs y)) && not (holds y seen)) → b ≡ test y (drop k (places list))
+      same : (b : Bool) → b ≡ is_nil y || ((is_pointer n y && is_sink (rec_of n recs y)) && not (holds y seen)) → b ≡ test y (drop k list)
       unfolding is_pointer
       same b e = go (within 1 n y) refl
         where
-          go : (t : Bool) → within 1 n y ≡ t → b ≡ test y (drop k (places list))
+          go : (t : Bool) → within 1 n y ≡ t → b ≡ test y (drop k list)
           go true q = e ∙ ap (λ (h : Bool). is_nil y || ((within 1 n y && is_sink (rec_of n recs y)) && not h)) (s.numbers y (within-true 1 n y q).1)
           go false q = e ∙ rw (q) refl
 
@@ -128,7 +113,7 @@ module _ (n : ℕ) (recs : List ℕ) where
       seeing-turn b next e t f =
           record {
             most = omega (arith, s.most);
-            so_far = rw at (good-cons y (drop k (places list)) ∙ rw (← same b e, t) s.so_far);
+            so_far = rw at (good-cons y (drop k list) ∙ rw (← same b e, t) s.so_far);
             numbers = numbers;
             long = ap length f ∙ put-length seen y ∙ s.long;
           }
@@ -137,24 +122,24 @@ module _ (n : ℕ) (recs : List ℕ) where
           or-none true c = refl
           or-none false c = refl
 
-          numbers : (z : ℕ) → z ≤ n → holds z next ≡ has z (drop (k - 1) (places list))
+          numbers : (z : ℕ) → z ≤ n → holds z next ≡ has z (drop (k - 1) list)
           numbers z q =
               ap (holds z) f ∙ put-all (y ∷ []) seen z (omega (arith, s.long))
               ∙ or-none (eqb z y) (holds z seen) ∙ ap (λ (c : Bool). eqb z y || c) (s.numbers z q) ∙ sym (ap (has z) at)
 
       -- one that does not
       pub seeing-stop : (b : Bool) (now : List ℕ) → b ≡ is_nil y || ((is_pointer n y && is_sink (rec_of n recs y)) && not (holds y seen)) → b ≡ false
-          → Tested n recs (places list) false now
+          → Tested n recs list false now
       seeing-stop b now e t = record {
-        answer = sym (is_false (good (places list)) bad);
+        answer = sym (is_false (good list) bad);
         seen-is = λ q. absurd (false≢true q);
       }
         where
-          bad : good (places list) ≡ true → ⊥
-          bad g = false≢true (sym (good-cons y (drop k (places list)) ∙ rw (← same b e, t) refl) ∙ ap good (sym at) ∙ good-drop (k - 1) (places list) g)
+          bad : good list ≡ true → ⊥
+          bad g = false≢true (sym (good-cons y (drop k list) ∙ rw (← same b e, t) refl) ∙ ap good (sym at) ∙ good-drop (k - 1) list g)
 
     -- all places are passed
-    pub seeing-end : (seen : List ℕ) (k : ℕ) → Seeing seen k → k ≤ 0 → Tested n recs (places list) true seen
+    pub seeing-end : (seen : List ℕ) (k : ℕ) → Seeing seen k → k ≤ 0 → Tested n recs list true seen
     seeing-end seen k s p =
         let z : k ≡ 0 = omega arith in
         record {
@@ -164,15 +149,35 @@ module _ (n : ℕ) (recs : List ℕ) where
 
 -- ---- the objects
 
-module _ (n : ℕ) (t : ℕ → Bool) (i : ℕ) (b : Bool) (e : b ≡ t (i + 1)) where
-  pub seen_more : all_to i t ≡ true → b ≡ true → all_to (i + 1) t ≡ true
-  seen_more h f = let z : i + 1 ≡ suc i = omega arith in rw z (all_to-more i t h (rw z at (sym e ∙ f)))
+pub all_to-same : (n : ℕ) (s t : ℕ → Bool) → ((x : ℕ) → 1 ≤ x → x ≤ n → s x ≡ t x) → all_to n s ≡ all_to n t
+unfolding all_to
+all_to-same zero s t h = refl
+all_to-same (suc n) s t h = ap₂ (λ (a b : Bool). a && b) (all_to-same n s t (λ x p q. h x p (omega arith))) (h (suc n) (omega arith) (omega arith))
 
-  pub seen-stop : i < n → b ≡ false → false ≡ all_to n t
-  seen-stop l f = sym (all_to-fails n t (i + 1) (omega arith) (omega arith) (sym e ∙ f))
+-- the first of them apart
+pub all_to-front : (n : ℕ) (t : ℕ → Bool) → all_to (suc n) t ≡ (t 1 && all_to n (λ x. t (suc x)))
+unfolding all_to
+all_to-front zero t = swap (t 1)
+  where
+    swap : (b : Bool) → (true && b) ≡ (b && true)
+    swap true = refl
+    swap false = refl
+all_to-front (suc n) t =
+    ap (λ (b : Bool). b && t (suc (suc n))) (all_to-front n t) ∙ assoc (t 1) (all_to n (λ x. t (suc x))) (t (suc (suc n)))
+  where
+    assoc : (a b c : Bool) → ((a && b) && c) ≡ (a && (b && c))
+    assoc true b c = refl
+    assoc false b c = refl
 
-pub seen_end : (n i : ℕ) (t : ℕ → Bool) → i ≡ n → all_to i t ≡ true → true ≡ all_to n t
-seen_end n i t e h = sym (rw e at h)
+-- the numbers 0 to n - 1 asked, each for the next
+pub range-all : (n : ℕ) (t : ℕ → Bool) → list_all (λ i. t (i + 1)) (range_with_len 0 n) ≡ all_to n t
+range-all n t = go n 0 ∙ all_to-same n (λ x. t (0 + x)) t (λ x p q. ap t (omega arith))
+  where
+    go : (k a : ℕ) → list_all (λ i. t (i + 1)) (range_with_len a k) ≡ all_to k (λ x. t (a + x))
+    go zero a = unfold all_to in refl
+    go (suc k) a =
+        ap (λ (b : Bool). t (a + 1) && b) (go k (a + 1) ∙ all_to-same k (λ x. t (a + 1 + x)) (λ x. t (a + suc x)) (λ x p q. ap t (omega arith)))
+        ∙ sym (all_to-front k (λ x. t (a + x)))
 
 -- ---- the list
 
@@ -185,11 +190,6 @@ and-mid true true c = sym (last c)
 and-mid true false true = refl
 and-mid true false false = refl
 and-mid false b c = refl
-
-pub all_to-same : (n : ℕ) (s t : ℕ → Bool) → ((x : ℕ) → 1 ≤ x → x ≤ n → s x ≡ t x) → all_to n s ≡ all_to n t
-unfolding all_to
-all_to-same zero s t h = refl
-all_to-same (suc n) s t h = ap₂ (λ (a b : Bool). a && b) (all_to-same n s t (λ x p q. h x p (omega arith))) (h (suc n) (omega arith) (omega arith))
 
 module _ (n : ℕ) (recs list : List ℕ) where
   by_parts : list_ok n recs list ≡ (good n recs (places list) && all_to n (λ x. not (is_sink (rec_of n recs x)) || has x (places list)))

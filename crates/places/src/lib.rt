@@ -12,7 +12,7 @@ use layout::limits::OBJECT_MAX;
 use listed::{all_seen, none_listed, places_ok};
 use members::{put_members, word_of};
 use sets::{all_zero, fill_places, put_sets, same_words};
-use table::buffers::zero_sets;
+use table::buffers::zero;
 
 mod listed;
 mod members;
@@ -26,20 +26,14 @@ pub fn list_ok(n: u32, records: &[u32], sinks: &[u32]) -> bool
         return false;
     }
     let mut seen = [0u64; 64];
-    if !places_ok(n, records, sinks, &mut seen) {
-        return false;
-    }
-    all_seen(n, records, &seen)
+    places_ok(n, records, sinks, &mut seen) && all_seen(n, records, &seen)
 }
 
 // The set of cluster c, by the list as it stands; 0 where n is no size.
 pub fn cluster_set(n: u32, c: u32, records: &[u32], slots: &[u32], sinks: &[u32]) -> u64
     ensures { result ≡ cond (leb n object_max) (set_word (heap_in n records.now slots.now sinks.now) c) 0 }
 {
-    if OBJECT_MAX < n {
-        return 0;
-    }
-    if none_listed(sinks) {
+    if OBJECT_MAX < n || none_listed(sinks) {
         return 0;
     }
     let mut seen = [0u64; 64];
@@ -55,7 +49,7 @@ pub fn fill_sets(n: u32, records: &[u32], slots: &[u32], sinks: &[u32], sets: &m
     if OBJECT_MAX < n {
         return;
     }
-    zero_sets(sets, n as usize);
+    zero(sets, n as usize);
     if none_listed(sinks) {
         return;
     }
@@ -70,10 +64,7 @@ pub fn sets_ok(n: u32, records: &[u32], slots: &[u32], sinks: &[u32], sets: &[u6
     ensures { result ≡ leb n object_max && (not (short n sets.now)
         && sets_ok n records.now slots.now (last_places sinks.now) sets.now) }
 {
-    if OBJECT_MAX < n {
-        return false;
-    }
-    if sets.len() < n as usize {
+    if OBJECT_MAX < n || sets.len() < n as usize {
         return false;
     }
     // Without sinks no array has to be cleared.

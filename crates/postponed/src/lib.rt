@@ -2,8 +2,7 @@
 // a bit for each of them that is not 0.
 #![tactic(auto)]
 
-ghost use Rattle.std.specs.Prelude.{◌≡◌, ◌%◌, ◌≤◌, get_or, set};
-ghost use Rattle.std.specs.Int.Count.{count_trailing_zeros};
+ghost use Rattle.std.specs.Prelude.{◌≡◌, ◌%◌, get_or, set};
 ghost use Rattle.layout.specs.Field.{put_flag};
 ghost use Rattle.postponed.specs.Postponed as P;
 
@@ -17,19 +16,17 @@ fn put_bit(work: &mut [u32], at: usize, i: usize, on: bool) -> u32
     ensures value { result ≡ get_or work.new at 0 }
     ensures work_after { work.new ≡ set work.old at (put_flag (i % 32) on (get_or work.old at 0)) }
 {
-    if at < work.len() {
-        let w = with_bit(work[at], (i % 32) as u32, on);
-        work[at] = w;
-        return w;
-    }
-    0
+    let Some(old) = work.get(at) else { return 0 };
+    let w = with_bit(*old, (i % 32) as u32, on);
+    work[at] = w;
+    w
 }
 
 // The word at a place, 0 past the end.
 fn word_at(work: &[u32], at: usize) -> u32
     ensures { result ≡ get_or work.now at 0 }
 {
-    if at < work.len() { work[at] } else { 0 }
+    work.get(at).copied().unwrap_or(0)
 }
 
 // Object x of 1 to n is put into the set or taken out.
@@ -43,27 +40,18 @@ pub fn put(n: u32, work: &mut [u32], x: u32, on: bool)
     put_bit(work, 9 * m + (m / 32 + 1) + j / 32, j, w != 0);
 }
 
-// The place of the lowest set bit, 32 for a word that is 0.
-fn zeros(w: u32) -> u32
-    ensures { (result ≡ count_trailing_zeros 32 w) × (result ≤ 32) }
-{
-    u32::trailing_zeros(w)
-}
-
 // The lowest number of the set, 0 for none.
 pub fn lowest(n: u32, work: &[u32]) -> u32
     ensures { result ≡ P.lowest n work.now }
 {
     let m = n as usize;
     let base = 9 * m + (m / 32 + 1);
-    let mut k: usize = 0;
-    while k < SUMMARY_MAX {
+    for k in 0..SUMMARY_MAX {
         let w = word_at(work, base + k);
         if w != 0 {
-            let j = 32 * k + zeros(w) as usize;
-            return 32 * j as u32 + zeros(word_at(work, 9 * m + j));
+            let j = 32 * k + w.trailing_zeros() as usize;
+            return 32 * j as u32 + word_at(work, 9 * m + j).trailing_zeros();
         }
-        k += 1;
     }
     0
 }

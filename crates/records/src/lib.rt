@@ -18,6 +18,9 @@ pub const REACHED: u32 = 6;
 
 // ---- one bit
 
+// Each flag has a reader and a writer below, one line each over `bit_at` and `with_bit`: at a call, `is_sink(r)` says more than a
+// flag handed over beside the record, and the definitions name the flags in the same way.
+
 // Whether bit p, modulo 32, is set.
 fn bit_at(r: u32, p: u32) -> bool
     ensures { result ≡ flag (p % 32) r }

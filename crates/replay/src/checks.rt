@@ -1,50 +1,26 @@
 // The first reading of the lists: their lines are checked, and the names of the builds are kept.
-use crate::memory::*;
-use crate::page::*;
-use crate::text::*;
-use files::*;
-use lines::kinds::*;
+use crate::page::fail;
+use crate::text::Text;
+use files::{ROOM, Source, State, call_of, end_problem, next_line, opened};
+use lines::kinds::{Kind, Problem, problem_of};
 use lines::words::next_word;
 use std::fs::File;
 use std::io;
-use std::io::{Read, Seek, SeekFrom};
+use std::io::{Read, Seek};
 use std::rt::Files;
 
-// What is wrong with a list, by number: those of lines::kinds and of files.
-const PROBLEMS: [u8; 318] = *b"
-expected the name of a call
-expected a number
-expected a number below 4294967296
-expected the end of the line
-expected plain or clusters
-expected a name
-expected create, which is the first call of a list
-a second create, and a list has one
-expected create, and the list has no call
-the line is longer than 4096 bytes
-";
-
-// The file of a list, and what failed last as it was opened, read or set back: error 0, success, while nothing did.
+// A list that was opened: its file, what failed last as it was read (error 0, success, while nothing did), and the number of the last line
+// that was checked.
 #[derive(Drop)]
 pub(crate) struct List {
-    pub file: Option<File>,
+    file: File,
     pub why: io::Error,
-}
-
-// A list that is not open yet.
-pub(crate) fn closed() -> List {
-    List {
-        file: None,
-        why: io::Error::from_raw_os_error(0),
-    }
+    pub last: u64,
 }
 
 impl Read for List {
     fn read(&mut self, buf: &mut [u8]) -> io::Result<usize> {
-        let Some(file) = &mut self.file else {
-            return Err(self.why);
-        };
-        let got = file.read(buf);
+        let got = self.file.read(buf);
         if let Err(e) = got {
             self.why = e;
         }
@@ -52,138 +28,119 @@ impl Read for List {
     }
 }
 
-// What is known of a list so far. `problem` is 0 while nothing is wrong; wrote and loaded are the lengths of the builds' names, 0 for none.
-#[derive(Clone, Copy)]
-pub(crate) struct Check {
-    pub source: Source,
-    pub created: bool,
-    pub problem: u32,
-    pub wrote: usize,
-    pub loaded: usize,
+// The names of the builds that wrote and that loaded, each from the first line of a list that has it, and else empty. A line has at most
+// 4,096 bytes.
+#[derive(Drop)]
+pub(crate) struct Names {
+    pub wrote: Text<4096>,
+    pub loaded: Text<4096>,
 }
 
-// Keeps the second word of a line as a name, where none was kept before, and answers its length.
-fn keep_name(name: &mut Text, old: usize, s: Source, input: &Text) -> usize {
-    if old != 0 {
-        return old;
-    }
-    let first = next_word(input, s.start);
-    let second = next_word(input, first.end);
-    let end = if s.stop < second.end {
-        s.stop
-    } else {
-        second.end
-    };
-    copy(name, 0, input, second.start, end)
-}
-
-// Checks the next line.
-fn check_line(c: Check, list: &mut List, input: &mut Text, names: &mut Names) -> Check {
-    let source = next_line(c.source, list, input);
-    let mut call = no_call(0);
-    let mut problem = end_problem(source.state, c.created);
-    if source.state == LINE {
-        call = call_of(source, input);
-        problem = problem_of(call, c.created);
-    }
-    let mut wrote = c.wrote;
-    let mut loaded = c.loaded;
-    if call.kind == WROTE {
-        wrote = keep_name(&mut names[0], wrote, source, input);
-    }
-    if call.kind == LOADED {
-        loaded = keep_name(&mut names[1], loaded, source, input);
-    }
-    Check {
-        source,
-        created: c.created || call.kind == CREATE,
-        problem,
-        wrote,
-        loaded,
-    }
-}
-
-// Checks an open list to its end or to its first problem.
-fn check_list(begun: Check, list: &mut List, names: &mut Names) -> Check {
-    let mut input = [0u8; 65536];
-    let mut c = check_line(begun, list, &mut input, names);
-    let mut turns = u64::MAX;
-    while 0 < turns && c.problem == 0 && c.source.state == LINE {
-        c = check_line(c, list, &mut input, names);
-        turns -= 1;
-    }
-    c
-}
-
-// Says on standard error which line of the list at path is wrong, and why. The page is empty yet.
-fn complain<R: Eprint, W: Print>(
-    rt: &R,
-    err: &W,
-    page: &mut Text,
-    path: &str,
-    number: u64,
-    problem: u32,
-) {
-    let place = (problem != NO_CREATE) as usize;
-    let named = text(page, 0, path.as_bytes());
-    let colon = form(page, named, b": \n, line %: ", place, number);
-    let end = form(page, colon, &PROBLEMS, problem as usize, 0);
-    let last = text(page, end, b"\n");
-    flush(rt, err, page, last);
-}
-
-// Sets the file back to its first byte; a pipe cannot.
-fn rewind(list: &mut List) -> bool {
-    let Some(file) = &mut list.file else {
-        return false;
-    };
-    match file.seek(SeekFrom::Start(0)) {
-        Ok(at) => at == 0,
-        Err(e) => {
-            list.why = e;
-            false
+impl Names {
+    pub(crate) fn none() -> Names {
+        Names {
+            wrote: Text::new(),
+            loaded: Text::new(),
         }
     }
 }
 
-// Opens the list at path.
-fn open<R: Files<File = File>>(rt: &R, path: &str, list: &mut List) {
-    match File::open(rt, path) {
-        Ok(file) => list.file = Some(file),
-        Err(e) => list.why = e,
+// Why a list is not run: it cannot be read, this is wrong with a line of it, or this is wrong with it as a whole.
+#[derive(Clone, Copy)]
+enum Wrong {
+    Unreadable(io::Error),
+    Line(u64, Problem),
+    Whole(Problem),
+}
+
+impl From<io::Error> for Wrong {
+    fn from(why: io::Error) -> Wrong {
+        Wrong::Unreadable(why)
     }
 }
 
-// Opens the list at path, checks it, says what is wrong with it, and sets it back to its first line. It is number `fd` of the lists, 0 or 1. A
-// name of the build that wrote, of this length, is known already.
-pub(crate) fn check_path<R: Files<File = File> + Eprint, W: Print>(
-    rt: &R,
-    err: &W,
-    path: &str,
-    fd: i32,
-    wrote: usize,
-    list: &mut List,
-    page: &mut Text,
-    names: &mut Names,
-) -> Check {
-    open(rt, path, list);
-    let mut c = Check {
-        source: opened(fd),
-        created: false,
-        problem: UNREADABLE,
-        wrote,
-        loaded: 0,
+// Says on standard error why the list at path is not run.
+fn complain<R: Eprint>(rt: &R, path: &str, wrong: Wrong) {
+    match wrong {
+        Wrong::Unreadable(why) => fail(rt, path, why),
+        Wrong::Line(number, problem) => {
+            let _ = eprintln!(rt; "{path}, line {number}: {problem}");
+        }
+        Wrong::Whole(problem) => {
+            let _ = eprintln!(rt; "{path}: {problem}");
+        }
+    }
+}
+
+// Keeps the second word of the line found, where no name is kept yet.
+fn keep_name(name: &mut Text<4096>, s: Source, input: &[u8; ROOM]) {
+    if name.is_empty() {
+        let line = input.get(s.start..s.stop).unwrap_or(&[]);
+        let first = next_word(line, 0);
+        let second = next_word(line, first.end);
+        name.extend(line.get(second.start..second.end).unwrap_or(&[]));
+    }
+}
+
+// Checks the list to its end or to its first problem.
+fn check_lines(list: &mut List, names: &mut Names) -> Result<(), Wrong> {
+    let mut input = [0; ROOM];
+    let mut source = opened(0);
+    let mut created = false;
+    // Counted, since nothing says how many lines a file has.
+    for _ in 0..u64::MAX {
+        source = next_line(source, list, &mut input);
+        if source.state != State::Line {
+            break;
+        }
+        let line = call_of(source, &input);
+        if let Some(problem) = problem_of(line, created) {
+            return Err(Wrong::Line(source.number, problem));
+        }
+        let Ok(Some(call)) = line else {
+            continue;
+        };
+        match call.kind {
+            Kind::Create => created = true,
+            Kind::Wrote => keep_name(&mut names.wrote, source, &input),
+            Kind::Loaded => keep_name(&mut names.loaded, source, &input),
+            _ => {}
+        }
+    }
+    list.last = source.number;
+    match end_problem(source.state, created) {
+        None => Ok(()),
+        Some(Problem::Unreadable) => Err(Wrong::Unreadable(list.why)),
+        Some(Problem::NeverCreated) => Err(Wrong::Whole(Problem::NeverCreated)),
+        Some(problem) => Err(Wrong::Line(source.number, problem)),
+    }
+}
+
+// Opens the list at path, checks it, and sets it back to its first line. A pipe cannot be set back, and is refused at once.
+fn checked<R: Files<File = File>>(rt: &R, path: &str, names: &mut Names) -> Result<List, Wrong> {
+    let mut list = List {
+        file: File::open(rt, path)?,
+        why: io::Error::from_raw_os_error(0),
+        last: 0,
     };
-    if rewind(list) {
-        c.problem = 0;
-        c = check_list(c, list, names);
+    list.file.rewind()?;
+    check_lines(&mut list, names)?;
+    // If this fails, the list is not read again to its last line, which the report says.
+    let _ = list.file.rewind();
+    Ok(list)
+}
+
+// The list at path, ready to be run. Where it cannot be, standard error is told why.
+pub(crate) fn open<R: Files<File = File> + Eprint>(
+    rt: &R,
+    path: &str,
+    names: &mut Names,
+) -> Option<List> {
+    match checked(rt, path, names) {
+        Ok(list) => Some(list),
+        Err(wrong) => {
+            complain(rt, path, wrong);
+            None
+        }
     }
-    if c.problem == UNREADABLE {
-        fail(rt, path, list.why);
-    } else if c.problem != 0 {
-        complain(rt, err, page, path, c.source.number, c.problem);
-    } else {
-        rewind(list);
-    }
-    c
 }

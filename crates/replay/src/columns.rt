@@ -1,151 +1,132 @@
-// Two lists that are run on the buffers of their columns, line by line.
+// Two lists that are run side by side, line by line, each on buffers of its own.
 use crate::checks::List;
-use crate::memory::*;
-use crate::page::fail;
+use crate::memory::Memory;
+use crate::page::{Page, fail};
+use crate::pairs::{note_turn, put_turn, turn_of};
 use calls::{Ran, answer, as_run, run};
-use compare::turns::*;
-use files::*;
+use compare::turns::{State, Verdict, is_over, noted, state_after};
+use files::{Source, call_of, next_line, opened};
 use layout::control::no_control;
-use lines::kinds::{Call, no_call};
+use lines::kinds::Call;
 
 // A list that is run, plainly or as it says: the call run last, and what it answered.
-#[derive(Clone, Copy)]
-pub(crate) struct Column {
+#[derive(Drop)]
+pub(crate) struct Column<'a> {
+    list: List,
     pub source: Source,
-    pub plain: bool,
-    pub call: Call,
+    plain: bool,
+    pub call: Option<Call>,
     pub ran: Ran,
-    pub state: u32,
+    pub state: State,
+    pub memory: &'a mut Memory,
 }
 
-// The two columns, whether one list is run in both, the place in the page, the first difference, and whether both lists are at
-// their end.
-#[derive(Clone, Copy)]
-pub(crate) struct Both {
-    pub left: Column,
-    pub right: Column,
+impl<'a> Column<'a> {
+    // The column before the first line of its list.
+    pub(crate) fn new(list: List, plain: bool, memory: &'a mut Memory) -> Column<'a> {
+        Column {
+            list,
+            source: opened(0),
+            plain,
+            call: None,
+            ran: answer(0, 0, 0, 0, no_control(), 0),
+            state: State::Reading,
+            memory,
+        }
+    }
+
+    // Goes on to the next line, and runs its call.
+    fn next<R: Eprint>(&mut self, rt: &R) {
+        let memory = &mut *self.memory;
+        let source = next_line(self.source, &mut self.list, &mut memory.input);
+        match source.state {
+            files::State::Line => {
+                let call = call_of(source, &memory.input).unwrap_or(None);
+                self.source = source;
+                self.run(as_run(call, self.plain));
+            }
+            files::State::Failed => {
+                fail(rt, "read", self.list.why);
+                self.state = State::Done;
+            }
+            _ => self.state = State::Done,
+        }
+    }
+
+    // Whether the list was read to the last line that was checked.
+    pub(crate) fn is_whole(&self) -> bool {
+        self.source.number == self.list.last
+    }
+
+    pub(crate) fn roots(&self) -> u32 {
+        self.ran.control.r
+    }
+
+    // The call run last, where the column is at it in a turn.
+    pub(crate) fn called(&self, is_there: bool) -> Option<Call> {
+        if is_there { self.call } else { None }
+    }
+
+    fn run(&mut self, call: Option<Call>) {
+        let memory = &mut *self.memory;
+        self.ran = run(
+            call,
+            self.ran.control,
+            self.ran.saved,
+            &mut memory.records,
+            &mut memory.slots,
+            &mut memory.roots,
+            &mut memory.sinks,
+            &mut memory.sets,
+            &mut memory.work,
+            &mut memory.map,
+            &mut memory.image,
+        );
+        self.call = call;
+        self.state = state_after(call);
+    }
+}
+
+// The two columns, whether one list is run in both, the words of the objects that change hands, and the first difference.
+#[derive(Drop)]
+pub(crate) struct Columns<'a> {
+    pub left: Column<'a>,
+    pub right: Column<'a>,
     pub one: bool,
-    pub at: usize,
+    pub hands: [u64; 8192],
     pub verdict: Verdict,
-    pub over: bool,
 }
 
-fn start(fd: i32, plain: bool) -> Column {
-    Column {
-        source: opened(fd),
-        plain,
-        call: no_call(0),
-        ran: answer(0, 0, 0, 0, no_control(), 0),
-        state: READING,
+impl<'a> Columns<'a> {
+    // Runs both lists to their ends: a line of a column that is on its way to its next call, or else the next turn of both.
+    pub(crate) fn play<R: Print + Eprint>(&mut self, rt: &R, page: &mut Page) {
+        // Counted, since nothing says how many lines a file has.
+        for _ in 0..u64::MAX {
+            if self.left.state == State::Reading {
+                self.left.next(rt);
+            } else if self.right.state == State::Reading {
+                self.right.next(rt);
+            } else if self.turn(rt, page) {
+                break;
+            }
+        }
     }
-}
 
-// Both columns before the first lines of their lists.
-pub(crate) fn begin(first: i32, second: i32, one: bool, at: usize) -> Both {
-    Both {
-        left: start(first, one),
-        right: start(second, false),
-        one,
-        at,
-        verdict: Verdict { left: 0, right: 0 },
-        over: false,
-    }
-}
-
-// The column in another state.
-pub(crate) fn standing(p: Column, state: u32) -> Column {
-    let mut q = p;
-    q.state = state;
-    q
-}
-
-// Whether a column is on its way to its next call.
-pub(crate) fn is_reading(b: Both) -> bool {
-    b.left.state == READING || b.right.state == READING
-}
-
-// The column after its next line.
-fn next<R: Eprint>(
-    rt: &R,
-    p: Column,
-    side: usize,
-    lists: &mut [List; 2],
-    input: &mut [Text; 2],
-    records: &mut Records,
-    slots: &mut Slots,
-    roots: &mut Roots,
-    sinks: &mut Sinks,
-    sets: &mut Sets,
-    work: &mut Work,
-    map: &mut Map,
-    images: &mut Images,
-) -> Column {
-    if 1 < side {
-        return p;
-    }
-    let source = next_line(p.source, &mut lists[side], &mut input[side]);
-    if source.state == FAILED {
-        fail(rt, "read", lists[side].why);
-    }
-    if source.state != LINE {
-        return standing(p, DONE);
-    }
-    let call = as_run(call_of(source, &input[side]), p.plain);
-    let ran = run(
-        call,
-        p.ran.control,
-        p.ran.saved,
-        &mut records[side],
-        &mut slots[side],
-        &mut roots[side],
-        &mut sinks[side],
-        &mut sets[side],
-        &mut work[side],
-        &mut map[side],
-        &mut images[side],
-    );
-    Column {
-        source,
-        plain: p.plain,
-        call,
-        ran,
-        state: state_after(call),
-    }
-}
-
-// Both columns after the next line of the left one, if it is on its way, or else of the right one.
-pub(crate) fn step<R: Eprint>(
-    rt: &R,
-    b: Both,
-    lists: &mut [List; 2],
-    input: &mut [Text; 2],
-    records: &mut Records,
-    slots: &mut Slots,
-    roots: &mut Roots,
-    sinks: &mut Sinks,
-    sets: &mut Sets,
-    work: &mut Work,
-    map: &mut Map,
-    images: &mut Images,
-) -> Both {
-    let mut left = b.left;
-    let mut right = b.right;
-    let verdict = b.verdict;
-    if left.state == READING {
-        left = next(
-            rt, left, 0, lists, input, records, slots, roots, sinks, sets, work, map, images,
-        );
-    } else {
-        right = next(
-            rt, right, 1, lists, input, records, slots, roots, sinks, sets, work, map, images,
-        );
-    }
-    Both {
-        left,
-        right,
-        one: b.one,
-        at: b.at,
-        verdict,
-        over: false,
+    // The next turn of two columns that both wait: its row, what changed hands at it, and the first difference. Answers whether both lists
+    // are at their ends.
+    fn turn<R: Print + Eprint>(&mut self, rt: &R, page: &mut Page) -> bool {
+        let t = turn_of(&self.left, &self.right);
+        put_turn(rt, page, self, t);
+        note_turn(&mut self.hands, &self.left, &self.right, t);
+        let i = self.left.source.number;
+        let j = self.right.source.number;
+        self.verdict = noted(self.verdict, t, i, j);
+        if t.has_left {
+            self.left.state = State::Reading;
+        }
+        if t.has_right {
+            self.right.state = State::Reading;
+        }
+        is_over(t)
     }
 }

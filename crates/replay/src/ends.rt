@@ -1,262 +1,232 @@
 // What follows the rows of the calls: what survives, what changed hands, and the verdict.
-use crate::memory::*;
-use crate::page::*;
-use crate::text::*;
+use crate::columns::{Column, Columns};
+use crate::memory::Memory;
+use crate::page::Page;
 use crate::wording::*;
 use compare::hands::*;
 use compare::survivors::*;
-use compare::turns::*;
 use layout::limits::{OBJECT_MAX, ROOT_MAX, slots_len};
 use records::{is_sink, width_of};
-
-// What is told of an object that changed hands, by whether one list is run in both columns, in which column, and whether a root named it.
-const AGAIN: [u8; 799] =
-    *b"Object %: given again at line % (plain heap), while slot % of object % (as listed) still named it.
-Object %: given again at line % (plain heap), while root % (as listed) still named it.
-Object %: given again at line % (as listed), while slot % of object % (plain heap) still named it.
-Object %: given again at line % (as listed), while root % (plain heap) still named it.
-Object %: given again at line % (build that wrote), while slot % of object % (build that loaded) still named it.
-Object %: given again at line % (build that wrote), while root % (build that loaded) still named it.
-Object %: given again at line % (build that loaded), while slot % of object % (build that wrote) still named it.
-Object %: given again at line % (build that loaded), while root % (build that wrote) still named it.";
-
-// The last lines of reports.
-const VERDICTS: [u8; 389] = *b"A list was not read again as it was checked, so nothing is said.
-The columns agree.
-The columns differ in what survives.
-The columns differ: the build that wrote has more calls, from line % on.
-The columns differ: the build that loaded has more calls, from line % on.
-The columns differ first at line %.
-The columns differ first at line % (build that wrote) and line % (build that loaded).";
+use std::fmt;
 
 // ---- what survives
 
 // Object i + 1 of a column.
-fn object_cell(s: &mut Text, at: usize, i: u32, records: &[u32], slots: &[u32]) -> usize {
-    let record = word_at(records, i as usize);
-    if record == 0 {
-        return text(s, at, b"free");
+#[derive(Clone, Copy)]
+struct ObjectCell<'a>(&'a Memory, u32);
+
+impl<'a> fmt::Display for ObjectCell<'a> {
+    fn fmt<W: fmt::Write>(&self, f: &mut fmt::Formatter<W>) -> fmt::Result {
+        let ObjectCell(memory, i) = *self;
+        let record = word_at(&memory.records, i as usize);
+        if record == 0 {
+            return write!(f, "free");
+        }
+        let count = width_of(record);
+        write!(f, "width {count}")?;
+        if count != 0 {
+            let slots = &memory.slots;
+            let from = slots_len(i);
+            write!(f, ", {}", WordsText { slots, from, count })?;
+        }
+        if is_sink(record) {
+            write!(f, ", sink")?;
+        }
+        Ok(())
     }
-    let width = width_of(record);
-    let k = (width != 0) as usize;
-    let mut end = form(s, at, b"width %\nwidth %, ", k, width as u64);
-    if width != 0 {
-        end = words_text(s, end, slots, slots_len(i), width);
+}
+
+// Root j of a column.
+#[derive(Clone, Copy)]
+struct RootCell<'a>(&'a Column<'a>, u32);
+
+impl<'a> fmt::Display for RootCell<'a> {
+    fn fmt<W: fmt::Write>(&self, f: &mut fmt::Formatter<W>) -> fmt::Result {
+        let RootCell(column, j) = *self;
+        if j < column.roots() {
+            write!(f, "{}", WordText(word_at(&column.memory.roots, j as usize)))
+        } else {
+            write!(f, "no root")
+        }
     }
-    if is_sink(record) {
-        end = text(s, end, b", sink");
-    }
-    end
+}
+
+// The mark of a row whose columns differ.
+fn mark_of(same: bool) -> &'static str {
+    if same { "" } else { "* " }
 }
 
 // The row of object i + 1, unless it is free in both columns.
-fn object_row<R: Print + Eprint>(
-    rt: &R,
-    page: &mut Text,
-    at: usize,
-    i: u32,
-    recs: &Records,
-    slots: &Slots,
-) -> usize {
-    let x = word_at(&recs[0], i as usize);
-    let y = word_at(&recs[1], i as usize);
+fn object_row<R: Print + Eprint>(rt: &R, page: &mut Page, i: u32, left: &Memory, right: &Memory) {
+    let x = word_at(&left.records, i as usize);
+    let y = word_at(&right.records, i as usize);
     if x == 0 && y == 0 {
-        return at;
+        return;
     }
-    let mut s = [0u8; 65536];
-    let same = same_object(i, &recs[0], &slots[0], &recs[1], &slots[1]);
-    let k = same as usize;
-    let call = form(&mut s, 0, b"* object %\nobject %", k, i as u64 + 1);
-    let left = object_cell(&mut s, call, i, &recs[0], &slots[0]);
-    let right = object_cell(&mut s, left, i, &recs[1], &slots[1]);
-    put_row(rt, page, at, &s, call, left, right)
+    let same = same_object(i, &left.records, &left.slots, &right.records, &right.slots);
+    let mark = mark_of(same);
+    page.row(
+        rt,
+        format_args!("{mark}object {}", i + 1),
+        ObjectCell(left, i),
+        ObjectCell(right, i),
+    );
 }
 
-// Root j of a column of r roots.
-fn root_cell(s: &mut Text, at: usize, j: u32, r: u32, roots: &[u32]) -> usize {
-    if r <= j {
-        return text(s, at, b"no root");
-    }
-    word_text(s, at, word_at(roots, j as usize))
-}
-
-// The row of root j of columns of r and q roots, if one of them has it.
-fn root_row<R: Print + Eprint>(
-    rt: &R,
-    page: &mut Text,
-    at: usize,
-    j: u32,
-    r: u32,
-    q: u32,
-    roots: &Roots,
-) -> usize {
+// The row of root j, if one of the columns has it.
+fn root_row<R: Print + Eprint>(rt: &R, page: &mut Page, j: u32, left: &Column, right: &Column) {
+    let (r, q) = (left.roots(), right.roots());
     if r <= j && q <= j {
-        return at;
+        return;
     }
-    let mut s = [0u8; 65536];
-    let same = same_root(j, r, &roots[0], q, &roots[1]);
-    let call = form(&mut s, 0, b"* root %\nroot %", same as usize, j as u64);
-    let left = root_cell(&mut s, call, j, r, &roots[0]);
-    let right = root_cell(&mut s, left, j, q, &roots[1]);
-    put_row(rt, page, at, &s, call, left, right)
+    let mark = mark_of(same_root(j, r, &left.memory.roots, q, &right.memory.roots));
+    page.row(
+        rt,
+        format_args!("{mark}root {j}"),
+        RootCell(left, j),
+        RootCell(right, j),
+    );
 }
 
-// Whether all of the words are 0.
-fn is_empty(words: &[u32]) -> bool {
-    for i in 0..words.len() {
-        if words[i] != 0 {
-            return false;
-        }
-    }
-    true
+// Whether no object is in use.
+fn is_empty(memory: &Memory) -> bool {
+    memory.records.iter().all(|r| *r == 0)
 }
 
-// The objects that survive.
-fn object_rows<R: Print + Eprint>(
-    rt: &R,
-    page: &mut Text,
-    from: usize,
-    recs: &Records,
-    slots: &Slots,
-) -> usize {
-    let mut at = from;
-    if is_empty(&recs[0]) && is_empty(&recs[1]) {
-        at = line(rt, page, at, b"none");
+// The objects and roots that survive.
+fn survivors<R: Print + Eprint>(rt: &R, page: &mut Page, left: &Column, right: &Column) {
+    page.line(rt, "\nSurvivors");
+    if is_empty(&*left.memory) && is_empty(&*right.memory) {
+        page.line(rt, "none");
     }
     for i in 0..OBJECT_MAX {
-        at = object_row(rt, page, at, i, recs, slots);
+        object_row(rt, page, i, &*left.memory, &*right.memory);
     }
-    at
-}
-
-fn root_rows<R: Print + Eprint>(
-    rt: &R,
-    page: &mut Text,
-    from: usize,
-    r: u32,
-    q: u32,
-    roots: &Roots,
-) -> usize {
-    let mut at = from;
     for j in 0..ROOT_MAX {
-        at = root_row(rt, page, at, j, r, q, roots);
+        root_row(rt, page, j, left, right);
     }
-    at
 }
 
 // ---- what changed hands
 
-// The place in the page, and whether something was told.
-#[derive(Clone, Copy)]
-struct Told {
-    pub at: usize,
-    pub any: bool,
+// The name of a column, by whether one list is run in both.
+fn column_name(one: bool, is_left: bool) -> &'static str {
+    match (one, is_left) {
+        (true, true) => "plain heap",
+        (true, false) => "as listed",
+        (false, true) => "build that wrote",
+        (false, false) => "build that loaded",
+    }
 }
 
-// Tells of object x of a column, if it changed hands, as its word says.
+// The place that a word of an object that changed hands names.
+#[derive(Clone, Copy)]
+struct PlaceText(u64);
+
+impl fmt::Display for PlaceText {
+    fn fmt<W: fmt::Write>(&self, f: &mut fmt::Formatter<W>) -> fmt::Result {
+        let place = self.0;
+        if place < ROOT_PLACE as u64 {
+            write!(f, "slot {} of object {}", place % 8, place / 8 + 1)
+        } else {
+            write!(f, "root {}", place - ROOT_PLACE as u64)
+        }
+    }
+}
+
+// Tells of object x of a column, if it changed hands, as its word says. Answers whether it did.
 fn tell<R: Print + Eprint>(
     rt: &R,
-    t: Told,
-    page: &mut Text,
-    one: bool,
+    page: &mut Page,
+    columns: &Columns,
     is_left: bool,
-    x: u64,
-    word: u64,
-) -> Told {
+    x: u32,
+) -> bool {
+    let word = hand_of(&columns.hands, is_left, x);
     if word <= FREED {
-        return t;
+        return false;
     }
-    let place = word % 65536;
-    let is_root = ROOT_PLACE as u64 <= place;
-    let column = if one { 0 } else { 4 };
-    let side = if is_left { 0 } else { 2 };
-    let slot = if is_root {
-        place - ROOT_PLACE as u64
-    } else {
-        place % 8
-    };
-    let row = column | side | (is_root as usize);
     let line = word / 65536;
-    let object = place / 8 + 1;
-    let end = say(page, t.at, &AGAIN, row, x, line, slot, object);
-    Told {
-        at: end_line(rt, page, end),
-        any: true,
-    }
+    let place = PlaceText(word % 65536);
+    let here = column_name(columns.one, is_left);
+    let there = column_name(columns.one, !is_left);
+    page.line(
+        rt,
+        format_args!(
+            "Object {x}: given again at line {line} ({here}), while {place} ({there}) still named it."
+        ),
+    );
+    true
 }
 
 // What changed hands.
-fn hands_part<R: Print + Eprint>(
-    rt: &R,
-    page: &mut Text,
-    at: usize,
-    one: bool,
-    hands: &Hands,
-) -> usize {
-    let mut t = Told { at, any: false };
-    for x in 0..OBJECT_MAX + 1 {
-        t = tell(rt, t, page, one, true, x as u64, hand_of(hands, true, x));
-        t = tell(rt, t, page, one, false, x as u64, hand_of(hands, false, x));
+fn hands_part<R: Print + Eprint>(rt: &R, page: &mut Page, columns: &Columns) {
+    page.line(rt, "\nObjects that changed hands");
+    let mut any = false;
+    for x in 1..=OBJECT_MAX {
+        any |= tell(rt, page, columns, true, x);
+        any |= tell(rt, page, columns, false, x);
     }
-    if t.any {
-        t.at
-    } else {
-        line(rt, page, t.at, b"none")
+    if !any {
+        page.line(rt, "none");
     }
 }
 
 // ---- the verdict
 
-// The last line. `whole` says whether both lists were read to the last line that was checked, `same` whether the same survives in both columns.
-pub(crate) fn verdict_line<R: Print + Eprint>(
-    rt: &R,
-    page: &mut Text,
-    at: usize,
-    one: bool,
-    v: Verdict,
-    whole: bool,
-    same: bool,
-) {
-    let row = if !whole {
-        0
-    } else if v.left == 0 && v.right == 0 {
-        if same { 1 } else { 2 }
-    } else if v.left == 0 {
-        4
-    } else if v.right == 0 {
-        3
-    } else {
-        if one { 5 } else { 6 }
-    };
-    let first = if v.left == 0 { v.right } else { v.left };
-    let last = say(page, at, &VERDICTS, row, first, v.right, 0, 0);
-    let end = end_line(rt, page, last);
-    flush(rt, rt, page, end);
+// Whether the same survives in both columns.
+fn is_same(left: &Column, right: &Column) -> bool {
+    let (l, r) = (&*left.memory, &*right.memory);
+    same_objects(&l.records, &l.slots, &r.records, &r.slots)
+        && same_roots(left.roots(), &l.roots, right.roots(), &r.roots)
 }
 
-// What follows the rows of the calls but for the last line, for columns of r and q roots; answers the place after it.
-pub(crate) fn ends<R: Print + Eprint>(
-    rt: &R,
-    page: &mut Text,
-    at: usize,
-    one: bool,
-    r: u32,
-    q: u32,
-    hands: &Hands,
-    recs: &Records,
-    slots: &Slots,
-    roots: &Roots,
-) -> usize {
-    let survivors = line(rt, page, at, b"\nSurvivors");
-    let objects = object_rows(rt, page, survivors, recs, slots);
-    let rows = root_rows(rt, page, objects, r, q, roots);
-    let head = line(rt, page, rows, b"\nObjects that changed hands");
-    let told = hands_part(rt, page, head, one, hands);
-    end_line(rt, page, told)
+// The last line of a report.
+#[derive(Clone, Copy)]
+struct VerdictText<'a>(&'a Columns<'a>);
+
+impl<'a> fmt::Display for VerdictText<'a> {
+    fn fmt<W: fmt::Write>(&self, f: &mut fmt::Formatter<W>) -> fmt::Result {
+        let columns = self.0;
+        let verdict = columns.verdict;
+        if !(columns.left.is_whole() && columns.right.is_whole()) {
+            return write!(
+                f,
+                "A list was not read again as it was checked, so nothing is said."
+            );
+        }
+        match (verdict.left, verdict.right) {
+            (None, None) => {
+                if is_same(&columns.left, &columns.right) {
+                    write!(f, "The columns agree.")
+                } else {
+                    write!(f, "The columns differ in what survives.")
+                }
+            }
+            (Some(i), None) => write!(
+                f,
+                "The columns differ: the build that wrote has more calls, from line {i} on."
+            ),
+            (None, Some(j)) => write!(
+                f,
+                "The columns differ: the build that loaded has more calls, from line {j} on."
+            ),
+            (Some(i), Some(j)) => {
+                write!(f, "The columns differ first at line {i}")?;
+                if columns.one {
+                    return write!(f, ".");
+                }
+                write!(f, " (build that wrote) and line {j} (build that loaded).")
+            }
+        }
+    }
 }
 
-// Whether the same survives in columns of r and q roots.
-pub(crate) fn is_same(r: u32, q: u32, recs: &Records, slots: &Slots, roots: &Roots) -> bool {
-    let objects = same_objects(&recs[0], &slots[0], &recs[1], &slots[1]);
-    objects && same_roots(r, &roots[0], q, &roots[1])
+// What follows the rows of the calls, to the last line.
+pub(crate) fn ends<R: Print + Eprint>(rt: &R, page: &mut Page, columns: &Columns) {
+    survivors(rt, page, &columns.left, &columns.right);
+    hands_part(rt, page, columns);
+    page.line(rt, "");
+    page.line(rt, VerdictText(columns));
+    page.flush(rt);
 }

@@ -1,8 +1,9 @@
-// The page, which is written out when it is nearly full, and its rows: three cells side by side. A cell is broken at blanks into as many lines as it needs.
-use crate::memory::*;
-use crate::text::*;
-use files::*;
-use std::fmt::InlineText;
+// The page, which is written out when it is nearly full, and its rows: three cells side by side. A cell is broken at blanks into as many
+// lines as it needs.
+ghost use Rattle.std.specs.Prelude.{◌≤◌, ◌<◌, length};
+
+use crate::text::Text;
+use std::fmt::{Display, InlineText};
 use std::io;
 
 // The widths of the cells: that of a call, and those of two answers.
@@ -12,15 +13,6 @@ const ANSWER: usize = 30;
 
 // Behind this place the page is written out. A line is shorter than what is left.
 const FULL: usize = 49152;
-
-// The place in the page, and places in the cells of a row, which stand one behind the other: where each ends, or what is still to be written of each.
-#[derive(Clone, Copy)]
-struct Row {
-    pub at: usize,
-    pub call: usize,
-    pub left: usize,
-    pub right: usize,
-}
 
 // The text of an error without the number that the library puts behind the system's words.
 fn words_of(said: &str) -> &str {
@@ -37,119 +29,113 @@ pub(crate) fn fail<R: Eprint>(rt: &R, what: &str, why: io::Error) {
     let _ = eprintln!(rt; "{what}: {words}");
 }
 
-// Writes the page out to `to`, and answers its next place, 0.
-pub(crate) fn flush<R: Eprint, W: Print>(rt: &R, to: &W, page: &Text, at: usize) -> usize {
-    let whole = &page[..];
-    if ROOM < at {
-        return 0;
+// The next line of a cell, and what is left of the cell. The line ends at the last blank that leaves it at most `width` bytes, and that
+// blank is passed over, or after `width` bytes of a longer word.
+fn line_of(cell: &[u8], width: usize) -> (&[u8], &[u8])
+    ensures shorter { 0 < width → 0 < length cell.now → length result.1.now < length cell.now }
+    ensures no_longer { length result.1.now ≤ length cell.now }
+{
+    if cell.len() <= width {
+        return (cell, &[]);
     }
-    if let Err(e) = to.write_all(&whole[0..at]) {
-        fail(rt, "write", e);
-    }
-    0
+    let stop = match cell[1..width + 1].iter().rposition(|b| *b == b' ') {
+        Some(i) => i + 1,
+        None => width,
+    };
+    let (line, rest) = cell.split_at(stop);
+    (line, rest.strip_prefix(b" ").unwrap_or(rest))
 }
 
-// The end of a line.
-pub(crate) fn end_line<R: Print + Eprint>(rt: &R, page: &mut Text, at: usize) -> usize {
-    let end = text(page, at, b"\n");
-    if FULL < end {
-        flush(rt, rt, page, end)
-    } else {
-        end
-    }
+#[derive(Drop)]
+pub(crate) struct Page {
+    text: Text<65536>,
 }
 
-pub(crate) fn line<R: Print + Eprint>(rt: &R, page: &mut Text, at: usize, t: &[u8]) -> usize {
-    let end = text(page, at, t);
-    end_line(rt, page, end)
-}
-
-fn is_blank(cells: &Text, i: usize) -> bool {
-    i < ROOM && cells[i] == b' '
-}
-
-// Where the line that begins at start ends: at the last blank that leaves at most width bytes, or after width bytes of a longer word.
-fn line_stop(cells: &Text, start: usize, end: usize, width: usize) -> usize {
-    if end <= start {
-        return end;
+impl Page {
+    pub(crate) fn new() -> Page {
+        Page { text: Text::new() }
     }
-    if end - start <= width {
-        return end;
-    }
-    let last = start + width;
-    let mut stop = last;
-    while start < stop {
-        if is_blank(cells, stop) {
-            return stop;
+
+    // Writes out what is on the page.
+    pub(crate) fn flush<R: Print + Eprint>(&mut self, rt: &R) {
+        if let Err(e) = rt.write_all(self.text.bytes()) {
+            fail(rt, "write", e);
         }
-        stop -= 1;
+        self.text.clear();
     }
-    last
-}
 
-// The place after a line's end in a cell: a blank there is passed over.
-fn past(cells: &Text, stop: usize, end: usize) -> usize {
-    if stop < end && is_blank(cells, stop) {
-        return stop + 1;
+    fn end_line<R: Print + Eprint>(&mut self, rt: &R) {
+        self.text.put("\n");
+        if FULL < self.text.bytes().len() {
+            self.flush(rt);
+        }
     }
-    stop
-}
 
-// A line of a cell, with blanks up to `room` bytes.
-fn padded(page: &mut Text, at: usize, cells: &Text, from: usize, to: usize, room: usize) -> usize {
-    let end = copy(page, at, cells, from, to);
-    blanks(page, end, less(room, less(to, from)))
-}
-
-// The next line of the row from these places on, where its cells end at those.
-fn row_line<R: Print + Eprint>(rt: &R, page: &mut Text, cells: &Text, from: Row, ends: Row) -> Row {
-    let a = line_stop(cells, from.call, ends.call, CALL);
-    let b = line_stop(cells, from.left, ends.left, ANSWER);
-    let c = line_stop(cells, from.right, ends.right, ANSWER);
-    let first = padded(page, from.at, cells, from.call, a, CALL);
-    let bar = text(page, first, b" | ");
-    let second = padded(page, bar, cells, from.left, b, ANSWER);
-    let last = form(page, second, b" |\n | ", (from.right < c) as usize, 0);
-    let end = copy(page, last, cells, from.right, c);
-    Row {
-        at: end_line(rt, page, end),
-        call: past(cells, a, ends.call),
-        left: past(cells, b, ends.left),
-        right: past(cells, c, ends.right),
+    // Puts a line.
+    pub(crate) fn line<R: Print + Eprint>(&mut self, rt: &R, line: impl Display + Drop) {
+        self.text.put(line);
+        self.end_line(rt);
     }
-}
 
-// Whether text of a cell is left.
-fn has_more(from: Row, ends: Row) -> bool {
-    from.call < ends.call || from.left < ends.left || from.right < ends.right
-}
-
-// Writes the row of the three cells, which end at a, b and c, and answers the place after it.
-pub(crate) fn put_row<R: Print + Eprint>(
-    rt: &R,
-    page: &mut Text,
-    at: usize,
-    s: &Text,
-    a: usize,
-    b: usize,
-    c: usize,
-) -> usize {
-    let ends = Row {
-        at,
-        call: a,
-        left: b,
-        right: c,
-    };
-    let mut from = Row {
-        at,
-        call: 0,
-        left: a,
-        right: b,
-    };
-    let mut turns = ROOM;
-    while 0 < turns && has_more(from, ends) {
-        from = row_line(rt, page, s, from, ends);
-        turns -= 1;
+    // Puts a line of a label and a name, which need not be text.
+    pub(crate) fn labelled<R: Print + Eprint>(&mut self, rt: &R, label: &str, name: &[u8]) {
+        self.text.put(label);
+        self.text.extend(name);
+        self.end_line(rt);
     }
-    from.at
+
+    // Puts a line of a cell, with blanks up to its width.
+    fn padded(&mut self, line: &[u8], width: usize) {
+        self.text.extend(line);
+        for _ in line.len()..width {
+            self.text.put(" ");
+        }
+    }
+
+    // Puts a line of a row, of these lines of its cells.
+    fn row_line<R: Print + Eprint>(&mut self, rt: &R, call: &[u8], left: &[u8], right: &[u8]) {
+        self.padded(call, CALL);
+        self.text.put(" | ");
+        self.padded(left, ANSWER);
+        self.text.put(if right.is_empty() { " |" } else { " | " });
+        self.text.extend(right);
+        self.end_line(rt);
+    }
+
+    // Puts the lines of a row of these cells.
+    fn row_lines<R: Print + Eprint>(
+        &mut self,
+        rt: &R,
+        mut call: &[u8],
+        mut left: &[u8],
+        mut right: &[u8],
+    ) {
+        while !(call.is_empty() && left.is_empty() && right.is_empty()) {
+            let (a, after_a) = line_of(call, CALL);
+            let (b, after_b) = line_of(left, ANSWER);
+            let (c, after_c) = line_of(right, ANSWER);
+            self.row_line(rt, a, b, c);
+            call = after_a;
+            left = after_b;
+            right = after_c;
+        }
+    }
+
+    // Puts a row. The longest calls are a pair of creates, in under 200 bytes, and the longest answer names 4,095 freed objects, in under
+    // 24,000.
+    pub(crate) fn row<R: Print + Eprint>(
+        &mut self,
+        rt: &R,
+        call: impl Display + Drop,
+        left: impl Display + Drop,
+        right: impl Display + Drop,
+    ) {
+        let mut first = Text::<256>::new();
+        let mut second = Text::<32768>::new();
+        let mut third = Text::<32768>::new();
+        first.put(call);
+        second.put(left);
+        third.put(right);
+        self.row_lines(rt, first.bytes(), second.bytes(), third.bytes());
+    }
 }

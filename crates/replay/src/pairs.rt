@@ -1,147 +1,139 @@
 // Two columns beside each other: the k-th call of one with the k-th of the other. Analyses have rows of their own.
-use crate::columns::{Both, Column, standing};
-use crate::memory::*;
-use crate::page::*;
-use crate::text::*;
+use crate::columns::{Column, Columns};
+use crate::page::Page;
 use crate::wording::*;
-use calls::Ran;
-use compare::answers::{same_answers, same_call};
+use compare::answers::same_answers;
 use compare::hands::*;
 use compare::turns::*;
-use lines::kinds::*;
+use std::fmt;
 
-// ---- the cells of a row
+// ---- the row of a turn
 
-// A line's number, in this form, and its call.
-fn numbered(cells: &mut Text, at: usize, name: &[u8], i: u64, x: Call) -> usize {
-    let end = form(cells, at, name, 0, i);
-    call_text(cells, end, x)
+// The calls of a turn, with one number or one call where they have it in common.
+#[derive(Clone, Copy)]
+struct CallCell<'a> {
+    columns: &'a Columns<'a>,
+    turn: Turn,
 }
 
-// The calls x and y of a turn, from lines i and j, with one number or one call where they have it in common.
-fn call_cell(cells: &mut Text, t: Turn, one: bool, i: u64, x: Call, j: u64, y: Call) -> usize {
-    let at = form(cells, 0, b"\n* ", t.mark as usize, 0);
-    if !t.has_right {
-        return numbered(cells, at, b"Line %, ", i, x);
+impl<'a> fmt::Display for CallCell<'a> {
+    fn fmt<W: fmt::Write>(&self, f: &mut fmt::Formatter<W>) -> fmt::Result {
+        let left = &self.columns.left;
+        let right = &self.columns.right;
+        let (i, j) = (left.source.number, right.source.number);
+        if self.turn.mark {
+            write!(f, "* ")?;
+        }
+        match (
+            left.called(self.turn.has_left),
+            right.called(self.turn.has_right),
+        ) {
+            (None, None) => Ok(()),
+            (Some(x), None) => write!(f, "Line {i}, {}", CallText(x)),
+            (None, Some(y)) => write!(f, "Line {j}, {}", CallText(y)),
+            (Some(x), Some(y)) => {
+                let same = x == y;
+                if self.columns.one || (i == j && same) {
+                    write!(f, "Line {j}, {}", CallText(y))
+                } else if same {
+                    write!(f, "Lines {i} and {j}, {}", CallText(y))
+                } else {
+                    write!(f, "Line {i}, {}; line {j}, {}", CallText(x), CallText(y))
+                }
+            }
+        }
     }
-    let same = same_call(x, y);
-    if !t.has_left || one || (i == j && same) {
-        return numbered(cells, at, b"Line %, ", j, y);
-    }
-    if same {
-        let end = say(cells, at, b"Lines % and %, ", 0, i, j, 0, 0);
-        return call_text(cells, end, y);
-    }
-    let first = numbered(cells, at, b"Line %, ", i, x);
-    numbered(cells, first, b"; line %, ", j, y)
 }
 
-// What a column answered, or what is printed where it has no call in this row: a line of the table below 3.
-fn answer_cell(s: &mut Text, at: usize, p: Column, k: usize, slots: &[u32], map: &[u64]) -> usize {
-    if k < 3 {
-        return form(s, at, b"\nleft out\nno call", k, 0);
+// What stands in a column's cell: what it answered, or what is printed where it has no call in this turn.
+#[derive(Clone, Copy)]
+enum AnswerCell<'a> {
+    Empty,
+    LeftOut,
+    NoCall,
+    Answer(AnswerText<'a>),
+}
+
+impl<'a> fmt::Display for AnswerCell<'a> {
+    fn fmt<W: fmt::Write>(&self, f: &mut fmt::Formatter<W>) -> fmt::Result {
+        match self {
+            AnswerCell::Empty => Ok(()),
+            AnswerCell::LeftOut => write!(f, "left out"),
+            AnswerCell::NoCall => write!(f, "no call"),
+            AnswerCell::Answer(answer) => write!(f, "{answer}"),
+        }
     }
-    answer_text(s, at, p.call.kind, p.ran, slots, map)
+}
+
+// The cell of a column that is at this turn or not.
+fn answer_cell<'a>(column: &'a Column, is_there: bool, mark: bool, one: bool) -> AnswerCell<'a> {
+    match column.called(is_there) {
+        Some(call) => AnswerCell::Answer(AnswerText {
+            kind: call.kind,
+            ran: column.ran,
+            slots: &column.memory.slots,
+            map: &column.memory.map,
+        }),
+        None if mark => AnswerCell::NoCall,
+        None if one => AnswerCell::LeftOut,
+        None => AnswerCell::Empty,
+    }
+}
+
+// Whether a column that is at this turn or not has an answer to print.
+fn is_told(column: &Column, is_there: bool) -> bool {
+    match column.called(is_there) {
+        Some(call) => has_answer(call.kind, column.ran),
+        None => false,
+    }
 }
 
 // Whether a turn has a row: a difference, or an answer to print.
-fn has_row(t: Turn, j: usize, x: Ran, k: usize, y: Ran) -> bool {
-    let left = t.has_left && has_answer(j, x);
-    let right = t.has_right && has_answer(k, y);
-    (t.mark && !is_over(t)) || left || right
+fn has_row(left: &Column, right: &Column, t: Turn) -> bool {
+    (t.mark && !is_over(t)) || is_told(left, t.has_left) || is_told(right, t.has_right)
 }
 
-// The row of a turn, if it has one; answers the place in the page after it.
-fn turn_row<R: Print + Eprint>(
-    rt: &R,
-    b: Both,
-    t: Turn,
-    page: &mut Text,
-    slots: &Slots,
-    map: &Map,
-) -> usize {
-    let l = b.left;
-    let r = b.right;
-    if !has_row(t, l.call.kind, l.ran, r.call.kind, r.ran) {
-        return b.at;
+// Puts the row of a turn, if it has one.
+pub(crate) fn put_turn<R: Print + Eprint>(rt: &R, page: &mut Page, columns: &Columns, t: Turn) {
+    let left = &columns.left;
+    let right = &columns.right;
+    let one = columns.one;
+    if has_row(left, right, t) {
+        page.row(
+            rt,
+            CallCell { columns, turn: t },
+            answer_cell(left, t.has_left, t.mark, one),
+            answer_cell(right, t.has_right, t.mark, one),
+        );
     }
-    let mut s = [0u8; 65536];
-    let none = if t.mark { 2 } else { b.one as usize };
-    let j = if t.has_left { 3 } else { none };
-    let k = if t.has_right { 3 } else { none };
-    let m = l.source.number;
-    let n = r.source.number;
-    let call = call_cell(&mut s, t, b.one, m, l.call, n, r.call);
-    let left = answer_cell(&mut s, call, l, j, &slots[0], &map[0]);
-    let right = answer_cell(&mut s, left, r, k, &slots[1], &map[1]);
-    put_row(rt, page, b.at, &s, call, left, right)
 }
 
 // ---- going on
 
 // Notes what changed hands at the calls of this turn, and what they freed.
-fn note_turn(
-    l: Column,
-    r: Column,
-    t: Turn,
-    hands: &mut Hands,
-    recs: &Records,
-    slots: &Slots,
-    roots: &Roots,
-    map: &Map,
-) {
-    let i = l.source.number;
-    let j = r.source.number;
-    let x = given(t.has_left, l.call.kind, l.ran);
-    let y = given(t.has_right, r.call.kind, r.ran);
-    note_given(hands, true, x, y, i, &recs[1], &slots[1], &roots[1]);
-    note_given(hands, false, y, x, j, &recs[0], &slots[0], &roots[0]);
-    if did_collect(t.has_left, l.call.kind, l.ran) {
-        keep_freed(hands, true, &map[0]);
+pub(crate) fn note_turn(hands: &mut [u64; 8192], left: &Column, right: &Column, t: Turn) {
+    let i = left.source.number;
+    let j = right.source.number;
+    let x = given(t.has_left, left.call, left.ran);
+    let y = given(t.has_right, right.call, right.ran);
+    let (l, r) = (&*left.memory, &*right.memory);
+    note_given(hands, true, x, y, i, &r.records, &r.slots, &r.roots);
+    note_given(hands, false, y, x, j, &l.records, &l.slots, &l.roots);
+    if did_collect(t.has_left, left.call, left.ran) {
+        keep_freed(hands, true, &l.map);
     }
-    if did_collect(t.has_right, r.call.kind, r.ran) {
-        keep_freed(hands, false, &map[1]);
+    if did_collect(t.has_right, right.call, right.ran) {
+        keep_freed(hands, false, &r.map);
     }
 }
 
 // What comes next of two columns that both wait.
-fn turn_of(l: Column, r: Column, slots: &Slots, map: &Map) -> Turn {
-    let mut same = true;
-    if l.state == AT_CALL && r.state == AT_CALL {
-        let x = l.ran;
-        let y = r.ran;
-        same = same_answers(l.call, r.call, x, y, &slots[0], &map[0], &slots[1], &map[1]);
-    }
-    next_turn(l.state, r.state, same)
-}
-
-// The column on its way to its next call, if it was at this turn.
-fn onward(p: Column, is_there: bool) -> Column {
-    if is_there { standing(p, READING) } else { p }
-}
-
-// The next turn of two columns that both wait: its row, what changed hands at it, and the first difference.
-pub(crate) fn turn<R: Print + Eprint>(
-    rt: &R,
-    b: Both,
-    page: &mut Text,
-    hands: &mut Hands,
-    records: &Records,
-    slots: &Slots,
-    roots: &Roots,
-    map: &Map,
-) -> Both {
-    let l = b.left;
-    let r = b.right;
-    let t = turn_of(l, r, slots, map);
-    let at = turn_row(rt, b, t, page, slots, map);
-    note_turn(l, r, t, hands, records, slots, roots, map);
-    Both {
-        left: onward(l, t.has_left),
-        right: onward(r, t.has_right),
-        one: b.one,
-        at,
-        verdict: noted(b.verdict, t, l.source.number, r.source.number),
-        over: is_over(t),
-    }
+pub(crate) fn turn_of(left: &Column, right: &Column) -> Turn {
+    let (l, r) = (&*left.memory, &*right.memory);
+    let same = left.state != State::AtCall
+        || right.state != State::AtCall
+        || same_answers(
+            left.call, right.call, left.ran, right.ran, &l.slots, &l.map, &r.slots, &r.map,
+        );
+    next_turn(left.state, right.state, same)
 }

@@ -1,162 +1,203 @@
-// Calls, words and answers as text.
-use crate::memory::*;
-use crate::text::*;
+// Calls, words and answers as they are printed.
 use bitmap::has_bit;
 use calls::Ran;
-use compare::survivors::word_at;
 use layout::limits::OBJECT_MAX;
+use layout::refusals::Refusal;
 use layout::words::{Word, sort_word};
-use lines::kinds::*;
-use lines::words::{Span, next_word};
-use std::num::wrapping_add_usize;
-
-// The words for refusals: those of arguments, up to 7, then those of a heap's state, of an image and of the analysis, from 20 on.
-const REASONS: [u8; 372] = *b"
-sizes out of range
-a buffer is too short
-width above 8
-no such object
-no such slot
-illegal word
-no such root
-control record out of order
-the heap is damaged
-the object is free
-the word names a free object
-no object is free
-the write loss is too large
-the image is cut
-the image is not a heap
-a chunk of unknown kind
-64 sinks are listed
-an analysis number is out of range
-";
-
-// The answers of accepted calls.
-const ANSWERS: [u8; 136] = *b"accepted
-object %
-clusters %, members %
-bytes %
-objects %, roots %
-freed %, kept %, scanned %
-freed %, kept %, scanned %; freed objects ";
-
-// The word of the table for a kind of line: the first of each row, which has two.
-fn word_of(kind: usize) -> Span {
-    let mut w = next_word(&TABLE, 0);
-    for _ in 1..kind {
-        let count = next_word(&TABLE, w.end);
-        w = next_word(&TABLE, count.end);
-    }
-    w
-}
+use lines::kinds::{Call, Kind};
+use std::fmt;
 
 // A number, in hexadecimal from 65536 on.
-fn number_text(s: &mut Text, at: usize, w: u32) -> usize {
-    form(s, at, b" %\n $", (65535 < w) as usize, w as u64)
+#[derive(Clone, Copy)]
+struct Number(u32);
+
+impl fmt::Display for Number {
+    fn fmt<W: fmt::Write>(&self, f: &mut fmt::Formatter<W>) -> fmt::Result {
+        let n = self.0;
+        if n < 65536 {
+            write!(f, "{n}")
+        } else {
+            write!(f, "{n:#010x}")
+        }
+    }
+}
+
+// The name of a kind of call.
+fn name_of(kind: Kind) -> &'static str {
+    match kind {
+        Kind::Wrote => "wrote",
+        Kind::Loaded => "loaded",
+        Kind::Create => "create",
+        Kind::Allocate => "allocate",
+        Kind::Read => "read",
+        Kind::Show => "show",
+        Kind::Write => "write",
+        Kind::Root => "root",
+        Kind::Sink => "sink",
+        Kind::Analyse => "analyse",
+        Kind::Collect => "collect",
+        Kind::Save => "save",
+        Kind::Load => "load",
+    }
 }
 
 // A call with its numbers.
-pub(crate) fn call_text(s: &mut Text, at: usize, call: Call) -> usize {
-    let w = word_of(call.kind);
-    let numbers = call.numbers;
-    let mut end = copy(s, at, &TABLE, w.start, w.end);
-    if call.kind == COLLECT {
-        let row = (numbers[0] != 0) as usize;
-        return form(s, end, b" plain\n clusters", row, 0);
-    }
-    for k in 0..MOST {
-        if (k as u32) < call.count {
-            end = number_text(s, end, numbers[k]);
+#[derive(Clone, Copy)]
+pub(crate) struct CallText(pub Call);
+
+impl fmt::Display for CallText {
+    fn fmt<W: fmt::Write>(&self, f: &mut fmt::Formatter<W>) -> fmt::Result {
+        let Call { kind, count, .. } = self.0;
+        let name = name_of(kind);
+        write!(f, "{name}")?;
+        if kind == Kind::Collect {
+            let way = if self.0.numbers[0] == 0 {
+                "plain"
+            } else {
+                "clusters"
+            };
+            return write!(f, " {way}");
         }
+        for n in self.0.numbers.iter().take(count as usize) {
+            write!(f, " {}", Number(*n))?;
+        }
+        Ok(())
     }
-    end
 }
 
-fn refused(s: &mut Text, at: usize, refusal: u32) -> usize {
-    let end = form(s, at, b"refused %: ", 0, refusal as u64);
-    let row = if refusal < 20 { refusal } else { refusal - 12 };
-    form(s, end, &REASONS, row as usize, 0)
+// A refusal of this number, with its words.
+#[derive(Clone, Copy)]
+struct Refused(u32);
+
+impl fmt::Display for Refused {
+    fn fmt<W: fmt::Write>(&self, f: &mut fmt::Formatter<W>) -> fmt::Result {
+        let number = self.0;
+        write!(f, "refused {number}: ")?;
+        match Refusal::try_from(number) {
+            Ok(refusal) => write!(f, "{refusal}"),
+            Err(_) => Ok(()),
+        }
+    }
 }
 
 // A word of a heap.
-pub(crate) fn word_text(s: &mut Text, at: usize, w: u32) -> usize {
-    let row = match sort_word(OBJECT_MAX, w) {
-        Word::Nil => 0,
-        Word::Object(_) => 1,
-        Word::Immediate => 2,
-        Word::Illegal => 3,
-    };
-    form(s, at, b"nil\nobject %\nimmediate $\n$", row, w as u64)
-}
+#[derive(Clone, Copy)]
+pub(crate) struct WordText(pub u32);
 
-// The slots from `from` on, n of them.
-pub(crate) fn words_text(s: &mut Text, at: usize, slots: &[u32], from: usize, n: u32) -> usize {
-    if n == 0 {
-        return text(s, at, b"no words");
-    }
-    let mut end = text(s, at, b"words ");
-    let mut i = from;
-    for k in 0..n {
-        if 0 < k {
-            end = text(s, end, b", ");
+impl fmt::Display for WordText {
+    fn fmt<W: fmt::Write>(&self, f: &mut fmt::Formatter<W>) -> fmt::Result {
+        let w = self.0;
+        match sort_word(OBJECT_MAX, w) {
+            Word::Nil => write!(f, "nil"),
+            Word::Object(x) => write!(f, "object {x}"),
+            Word::Immediate => write!(f, "immediate {w:#010x}"),
+            Word::Illegal => write!(f, "{w:#010x}"),
         }
-        end = word_text(s, end, word_at(slots, i));
-        i = wrapping_add_usize(i, 1);
     }
-    end
 }
 
-// The numbers in the set.
-fn set_text(s: &mut Text, at: usize, map: &[u64]) -> usize {
-    let mut end = at;
-    for i in 1..4096 {
-        if has_bit(map, i) {
-            if at < end {
-                end = text(s, end, b", ");
+// So many slots from a place on.
+#[derive(Clone, Copy)]
+pub(crate) struct WordsText<'a> {
+    pub slots: &'a [u32],
+    pub from: usize,
+    pub count: u32,
+}
+
+impl<'a> fmt::Display for WordsText<'a> {
+    fn fmt<W: fmt::Write>(&self, f: &mut fmt::Formatter<W>) -> fmt::Result {
+        if self.count == 0 {
+            return write!(f, "no words");
+        }
+        let shown = self.slots.iter().skip(self.from).take(self.count as usize);
+        for (k, w) in shown.enumerate() {
+            let before = if k == 0 { "words " } else { ", " };
+            write!(f, "{before}{}", WordText(*w))?;
+        }
+        Ok(())
+    }
+}
+
+// The objects of a set.
+#[derive(Clone, Copy)]
+struct SetText<'a>(&'a [u64]);
+
+impl<'a> fmt::Display for SetText<'a> {
+    fn fmt<W: fmt::Write>(&self, f: &mut fmt::Formatter<W>) -> fmt::Result {
+        let mut before = "";
+        for x in 1..4096 {
+            if has_bit(self.0, x) {
+                write!(f, "{before}{x}")?;
+                before = ", ";
             }
-            end = form(s, end, b"%", 0, i as u64);
+        }
+        Ok(())
+    }
+}
+
+// What a call of this kind answered, by a heap with these slots and this map.
+#[derive(Clone, Copy)]
+pub(crate) struct AnswerText<'a> {
+    pub kind: Kind,
+    pub ran: Ran,
+    pub slots: &'a [u32],
+    pub map: &'a [u64],
+}
+
+impl<'a> fmt::Display for AnswerText<'a> {
+    fn fmt<W: fmt::Write>(&self, f: &mut fmt::Formatter<W>) -> fmt::Result {
+        let Ran {
+            refusal,
+            a,
+            b,
+            c,
+            ..
+        } = self.ran;
+        if refusal != 0 {
+            return write!(f, "{}", Refused(refusal));
+        }
+        match self.kind {
+            Kind::Allocate => write!(f, "object {a}"),
+            Kind::Read => write!(f, "{}", WordText(a)),
+            Kind::Show => {
+                let slots = self.slots;
+                let from = a as usize;
+                write!(
+                    f,
+                    "{}",
+                    WordsText {
+                        slots,
+                        from,
+                        count: b
+                    }
+                )
+            }
+            Kind::Analyse => write!(f, "clusters {a}, members {b}"),
+            Kind::Collect => {
+                write!(f, "freed {a}, kept {b}, scanned {c}")?;
+                if a == 0 {
+                    return Ok(());
+                }
+                write!(f, "; freed objects {}", SetText(self.map))
+            }
+            Kind::Save => write!(f, "bytes {a}"),
+            Kind::Load => write!(f, "objects {a}, roots {b}"),
+            _ => write!(f, "accepted"),
         }
     }
-    end
 }
 
-// The row of ANSWERS for an accepted call of this kind, which freed so many objects.
-fn answer_row(kind: usize, freed: u32) -> usize {
-    match kind {
-        ALLOCATE => 1,
-        ANALYSE => 2,
-        SAVE => 3,
-        LOAD => 4,
-        COLLECT => { if freed == 0 { 5 } else { 6 } }
-        _ => 0,
-    }
-}
-
-// What a call of this kind answered.
-pub(crate) fn answer_text(
-    s: &mut Text,
-    at: usize,
-    kind: usize,
-    r: Ran,
-    slots: &[u32],
-    map: &[u64],
-) -> usize {
-    if r.refusal != 0 {
-        return refused(s, at, r.refusal);
-    }
-    if kind == READ {
-        return word_text(s, at, r.a);
-    }
-    if kind == SHOW {
-        return words_text(s, at, slots, r.a as usize, r.b);
-    }
-    let row = answer_row(kind, r.a);
-    let end = say(s, at, &ANSWERS, row, r.a as u64, r.b as u64, r.c as u64, 0);
-    if row == 6 { set_text(s, end, map) } else { end }
-}
-
-// Whether there is an answer to print.
-pub(crate) fn has_answer(kind: usize, ran: Ran) -> bool {
-    ran.refusal != 0 || kind == READ || kind == SHOW || answer_row(kind, 0) != 0
+// Whether there is more to print of an answer than that the call was accepted.
+pub(crate) fn has_answer(kind: Kind, ran: Ran) -> bool {
+    let is_told = matches!(
+        kind,
+        Kind::Allocate
+            | Kind::Read
+            | Kind::Show
+            | Kind::Analyse
+            | Kind::Collect
+            | Kind::Save
+            | Kind::Load
+    );
+    ran.refusal != 0 || is_told
 }

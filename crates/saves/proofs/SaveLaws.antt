@@ -7,19 +7,26 @@ use mathlib.Core.Logic.{◌≢◌}
 use mathlib.Core.List.{List, [], ◌∷◌, ◌++◌, append_assoc, append-nil}
 use native.Mathlib.Nat.{add-zero}
 use native.Mathlib.Numerals.{add-one}
-use native.Mathlib.Decide.{dec_le, ℕ_discrete}
+use native.Mathlib.Decide.{dec_le}
 use native.Mathlib.Omega.{arith}
 use lib.Dec.{eqb}
 use lib.ListN.{length, get_or, take, drop, set, length-append, length-take, length-drop, drop_of_length-le}
-use lib.Seq.{sets, sets-eq, length-sets, take-suc, length-take-le, get_or-drop}
+use lib.Seq.{sets, sets-eq, length-sets, take-suc, length-take-le}
 use borrow.Rule.Slice.PartMut.{put_mid, Post-is, mid_of, mid_len}
 use borrow.Author.Tests.{eq-eqb, ne_eqb, lt-ltb, le-ltb, not-false}
 use Rattle.layout.specs.declared.answers.Control.{Control}
 use Rattle.layout.specs.ControlRecord.{bad_control}
-use Rattle.layout.specs.Refusal.{Test, first}
+use Rattle.std.specs.Prelude.{Ok, Err}
+use Rattle.std.specs.List.{sum_by, count_by}
+use Rattle.std.proofs.lemmas.List.{take_all}
+use Rattle.std.proofs.lemmas.List.Sums.{sum_by_more}
+use Rattle.std.proofs.lemmas.List.Recursion.{is_count_by}
+use Rattle.layout.specs.declared.refusals.Refusal.{Refusal}
+use Rattle.layout.specs.declared.refusals.Refusal.TheVariants.{TooShort}
+use Rattle.layout.specs.Refusal.{Test, number, first}
 use Rattle.layout.proofs.BoolLaws.{or_split}
 use Rattle.layout.proofs.ControlLaws.{control-facts}
-use Rattle.layout.proofs.RefusalLaws.{nil, cons, first_holds, first-fails, first-passed, first-front, first-skip, first-zero, outcome-zero, outcome-number}
+use Rattle.layout.proofs.RefusalLaws.{numbered, nil, cons, first_holds, first-fails, first-passed, first-front, first-skip, first-zero, outcome-zero, outcome-number}
 use Rattle.layout.specs.Field.{field, digit}
 use Rattle.layout.specs.Limits.{object_max, root_max, width_max, sink_max}
 use Rattle.records.specs.Record.{in_use, is_sink, width}
@@ -40,7 +47,7 @@ use Rattle.rules.proofs.SaneLaws.{sane-width}
 use Rattle.rules.proofs.ImageLaws.{chunk-length}
 use Rattle.table.proofs.RoomLaws.{heap-long}
 use Rattle.wellformed.specs.Check.{heap_tests}
-use Rattle.saves.specs.Saves.{record_len, objects_len, objects_to, object_at, sinks_len, Writable, ObjectRoom, ObjectPut, Savable}
+use Rattle.saves.specs.Saves.{record_len, objects_len, objects_to, object_at, sinks_len, Writable, ObjectRoom, ObjectPut, Savable, answer_of}
 
 -- ---- stores
 
@@ -81,21 +88,19 @@ word-part l at v h =
     ∙ part-sets (bytes 4 v) l at (at + 4) (omega arith) h
 
 -- a word more
-pub words_step : (b words : List ℕ) (from at j : ℕ) → from + j < length words
-    → sets (sets b at (word_bytes (take j (drop from words)))) (at + 4 * j) (bytes 4 (get_or words (from + j) 0)) ≡ sets b at (word_bytes (take (j + 1) (drop from words)))
-words_step b words from at j h =
-    let d = drop from words in
-    let w = get_or words (from + j) 0 in
-    let k : j < length d = (let x = length-drop from words in omega arith) in
-    let l : length (word_bytes (take j d)) ≡ 4 * j = length-numbers 4 (take j d) ∙ ap (λ (m : ℕ). 4 * m) (length-take-le j d (omega arith)) in
-    sets-join (word_bytes (take j d)) (bytes 4 w) b at (at + 4 * j) (omega arith)
+pub words_step : (b words : List ℕ) (at j : ℕ) → j < length words
+    → sets (sets b at (word_bytes (take j words))) (at + 4 * j) (bytes 4 (get_or words j 0)) ≡ sets b at (word_bytes (take (j + 1) words))
+words_step b words at j h =
+    let w = get_or words j 0 in
+    let l : length (word_bytes (take j words)) ≡ 4 * j = length-numbers 4 (take j words) ∙ ap (λ (m : ℕ). 4 * m) (length-take-le j words (omega arith)) in
+    sets-join (word_bytes (take j words)) (bytes 4 w) b at (at + 4 * j) (omega arith)
     ∙ ap (sets b at)
-    (ap (λ (r : List ℕ). word_bytes (take j d) ++ r) (sym (one_number 4 w)) ∙ sym (numbers-join 4 (take j d) (w ∷ []))
-    ∙ ap word_bytes (ap (λ (m : ℕ). take j d ++ (m ∷ [])) (sym (get_or-drop from words j 0)) ∙ sym (ap (λ (m : ℕ). take m d) (add-one j) ∙ take-suc d j 0 k)))
+    (ap (λ (r : List ℕ). word_bytes (take j words) ++ r) (sym (one_number 4 w)) ∙ sym (numbers-join 4 (take j words) (w ∷ []))
+    ∙ ap word_bytes (sym (ap (λ (m : ℕ). take m words) (add-one j) ∙ take-suc words j 0 h)))
 
-pub words-none : (b words : List ℕ) (from at : ℕ) → b ≡ sets b at (word_bytes (take 0 (drop from words)))
+pub words-none : (b : List ℕ) (at : ℕ) → b ≡ sets b at (word_bytes [])
 unfolding bytes_of
-words-none b words from at = refl
+words-none b at = refl
 
 pub roots-length : (r : ℕ) (roots : List ℕ) → r ≤ length roots → length (word_bytes (take r roots)) ≡ 4 * r
 roots-length r roots h = length-numbers 4 (take r roots) ∙ ap (λ (m : ℕ). 4 * m) (length-take-le r roots h)
@@ -221,6 +226,14 @@ module _ (n : ℕ) (recs : List ℕ) where
   unfolding objects_len
   len-most i = sum-most i 64 (λ x. record_len (rec_of n recs x)) (λ x o. len-bound (rec_of n recs x))
 
+  -- the records one after the other
+  pub len-sum : (k : ℕ) → k ≤ n → k ≤ length recs → sum_by record_len (take k recs) ≡ objects_len n recs k
+  len-sum zero h l = len-none
+  len-sum (suc k) h l =
+      ap (λ (j : ℕ). sum_by record_len (take j recs)) (sym (add-one k)) ∙ sum_by_more record_len recs k 0 (omega arith)
+      ∙ ap (λ (m : ℕ). m + record_len (get_or recs k 0)) (len-sum k (omega arith) (omega arith))
+      ∙ sym (len-step k (omega arith)) ∙ ap (objects_len n recs) (add-one k)
+
   pub len-mono : (i k : ℕ) → i ≤ k → objects_len n recs i ≤ objects_len n recs k
   unfolding objects_len sum
   len-mono i zero h = let e : i ≡ 0 = omega arith in rw e (omega arith)
@@ -279,10 +292,10 @@ module _ (n : ℕ) (recs slots : List ℕ) where
       objects-turn b =
           sets-join (objects_to n recs slots i) (object_at i (get_or recs i 0) slots) b 0 at (omega (arith, to-length i (omega arith))) ∙ ap (sets b 0) (sym (to_step W i h))
 
-    pub objects-end : (i : ℕ) (b body : List ℕ) → i ≤ n → n ≤ i → length b ≡ objects_len n recs n → body ≡ sets b 0 (objects_to n recs slots i) → body ≡ objects_to n recs slots n
-    objects-end i b body p q l e =
+    pub objects-end : (i : ℕ) (b : List ℕ) → i ≤ n → n ≤ i → length b ≡ objects_len n recs n → sets b 0 (objects_to n recs slots i) ≡ objects_to n recs slots n
+    objects-end i b p q l =
         let j : i ≡ n = omega arith in
-        e ∙ ap (λ (k : ℕ). sets b 0 (objects_to n recs slots k)) j ∙ sets-all (objects_to n recs slots n) b (omega (arith, to-length n (omega arith)))
+        ap (λ (k : ℕ). sets b 0 (objects_to n recs slots k)) j ∙ sets-all (objects_to n recs slots n) b (omega (arith, to-length n (omega arith)))
 
 -- ---- the list of sinks
 
@@ -305,12 +318,17 @@ pub place-filled : (y : ℕ) → y ≢ 0 → pointers (y ∷ []) ≡ y ∷ []
 unfolding pointers
 place-filled y d = rw (ne_eqb y 0 d) refl
 
-pub place-most : (y : ℕ) → length (pointers (y ∷ [])) ≤ 1
-place-most y = go (ℕ_discrete y 0)
+-- the words that are not 0 are the pointers
+pub pointers-count : (l : List ℕ) → count_by (λ y. not (eqb y 0)) l ≡ length (pointers l)
+unfolding pointers
+pointers-count l = sym (is_count_by (λ m. length (pointers m)) (λ y. not (eqb y 0)) refl turn l)
   where
-    go : Dec (y ≡ 0) → length (pointers (y ∷ [])) ≤ 1
-    go (yes e) = rw (place-empty y e) (omega arith)
-    go (no d) = rw (place-filled y d) (omega arith)
+    turn : (y : ℕ) (m : List ℕ) → length (pointers (y ∷ m)) ≡ cond (not (eqb y 0)) (1 + length (pointers m)) (length (pointers m))
+    turn y m = go (eqb y 0)
+      where
+        go : (b : Bool) → length (cond b (pointers m) (y ∷ pointers m)) ≡ cond (not b) (1 + length (pointers m)) (length (pointers m))
+        go true = refl
+        go false = omega arith
 
 module _ (list : List ℕ) where
   -- the sinks in the first i places
@@ -334,26 +352,21 @@ module _ (list : List ℕ) where
   pub count_most : (i : ℕ) → length (first_sinks i) ≤ i
   count_most i = omega (arith, length-pointers (take i list), length-take i list)
 
-  -- the places behind i list no fewer
-  pub count-mono : (i k : ℕ) → i + k ≤ length list → length (first_sinks i) ≤ length (first_sinks (i + k))
-  count-mono i zero h = let e : i + 0 ≡ i = omega arith in rw e (omega arith)
-  count-mono i (suc k) h =
-      let r = count-mono i k (omega arith) in
-      let e : i + suc k ≡ i + k + 1 = omega arith in
-      rw e (omega (arith, count-step (i + k) (omega arith), r))
-
   -- a turn of the loop over the places
-  pub sinks-turn : (i at : ℕ) (b : List ℕ) → i < length list → at ≡ 2 * length (first_sinks i)
-      → sets (sets b 0 (bytes_of 2 (first_sinks i))) at (bytes_of 2 (pointers (get_or list i 0 ∷ []))) ≡ sets b 0 (bytes_of 2 (first_sinks (i + 1)))
-  sinks-turn i at b h e =
-      sets-join (bytes_of 2 (first_sinks i)) (bytes_of 2 (pointers (get_or list i 0 ∷ []))) b 0 at (omega (arith, e, length-numbers 2 (first_sinks i)))
-      ∙ ap (sets b 0) (sym (ap (bytes_of 2) (sinks-step i h) ∙ numbers-join 2 (first_sinks i) (pointers (get_or list i 0 ∷ []))))
+  pub sinks-turn : (i at : ℕ) (b body : List ℕ) → i < length list → at ≡ 2 * length (first_sinks i) → body ≡ sets b 0 (bytes_of 2 (first_sinks i)) → (at' : ℕ) (body' : List ℕ)
+      → (at' ≡ at + 2 * length (pointers (get_or list i 0 ∷ []))) × (body' ≡ sets body at (bytes_of 2 (pointers (get_or list i 0 ∷ []))))
+      → (at' ≡ 2 * length (first_sinks (i + 1))) × (body' ≡ sets b 0 (bytes_of 2 (first_sinks (i + 1))))
+  sinks-turn i at b body h e f at' body' s =
+      let v = bytes_of 2 (pointers (get_or list i 0 ∷ [])) in (
+        omega (arith, s.0, e, count-step i h),
+        s.1 ∙ ap (λ (m : List ℕ). sets m at v) f
+            ∙ sets-join (bytes_of 2 (first_sinks i)) v b 0 at (omega (arith, e, length-numbers 2 (first_sinks i)))
+            ∙ ap (sets b 0) (sym (ap (bytes_of 2) (sinks-step i h) ∙ numbers-join 2 (first_sinks i) (pointers (get_or list i 0 ∷ [])))),
+      )
 
-  pub sinks-room : (i at : ℕ) → i < 64 → 64 ≤ length list → at ≡ 2 * length (first_sinks i) → at + 2 * length (pointers (get_or list i 0 ∷ [])) ≤ 2 * length (first_sinks 64)
-  sinks-room i at p h e =
-      let m : i + 1 + (63 - i) ≡ 64 = omega arith in
-      let r = count-mono (i + 1) (63 - i) (omega arith) in
-      omega (arith, e, count-step i (omega arith), r, ap (λ (k : ℕ). length (first_sinks k)) m)
+  pub sinks-end : (i : ℕ) (b : List ℕ) → length list ≤ i → length b ≡ 2 * length (pointers list) → sets b 0 (bytes_of 2 (first_sinks i)) ≡ bytes_of 2 (pointers list)
+  sinks-end i b h e =
+      ap (λ (l : List ℕ). sets b 0 (bytes_of 2 (pointers l))) (take_all i list h) ∙ sets-all (bytes_of 2 (pointers list)) b (omega (arith, e, length-numbers 2 (pointers list)))
 
 -- a sink in its place
 pub place-put : (y at : ℕ) (body body' : List ℕ) → y ≢ 0 → body' ≡ sets body at (bytes 2 y)
@@ -464,23 +477,26 @@ module _ (c : Control) (recs slots roots list cluster_sets out : List ℕ) where
       ap (λ (b : Bool). (20, bad_control c) ∷ (2, b) ∷ (21, not (well_formed c recs slots roots list cluster_sets)) ∷ last-test)
       (sym (or-false (short_heap c.n c.r recs slots roots list cluster_sets)))
 
-  pub refused : (k : ℕ) → k ≡ answer → k ≢ 0 → gives (record { refusal = k; length = 0; control = c }) out ≡ save c recs slots roots list cluster_sets out
+  pub refused : (e : Refusal) → number e ≡ answer → gives (answer_of c (Err e)) out ≡ save c recs slots roots list cluster_sets out
   unfolding save
-  refused k e d =
-      sym (outcome-number _ _ (save_tests c recs slots roots list cluster_sets out) k (ap first save-tests ∙ first-front (heap_tests c recs slots roots list cluster_sets false) last-test (λ z. d (e ∙ z)) ∙ sym e) d)
+  refused e h =
+      sym
+      (outcome-number _ _ (save_tests c recs slots roots list cluster_sets out) (number e)
+      (ap first save-tests ∙ first-front (heap_tests c recs slots roots list cluster_sets false) last-test (λ z. numbered e (h ∙ z)) ∙ sym h)
+      (numbered e))
 
-  module _ (k : ℕ) (e : k ≡ answer) (z : k ≡ 0) where
+  module _ (z : 0 ≡ answer) where
     passed : first (save_tests c recs slots roots list cluster_sets out) ≡ first last-test
     unfolding heap_tests
     passed =
         ap first save-tests
         ∙ first-skip (heap_tests c recs slots roots list cluster_sets false) last-test
-        (first-zero (heap_tests c recs slots roots list cluster_sets false) (cons (omega arith) (cons (omega arith) (cons (omega arith) nil))) (sym e ∙ z))
+        (first-zero (heap_tests c recs slots roots list cluster_sets false) (cons (omega arith) (cons (omega arith) (cons (omega arith) nil))) (sym z))
 
     pub savable : (len m : ℕ) → len ≡ objects_len c.n recs c.n → m ≡ length (pointers (take sink_max list)) → Savable c len m recs slots roots list
     unfolding heap_tests
     savable len m q p =
-        let a = first-passed 19 _ _ (sym e ∙ z) in
+        let a = first-passed 19 _ _ (sym z) in
         let b = first-passed 1 _ _ a.1 in
         let l = heap-long c.n c.r recs slots roots list cluster_sets (or_split _ _ b.0).0 in
         let s = (control-facts c a.0).sizes in
@@ -502,7 +518,7 @@ module _ (c : Control) (recs slots roots list cluster_sets out : List ℕ) where
     image-most len m q p = image-small c len m recs slots roots list (savable len m q p)
 
     module _ (len m : ℕ) (q : len ≡ objects_len c.n recs c.n) (p : m ≡ length (pointers (take sink_max list))) where
-      pub too_small : length out < 26 + len + 4 * c.r + sinks_len m → gives (record { refusal = 2; length = 0; control = c }) out ≡ save c recs slots roots list cluster_sets out
+      pub too_small : length out < 26 + len + 4 * c.r + sinks_len m → gives (answer_of c (Err TooShort)) out ≡ save c recs slots roots list cluster_sets out
       unfolding save short
       too_small h =
           let b = heap_image c recs slots roots list in
@@ -512,12 +528,12 @@ module _ (c : Control) (recs slots roots list cluster_sets out : List ℕ) where
           (λ z. omega arith))
 
       pub saved : 26 + len + 4 * c.r + sinks_len m ≤ length out → (out' : List ℕ) → out' ≡ sets out 0 (heap_image c recs slots roots list)
-          → gives (record { refusal = 0; length = 26 + len + 4 * c.r + sinks_len m; control = c }) out' ≡ save c recs slots roots list cluster_sets out
+          → gives (answer_of c (Ok (26 + len + 4 * c.r + sinks_len m))) out' ≡ save c recs slots roots list cluster_sets out
       unfolding save short first
       saved h out' s =
           let b = heap_image c recs slots roots list in
           let e = image-length c len m recs slots roots list (savable len m q p) in
-          ap₂ (λ (j : ℕ) (l : List ℕ). gives (record { refusal = 0; length = j; control = c }) l) (sym e) (s ∙ sets-front b out (omega arith))
+          ap₂ (λ (j : ℕ) (l : List ℕ). gives (answer_of c (Ok j)) l) (sym e) (s ∙ sets-front b out (omega arith))
           ∙ sym
           (outcome-zero _ _ (save_tests c recs slots roots list cluster_sets out)
           (passed ∙ first-fails 2 [] (short (length b) out) (le-ltb (length out) (length b) (omega arith))))

@@ -1,7 +1,10 @@
 -- What the writers of an image ask and leave ("Saves").
-use Rattle.std.specs.Prelude.{ℕ, zero, suc, ◌+◌, ◌*◌, ◌≤◌, ◌<◌, ◌≡◌, cond, List, [], length, take, drop}
+use Rattle.std.specs.Prelude.{ℕ, zero, suc, ◌+◌, ◌*◌, ◌≤◌, ◌<◌, ◌≡◌, cond, List, [], length, take, drop, Result, Ok, Err}
 use Rattle.std.proofs.lemmas.List.Edits.{sets}
 use Rattle.layout.specs.declared.answers.Control.{Control}
+use Rattle.layout.specs.declared.answers.Saved.{Saved}
+use Rattle.layout.specs.declared.refusals.Refusal.{Refusal}
+use Rattle.layout.specs.Refusal.{number}
 use Rattle.layout.specs.Limits.{object_max, root_max, width_max, sink_max}
 use Rattle.records.specs.Record.{in_use, is_sink, width}
 use Rattle.graph.specs.Numbers.{sum}
@@ -56,3 +59,8 @@ pub record Savable (c : Control) (len k : ℕ) (recs slots roots list : List ℕ
   pub len_is : len ≡ objects_len c.n recs c.n
   pub list-long : sink_max ≤ length list
   pub listed : k ≡ length (pointers (take sink_max list))
+
+-- what save answers: the length of the image, or the refusal's number
+abbrev pub answer_of : Control → Result ℕ Refusal → Saved
+answer_of c (Ok k) = record { refusal = 0; length = k; control = c }
+answer_of c (Err e) = record { refusal = number e; length = 0; control = c }

@@ -1,7 +1,7 @@
 // Save ("Saves"): the heap as three chunks, and a fourth that lists its sinks if it has any. Each body is written into the part of the image after its length and kind.
 #![tactic(auto)]
 
-ghost use Rattle.std.specs.Prelude.{◌≡◌, ◌+◌, ◌*◌, ◌≤◌, ◌<◌, [], ◌∷◌, ◌++◌, length, take, drop};
+ghost use Rattle.std.specs.Prelude.{◌≡◌, ◌+◌, ◌*◌, ◌≤◌, ◌<◌, [], ◌∷◌, ◌++◌, length, take};
 ghost use Rattle.std.proofs.lemmas.List.Edits.{sets};
 ghost use Rattle.layout.specs.Field.{digit};
 ghost use Rattle.layout.specs.Limits.{sink_max};
@@ -10,13 +10,14 @@ ghost use Rattle.graph.specs.Heap.{pointers};
 ghost use Rattle.rules.specs.Image.{front_len, chunk, sizes_body, sinks_chunk};
 ghost use Rattle.rules.specs.Save.{heap_image};
 ghost use Rattle.rules.specs.Save as Save;
-ghost use Rattle.saves.specs.Saves.{record_len, objects_len, objects_to, sinks_len, Writable, ObjectRoom, ObjectPut, Savable};
+ghost use Rattle.saves.specs.Saves.{record_len, objects_len, objects_to, sinks_len, Writable, ObjectRoom, ObjectPut, Savable, answer_of};
 
 use endian::{put2, put4};
 use layout::answers::{Control, Saved};
 use layout::limits::SINK_MAX;
-use layout::refusals::TOO_SHORT;
+use layout::refusals::Refusal;
 use records::{in_use, is_sink, width_of};
+use table::room::Buffers;
 use wellformed::heap_refusal;
 
 // The kind of the chunk of sinks.
@@ -36,21 +37,7 @@ fn objects_len(n: u32, records: &[u32]) -> u32
     requires { (n ≤ 4095) × (n ≤ length records.now) }
     ensures { result ≡ objects_len n records.now n }
 {
-    let mut total: u32 = 0;
-    let mut i: u32 = 0;
-    while i < n {
-        let at = i as usize;
-        total += record_len(records[at]);
-        i += 1;
-    }
-    total
-}
-
-// How many sinks a place lists.
-fn place_count(y: u32) -> u32
-    ensures { result ≡ length (pointers (y ∷ [])) }
-{
-    if y == 0 { 0 } else { 1 }
+    records[..n as usize].iter().map(|r| record_len(*r)).sum()
 }
 
 // How many the 64 places list.
@@ -58,14 +45,10 @@ fn sinks_count(sinks: &[u32]) -> u32
     requires { sink_max ≤ length sinks.now }
     ensures { result ≡ length (pointers (take sink_max sinks.now)) }
 {
-    let mut total: u32 = 0;
-    let mut i: u32 = 0;
-    while i < SINK_MAX {
-        let at = i as usize;
-        total += place_count(sinks[at]);
-        i += 1;
-    }
-    total
+    sinks[..SINK_MAX as usize]
+        .iter()
+        .filter(|y| **y != 0)
+        .count() as u32
 }
 
 // The bytes of the chunk that lists k sinks.
@@ -87,15 +70,13 @@ fn put_word(body: &mut [u8], at: usize, v: u32)
     put4(&mut body[at..e], 0, v);
 }
 
-// k words from place `from` on, four bytes each, from place `at` on.
-fn put_words(words: &[u32], from: usize, k: usize, body: &mut [u8], at: usize)
-    requires { (from + k ≤ length words.now) × (at + 4 * k ≤ length body.old) }
-    ensures { body.new ≡ sets body.old at (word_bytes (take k (drop from words.now))) }
+// Words, four bytes each, from place `at` on.
+fn put_words(words: &[u32], body: &mut [u8], at: usize)
+    requires { at + 4 * length words.now ≤ length body.old }
+    ensures { body.new ≡ sets body.old at (word_bytes words.now) }
 {
-    let mut j: usize = 0;
-    while j < k {
-        put_word(body, at + 4 * j, words[from + j]);
-        j += 1;
+    for (j, w) in words.iter().enumerate() {
+        put_word(body, at + 4 * j, *w);
     }
 }
 
@@ -121,7 +102,9 @@ fn put_object(i: u32, r: u32, slots: &[u32], body: &mut [u8], at: usize) -> usiz
     }
     let w = width_of(r);
     put_word(body, at, head_word(i + 1, w, is_sink(r)));
-    put_words(slots, 8 * i as usize, w as usize, body, at + 4);
+    let start = 8 * i as usize;
+    let end = start + w as usize;
+    put_words(&slots[start..end], body, at + 4);
     at + 4 + 4 * w as usize
 }
 
@@ -141,12 +124,9 @@ fn write_objects(n: u32, records: &[u32], slots: &[u32], body: &mut [u8])
     requires { Writable n records.now slots.now × (length body.old ≡ objects_len n records.now n) }
     ensures { body.new ≡ objects_to n records.now slots.now n }
 {
-    let mut at: usize = 0;
-    let mut i: u32 = 0;
-    while i < n {
-        let k = i as usize;
-        at = put_object(i, records[k], slots, body, at);
-        i += 1;
+    let mut at = 0;
+    for i in 0..n {
+        at = put_object(i, records[i as usize], slots, body, at);
     }
 }
 
@@ -155,19 +135,7 @@ fn write_roots(r: u32, roots: &[u32], body: &mut [u8])
     requires { (r ≤ length roots.now) × (length body.old ≡ 4 * r) }
     ensures { body.new ≡ word_bytes (take r roots.now) }
 {
-    put_words(roots, 0, r as usize, body, 0);
-}
-
-// The sink that a place lists, if it does, at place `at`; answers the place after it.
-fn put_place(y: u32, body: &mut [u8], at: usize) -> usize
-    requires { at + 2 * length (pointers (y ∷ [])) ≤ length body.old }
-    ensures { (result ≡ at + 2 * length (pointers (y ∷ []))) × (body.new ≡ sets body.old at (bytes_of 2 (pointers (y ∷ [])))) }
-{
-    if y == 0 {
-        return at;
-    }
-    put2(body, at, y);
-    at + 2
+    put_words(&roots[..r as usize], body, 0);
 }
 
 // The body of kind 0x8001.
@@ -175,12 +143,12 @@ fn write_sinks(sinks: &[u32], body: &mut [u8])
     requires { (sink_max ≤ length sinks.now) × (length body.old ≡ 2 * length (pointers (take sink_max sinks.now))) }
     ensures { body.new ≡ bytes_of 2 (pointers (take sink_max sinks.now)) }
 {
-    let mut at: usize = 0;
-    let mut i: u32 = 0;
-    while i < SINK_MAX {
-        let k = i as usize;
-        at = put_place(sinks[k], body, at);
-        i += 1;
+    let mut at = 0;
+    for y in &sinks[..SINK_MAX as usize] {
+        if *y != 0 {
+            put2(body, at, *y);
+            at += 2;
+        }
     }
 }
 
@@ -241,27 +209,35 @@ fn put_sinks(k: u32, sinks: &[u32], image: &mut [u8], at: usize)
 }
 
 // The chunks, one after the other; the objects take len bytes, and k sinks are listed.
-fn put_image(
-    c: Control,
-    len: u32,
-    k: u32,
-    records: &[u32],
-    slots: &[u32],
-    roots: &[u32],
-    sinks: &[u32],
-    image: &mut [u8],
-)
-    requires { Savable c len k records.now slots.now roots.now sinks.now × (26 + len + 4 * c.r + sinks_len k ≤ length image.old) }
-    ensures { image.new ≡ sets image.old 0 (heap_image c records.now slots.now roots.now sinks.now) }
+fn put_image(c: Control, len: u32, k: u32, heap: &Buffers, image: &mut [u8])
+    requires { Savable c len k heap.now.records.now heap.now.slots.now heap.now.roots.now heap.now.sinks.now
+        × (26 + len + 4 * c.r + sinks_len k ≤ length image.old) }
+    ensures { image.new ≡ sets image.old 0 (heap_image c heap.now.records.now heap.now.slots.now heap.now.roots.now heap.now.sinks.now) }
 {
     put_sizes(c, image);
-    put_objects(c.n, len, records, slots, image, 14);
+    put_objects(c.n, len, heap.records, heap.slots, image, 14);
     let third = 20 + len as usize;
-    put_roots(c.r, roots, image, third);
-    put_sinks(k, sinks, image, third + 6 + 4 * c.r as usize);
+    put_roots(c.r, heap.roots, image, third);
+    put_sinks(k, heap.sinks, image, third + 6 + 4 * c.r as usize);
 }
 
-// Saves the heap. No byte is stored before the last test has passed.
+// Saves the heap, and answers the length of the image. No byte is stored before the last test has passed.
+fn write_image(c: Control, heap: &Buffers, image: &mut [u8]) -> Result<u32, Refusal>
+    ensures { Save.gives (answer_of c result) image.new
+        ≡ Save.save c heap.now.records.now heap.now.slots.now heap.now.roots.now heap.now.sinks.now heap.now.sets.now image.old }
+{
+    heap_refusal(c, heap, false)?;
+    let objects = objects_len(c.n, heap.records);
+    let listed = sinks_count(heap.sinks);
+    let length = 26 + objects + 4 * c.r + sinks_len(listed);
+    if image.len() < length as usize {
+        return Err(Refusal::TooShort);
+    }
+    put_image(c, objects, listed, heap, image);
+    Ok(length)
+}
+
+// Saves the heap.
 pub fn save(
     c: Control,
     records: &[u32],
@@ -274,28 +250,23 @@ pub fn save(
     ensures { Save.gives result image.new
         ≡ Save.save c records.now slots.now roots.now sinks.now sets.now image.old }
 {
-    let refusal = heap_refusal(c, records, slots, roots, sinks, sets, false);
-    if refusal != 0 {
-        return Saved {
-            refusal: refusal,
+    let heap = Buffers {
+        records,
+        slots,
+        roots,
+        sinks,
+        sets,
+    };
+    match write_image(c, &heap, image) {
+        Ok(length) => Saved {
+            refusal: 0,
+            length,
+            control: c,
+        },
+        Err(e) => Saved {
+            refusal: u32::from(e),
             length: 0,
             control: c,
-        };
-    }
-    let objects = objects_len(c.n, records);
-    let listed = sinks_count(sinks);
-    let length = 26 + objects + 4 * c.r + sinks_len(listed);
-    if image.len() < length as usize {
-        return Saved {
-            refusal: TOO_SHORT,
-            length: 0,
-            control: c,
-        };
-    }
-    put_image(c, objects, listed, records, slots, roots, sinks, image);
-    Saved {
-        refusal: 0,
-        length: length,
-        control: c,
+        },
     }
 }

@@ -11,17 +11,17 @@ use lib.Bits.{bit_and}
 use lib.Count.{count_trailing_zeros}
 use lib.ListN.{length, get_or, take, drop, set, drop_of_length-le}
 use lib.Seq.{set_out, drop-cons}
-use Rattle.layout.specs.Limits.{sink_max, map_len, slots_len}
+use Rattle.layout.specs.Limits.{map_len, slots_len}
 use Rattle.records.specs.Record.{in_use, is_marked}
 use Rattle.graph.specs.Numbers.{bit}
-use Rattle.bitmap.specs.Bits.{set_bits, numbers_in, bits_of, holds}
+use Rattle.bitmap.specs.Bits.{set_bits, numbers_in, bits_of}
 use Rattle.bitmap.proofs.BitLaws.{bits_of-lt, set_bits-step, set_bits-none}
-use Rattle.rules.specs.Buffers.{rec_of, each_from, zeros}
+use Rattle.rules.specs.Buffers.{rec_of, zeros}
 use Rattle.rules.specs.Sweep.{freed}
 use Rattle.rules.proofs.PassLaws.{pass_from}
 use Rattle.rules.proofs.BufferLaws.{zeros-from}
 use Rattle.table.specs.Cleared.{cleared}
-use Rattle.sweep.specs.Sweep.{marked_at, freed_at, in_turn, clear_record, clear_slots, emptied}
+use Rattle.sweep.specs.Sweep.{marked_at, freed_at, in_turn, clear_record, clear_slots}
 
 -- ---- the test
 
@@ -177,7 +177,3 @@ place-empty y b h e t = rw (← e, t) refl
 
 pub place-left : (y : ℕ) (b h : Bool) → b ≡ h → b ≡ false → y ≡ cond h 0 y
 place-left y b h e t = rw (← e, t) refl
-
-pub emptied-start : (map list : List ℕ) → each_from 0 sink_max (λ k y. cond (holds y map) 0 y) list ≡ emptied map list
-unfolding emptied
-emptied-start map list = refl

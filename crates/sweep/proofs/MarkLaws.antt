@@ -1,10 +1,11 @@
 -- The marks: how many are counted, and one member or cluster after the other. Assumes nothing.
-use Prim.Native.Nat.{ℕ, zero, suc, ◌+◌, ◌-◌, ◌≤◌, ◌<◌}
+use Prim.Native.Nat.{ℕ, zero, suc, ◌+◌, ◌-◌, ◌≤◌, ◌<◌, min}
 use mathlib.Core.Path.{◌≡◌, refl, sym, ap, ◌∙◌}
 use mathlib.Core.Bool.{Bool, true, false, not, cond, ◌&&◌, ◌||◌}
 use mathlib.Core.Logic.{◌≢◌}
 use mathlib.Core.List.{List}
 use native.Mathlib.Numerals.{add-one}
+use native.Mathlib.Decide.{dec_le}
 use native.Mathlib.Omega.{arith}
 use lib.Dec.{eqb}
 use lib.ListN.{length, get_or}
@@ -14,7 +15,7 @@ use Rattle.records.specs.Record.{is_marked, is_reached, with_marked, with_postpo
 use Rattle.layout.proofs.FieldLaws.{flag-put-other, flag-put-same, flag-put-put}
 use Rattle.records.proofs.RecordLaws.{loose-flag}
 use Rattle.graph.specs.Numbers.{Obj, bit, sum, count}
-use Rattle.rules.specs.Buffers.{rec_of, each_from, each_record}
+use Rattle.rules.specs.Buffers.{rec_of, each_record}
 use Rattle.rules.specs.Sweep.{kept_record}
 use Rattle.rules.proofs.ListLaws.{rec_of-each, each_same}
 use Rattle.rules.proofs.BufferLaws.{rec_of-get}
@@ -52,12 +53,16 @@ module _ (n : ℕ) (recs : List ℕ) where
       rw z (ap (λ (r : ℕ). count (k + i) (marked_at n recs) + bit (is_marked r)) (rec_of-past n recs (suc (k + i)) (omega arith))
       ∙ unmarked (count (k + i) (marked_at n recs)) ∙ past k i p)
 
-  pub marked-end : (k i : ℕ) → i ≤ n → n ≤ i → k ≡ marked_to i → k ≡ marked_count n recs
-  unfolding marked_to marked_count
-  marked-end k i p q e = let z : i ≡ n = omega arith in e ∙ ap (λ (j : ℕ). count j (marked_at n recs)) z
-
-  pub marked-past : (k i : ℕ) → i ≤ n → length recs ≤ i → k ≡ marked_to i → k ≡ marked_count n recs
-  marked-past k i p q e = let z : n - i + i ≡ n = omega arith in marked-end k n (omega arith) (omega arith) (e ∙ sym (past (n - i) i q) ∙ ap marked_to z)
+  -- all that are there are counted
+  pub marked-all : (k i : ℕ) → i ≡ min n (length recs) → k ≡ marked_to i → k ≡ marked_count n recs
+  unfolding marked_count marked_to
+  marked-all k i e h =
+      let z : n - i + i ≡ n = omega arith in
+      h ∙ sym (go (dec_le n (length recs))) ∙ ap (λ (j : ℕ). count j (marked_at n recs)) z
+    where
+      go : Dec (n ≤ length recs) → marked_to (n - i + i) ≡ marked_to i
+      go (yes l) = ap marked_to (omega arith)
+      go (no l) = past (n - i) i (omega (arith, l))
 
 -- ---- one record
 
@@ -121,10 +126,6 @@ module _ (n r : ℕ) (recs : List ℕ) where
 pub members-all : (n : ℕ) (recs₀ recs : List ℕ) → recs ≡ each_record n (λ x r. member_marked n recs₀ r) recs₀ → recs ≡ members_marked n recs₀
 unfolding members_marked
 members-all n recs₀ recs e = e
-
-pub unflagged-start : (n : ℕ) (recs : List ℕ) → each_from 1 n (λ x r. unflagged_record r) recs ≡ unflagged n recs
-unfolding unflagged each_record
-unflagged-start n recs = refl
 
 pub unflagged-by : (r a b c : ℕ) → a ≡ with_marked false r → b ≡ with_postponed false a → c ≡ with_reached false b → c ≡ unflagged_record r
 unfolding unflagged_record

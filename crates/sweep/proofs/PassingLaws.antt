@@ -1,10 +1,10 @@
 -- A loop that rewrites the records in place, one after the other, as far as they are there. Assumes nothing.
-use Prim.Native.Nat.{ℕ, zero, suc, ◌+◌, ◌-◌, ◌≤◌, ◌<◌}
+use Prim.Native.Nat.{ℕ, zero, suc, ◌+◌, ◌-◌, ◌≤◌, ◌<◌, min}
 use mathlib.Core.Path.{◌≡◌, refl, sym, ap, ◌∙◌}
 use mathlib.Core.Bool.{Bool}
 use mathlib.Core.List.{List}
 use native.Mathlib.Numerals.{add-one}
-use native.Mathlib.Decide.{ℕ_discrete}
+use native.Mathlib.Decide.{ℕ_discrete, dec_le}
 use native.Mathlib.Omega.{arith}
 use lib.ListN.{length, get_or, take, set, length-set, length-take}
 use lib.Seq.{take-set-lt, get_or-take, get_or-set_same, get_or-set_other}
@@ -72,3 +72,11 @@ module _ (key : ℕ → Bool) (f : List ℕ → ℕ → ℕ) (n : ℕ) (recs₀ 
           pass = passing-turn _ _ _ _ _ recs i h.pass v p q (e ∙ alike (get_or recs i 0) h.keeps);
           keeps = keeps-turn key n recs₀ recs i v p q (ap key e ∙ leaves (get_or recs i 0)) h.keeps;
         }
+
+  pub in-place-end : (recs : List ℕ) (i : ℕ) → InPlace key f n recs₀ recs i → (e : ℕ) → e ≡ min n (length recs₀) → e ≤ i
+      → recs ≡ each_record n (λ x r. f recs₀ r) recs₀
+  in-place-end recs i h e d p = go (dec_le n i)
+    where
+      go : Dec (n ≤ i) → recs ≡ each_record n (λ x r. f recs₀ r) recs₀
+      go (yes l) = passing-end _ _ _ _ _ recs i h.pass l
+      go (no l) = passing-past _ _ _ _ _ recs i h.pass (omega (arith, h.pass.long, l))

@@ -25,9 +25,7 @@ fn freed_word(n: u32, j: u32, records: &[u32]) -> u64
     ensures { result ≡ word_of (S.freed_at n records.now) j }
 {
     let mut word: u64 = 0;
-    let mut b: u32 = 64;
-    while 0 < b {
-        b -= 1;
+    for b in (0..64).rev() {
         word = word * 2 + is_freed(n, 64 * j + b, records) as u64;
     }
     word
@@ -40,10 +38,8 @@ pub(crate) fn fill_map(n: u32, records: &[u32], map: &mut [u64])
     ensures { map.new ≡ each_from 0 (map_len n) (λ j w. word_of (S.freed_at n records.now) j) map.old }
 {
     let k = map_len(n);
-    let mut j: usize = 0;
-    while j < k {
-        map[j] = freed_word(n, j as u32, records);
-        j += 1;
+    for (j, w) in map[..k].iter_mut().enumerate() {
+        *w = freed_word(n, j as u32, records);
     }
 }
 
@@ -51,12 +47,8 @@ pub(crate) fn fill_map(n: u32, records: &[u32], map: &mut [u64])
 fn clear_record(x: u32, records: &mut [u32])
     ensures { records.new ≡ S.clear_record x records.old }
 {
-    if x == 0 {
-        return;
-    }
-    let i = (x - 1) as usize;
-    if i < records.len() {
-        records[i] = 0;
+    if x != 0 && x as usize <= records.len() {
+        records[(x - 1) as usize] = 0;
     }
 }
 
@@ -64,10 +56,9 @@ fn clear_record(x: u32, records: &mut [u32])
 fn clear_slots(x: u32, slots: &mut [u32])
     ensures { slots.new ≡ S.clear_slots x slots.old }
 {
-    if x == 0 {
-        return;
+    if x != 0 {
+        clear_eight(slots, slots_len(x - 1));
     }
-    clear_eight(slots, slots_len(x - 1));
 }
 
 // Frees the objects whose bits are set in a word of the map: object base + b for bit b.
@@ -91,10 +82,8 @@ pub(crate) fn free_all(map: &[u64], records: &mut [u32], slots: &mut [u32])
     ensures records_after { records.new ≡ S.in_turn S.clear_record (numbers_in 0 map.now) records.old }
     ensures slots_after { slots.new ≡ S.in_turn S.clear_slots (numbers_in 0 map.now) slots.old }
 {
-    let mut j: usize = 0;
-    while j < map.len() {
-        free_word(64 * j as u32, map[j], records, slots);
-        j += 1;
+    for (j, w) in map.iter().enumerate() {
+        free_word(64 * j as u32, *w, records, slots);
     }
 }
 
@@ -102,20 +91,15 @@ pub(crate) fn free_all(map: &[u64], records: &mut [u32], slots: &mut [u32])
 fn left_in_place(y: u32, map: &[u64]) -> u32
     ensures { result ≡ cond (holds y map.now) 0 y }
 {
-    if has_bit(map, y as usize) {
-        return 0;
-    }
-    y
+    if has_bit(map, y as usize) { 0 } else { y }
 }
 
 // Empties the places of the sinks whose bits are set in the map.
 pub(crate) fn empty_places(map: &[u64], sinks: &mut [u32])
     ensures { sinks.new ≡ S.emptied map.now sinks.old }
 {
-    let m = SINK_MAX as usize;
-    let mut k: usize = 0;
-    while k < m && k < sinks.len() {
-        sinks[k] = left_in_place(sinks[k], map);
-        k += 1;
+    let end = (SINK_MAX as usize).min(sinks.len());
+    for y in &mut sinks[..end] {
+        *y = left_in_place(*y, map);
     }
 }

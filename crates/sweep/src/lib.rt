@@ -24,14 +24,12 @@ use freed::{empty_places, fill_map, free_all};
 pub fn count_marked(n: u32, records: &[u32]) -> u32
     ensures { result ≡ S.marked_count n records.now }
 {
-    let m = n as usize;
+    let end = (n as usize).min(records.len());
     let mut k: u32 = 0;
-    let mut i: usize = 0;
-    while i < m && i < records.len() {
-        if is_marked(records[i]) {
+    for r in &records[..end] {
+        if is_marked(*r) {
             k += 1;
         }
-        i += 1;
     }
     k
 }
@@ -41,10 +39,7 @@ fn member_marked(n: u32, r: u32, records: &[u32]) -> u32
     ensures { result ≡ S.member_marked n records.now r }
 {
     let c = cluster_of(r);
-    if c == 0 {
-        return r;
-    }
-    if is_reached(record_of(n, c, records)) {
+    if c != 0 && is_reached(record_of(n, c, records)) {
         with_marked(r, true)
     } else {
         r
@@ -55,12 +50,10 @@ fn member_marked(n: u32, r: u32, records: &[u32]) -> u32
 pub fn mark_members(n: u32, records: &mut [u32])
     ensures { records.new ≡ S.members_marked n records.old }
 {
-    let m = n as usize;
-    let mut i: usize = 0;
-    while i < m && i < records.len() {
+    let end = (n as usize).min(records.len());
+    for i in 0..end {
         let r = records[i];
         records[i] = member_marked(n, r, records);
-        i += 1;
     }
 }
 
@@ -75,11 +68,9 @@ fn unflagged_record(r: u32) -> u32
 fn clear_marks(n: u32, records: &mut [u32])
     ensures { records.new ≡ S.unflagged n records.old }
 {
-    let m = n as usize;
-    let mut i: usize = 0;
-    while i < m && i < records.len() {
-        records[i] = unflagged_record(records[i]);
-        i += 1;
+    let end = (n as usize).min(records.len());
+    for r in &mut records[..end] {
+        *r = unflagged_record(*r);
     }
 }
 
@@ -90,10 +81,7 @@ fn head_kept(n: u32, r: u32, records: &[u32]) -> u32
     ensures { result ≡ kept_record (S.marked_at n records.now) r }
 {
     let c = cluster_of(r);
-    if c == 0 {
-        return r;
-    }
-    if is_marked(record_of(n, c, records)) {
+    if c == 0 || is_marked(record_of(n, c, records)) {
         r
     } else {
         loose(r)
@@ -104,12 +92,10 @@ fn head_kept(n: u32, r: u32, records: &[u32]) -> u32
 fn dissolve(n: u32, records: &mut [u32])
     ensures { records.new ≡ each_record n (λ x r. kept_record (S.marked_at n records.old) r) records.old }
 {
-    let m = n as usize;
-    let mut i: usize = 0;
-    while i < m && i < records.len() {
+    let end = (n as usize).min(records.len());
+    for i in 0..end {
         let r = records[i];
         records[i] = head_kept(n, r, records);
-        i += 1;
     }
 }
 
@@ -129,24 +115,16 @@ pub fn sweep(
     ensures { S.AfterSweep n records.old slots.old sinks.old sets.old map.old
         records.new slots.new sinks.new sets.new map.new result }
 {
-    if OBJECT_MAX < n {
-        return 0;
-    }
-    if records.len() < n as usize {
-        return 0;
-    }
-    if slots.len() < slots_len(n) {
-        return 0;
-    }
     let k = map_len(n);
-    if map.len() < k {
+    if OBJECT_MAX < n || records.len() < n as usize || slots.len() < slots_len(n) || map.len() < k {
         return 0;
     }
     fill_map(n, records, map);
-    let freed = ones(&map[0..k]);
+    let map = &map[..k];
+    let freed = ones(map);
     dissolve(n, records);
-    free_all(&map[0..k], records, slots);
-    empty_places(&map[0..k], sinks);
+    free_all(map, records, slots);
+    empty_places(map, sinks);
     clear_marks(n, records);
     fill_sets(n, records, slots, sinks, sets);
     freed

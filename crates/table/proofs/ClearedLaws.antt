@@ -2,11 +2,11 @@
 use Prim.Native.Nat.{ℕ, zero, suc, ◌+◌, ◌-◌, ◌*◌, ◌≤◌, ◌<◌}
 use mathlib.Core.Path.{◌≡◌, refl, sym, ap, ap₂, ◌∙◌}
 use mathlib.Core.Bool.{cond}
-use mathlib.Core.List.{List, [], ◌∷◌, ◌++◌, append_assoc}
+use mathlib.Core.List.{List, [], ◌∷◌, ◌++◌, append_assoc, append-nil}
 use native.Mathlib.Omega.{arith}
 use lib.Dec.{eqb}
-use lib.ListN.{length, take, drop, set, take-append-drop, length-set, length-drop}
-use lib.Seq.{drop-cons, take-suc-set, drop-set-lt, length-take-le}
+use lib.ListN.{length, take, drop, set, take-append-drop, drop_of_length-le, length-set, length-drop}
+use lib.Seq.{drop-cons, take_all, take-suc-set, drop-set-lt, length-take-le}
 use borrow.Rule.Slice.PartMut.{put_mid, mid_of, same_len_mid, drop_put}
 use Rattle.rules.specs.Buffers.{each_from, each_slot, zeros}
 use Rattle.rules.proofs.BufferLaws.{zeros-from, slots-one}
@@ -46,9 +46,14 @@ cleared-past a b l p =
     none zero = refl
     none (suc k) = refl
 
-pub cleared-all : (k : ℕ) (l : List ℕ) → cleared 0 k l ≡ zeros k l
+-- the words from place a on are lent, and the first of them cleared
+pub cleared-rest : (a b : ℕ) (l part : List ℕ) → a < length l → part ≡ zeros (b - a) (mid_of a (length l - a) l) → put_mid a (length l - a) l part ≡ cleared a b l
 unfolding cleared
-cleared-all k l = let e : k - 0 ≡ k = omega arith in ap (λ (m : ℕ). zeros m l) e
+cleared-rest a b l part p e =
+    let n = length-drop a l in
+    let m : mid_of a (length l - a) l ≡ drop a l = take_all (length l - a) (drop a l) (omega arith) in
+    let r : drop (length l - a) (drop a l) ≡ [] = drop_of_length-le (drop a l) {i = length l - a} (omega arith) in
+    ap (λ (x : List ℕ). take a l ++ x) (ap₂ (λ x y. x ++ y) (e ∙ ap (zeros (b - a)) m) r ∙ append-nil (zeros (b - a) (drop a l)))
 
 -- where the end of the list comes first, the place up to which it is cleared does not matter
 zeros-all : (i j k : ℕ) (m : List ℕ) → length m ≤ j → length m ≤ k → each_from i j (λ x w. 0) m ≡ each_from i k (λ x w. 0) m

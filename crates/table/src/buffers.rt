@@ -1,35 +1,58 @@
 // Words of a buffer that become 0; all others stay.
-ghost use Rattle.std.specs.Prelude.{◌≡◌, ◌+◌, ◌≤◌, length};
+ghost use Rattle.std.specs.Prelude.{◌≡◌, ℕ, ◌+◌, ◌≤◌, refl, List, length};
 ghost use Rattle.layout.specs.Limits.{width_max};
-ghost use Rattle.rules.specs.Buffers.{zeros};
+ghost use Rattle.rules.specs.Buffers.{each_from, zeros};
 ghost use Rattle.table.specs.Cleared.{cleared};
+
+// A word of a buffer: one of 32 bits, or a set of sinks, which has 64.
+pub trait Word: Copy {
+    ghost ZERO: { Self };
+
+    const ZERO: Self;
+
+    // The first k words of a list become 0.
+    ghost zeros: { ℕ → List Self → List Self };
+
+    // Each of them, and no other.
+    ghost each_zero: { (k : ℕ) (l : List Self) → zeros k l ≡ each_from 0 k (λ i w. ZERO) l };
+}
+
+impl Word for u32 {
+    ghost ZERO = { 0 };
+
+    const ZERO: u32 = 0;
+
+    ghost zeros = { zeros };
+
+    ghost each_zero = { λ k l. unfold zeros in refl };
+}
+
+impl Word for u64 {
+    ghost ZERO = { 0 };
+
+    const ZERO: u64 = 0;
+
+    ghost zeros = { zeros };
+
+    ghost each_zero = { λ k l. unfold zeros in refl };
+}
+
+// The first k words become 0.
+pub fn zero<T: Word>(words: &mut [T], k: usize)
+    ensures { words.new ≡ T.zeros k words.old }
+{
+    let end = k.min(words.len());
+    for w in &mut words[..end] {
+        *w = T::ZERO;
+    }
+}
 
 // The words from place `from` up to place `to` become 0, or up to the end where the slice is shorter.
 pub fn clear(words: &mut [u32], from: usize, to: usize)
     ensures { words.new ≡ cleared from to words.old }
 {
-    let mut i = from;
-    while i < words.len() && i < to {
-        words[i] = 0;
-        i += 1;
-    }
-}
-
-// The first k words become 0.
-pub fn zero(words: &mut [u32], k: usize)
-    ensures { words.new ≡ zeros k words.old }
-{
-    clear(words, 0, k);
-}
-
-// The first k sets of sinks become 0.
-pub fn zero_sets(sets: &mut [u64], k: usize)
-    ensures { sets.new ≡ zeros k sets.old }
-{
-    let mut i: usize = 0;
-    while i < sets.len() && i < k {
-        sets[i] = 0;
-        i += 1;
+    if from < words.len() && from < to {
+        zero(&mut words[from..], to - from);
     }
 }
 

@@ -372,12 +372,6 @@ module _ (by : Way) (n : ℕ) (recs slots work : List ℕ) (top : ℕ) (o : ℕ)
 
 -- ---- a visit that does nothing
 
-pub in-cluster : (x c : ℕ) (b : Bool) → c ≡ x → c ≢ 0 → false ≡ (eqb x 0 && b)
-in-cluster x c b e d = sym (ap (λ (t : Bool). t && b) (ne_eqb x 0 (λ z. d (e ∙ z))))
-
-pub in-none : (x c : ℕ) (m b : Bool) → c ≡ x → c ≡ 0 → m ≡ b → m ≡ (eqb x 0 && b)
-in-none x c m b e z f = f ∙ sym (ap (λ (t : Bool). t && b) (eq-eqb x 0 (sym e ∙ z)))
-
 pub none-and : (x : ℕ) (b : Bool) → (eqb x 0 && b) ≡ true → (x ≡ 0) × (b ≡ true)
 none-and x b e = let d = and_split (eqb x 0) b e in (eqb-true x 0 d.0, d.1)
 
@@ -453,11 +447,3 @@ module _
         at true b q todo = absurd (true≢false q)
         at false true q todo = absurd (true≢false q)
         at false false q todo = scan-seen by (view n recs slots) o (unpostpone (view n recs slots) o (walk_at n recs todo))
-
--- ---- a test of two parts
-
-pub or-first : (a b : Bool) → a ≡ true → true ≡ (a || b)
-or-first a b e = rw e refl
-
-pub or-second : (a b c : Bool) → a ≡ false → c ≡ b → c ≡ (a || b)
-or-second a b c e q = rw e q

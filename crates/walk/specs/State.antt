@@ -15,6 +15,7 @@ use Rattle.table.specs.Room.{Sized}
 use Rattle.links.specs.Links.{linked_at, link_word}
 use Rattle.sweep.specs.Sweep.{unflagged}
 use Rattle.postponed.specs.Postponed.{Mapped}
+use Rattle.walk.specs.declared.heap.Heap as Lent
 use Rattle.walk.specs.Marks.{flags_of}
 
 -- ---- the walk as the buffers hold it
@@ -27,6 +28,10 @@ pub record Way : Type 0 where
 
 abbrev pub way : Bool → List ℕ → List ℕ → Way
 way by list sets = record { clustered = by; list = list; sets = sets }
+
+-- how the walk of this heap goes
+abbrev pub way_of : Lent.Heap → Way
+way_of heap = way heap.by heap.sinks.now heap.sets.now
 
 -- a heap as it is walked
 abbrev pub heap_for : Way → Heap → Heap

@@ -1,21 +1,26 @@
 // The walk of a collection, over the heap as it is or by its clusters. `by` tells whether clusters are walked.
 #![tactic(auto)]
 
+mod heap;
 mod marks;
 mod scan;
 mod trace;
 mod visit;
 
+ghost use Rattle.layout.specs.Refusal.{refusal_of};
 ghost use Rattle.walk.specs.Walk.{AfterWalk};
 
+use crate::heap::Heap;
 use crate::trace::trace;
 use layout::answers::Control;
 use layout::limits::work_len;
+use layout::refusals::Refusal;
 use table::buffers::zero;
+use table::room::Buffers;
 use wellformed::heap_refusal;
 
-// Tests the heap and walks it from its roots; answers the number of the first test that holds, 0 where none does. After an accepted walk the
-// flags are in the records, and the work words are 0. `rest` says that a slice besides is too short.
+// Tests the heap and walks it from its roots; the first test that holds refuses. After an accepted walk the flags are in the records, and
+// the work words are 0. `rest` says that a slice besides is too short.
 pub fn walk(
     by: bool,
     c: Control,
@@ -26,34 +31,27 @@ pub fn walk(
     sets: &[u64],
     work: &mut [u32],
     rest: bool,
-) -> u32
+) -> Result<(), Refusal>
     ensures { AfterWalk by c records.old slots.now roots.now sinks.now sets.now work.old rest
-        result records.new work.new }
+        (refusal_of result) records.new work.new }
 {
     let m = work_len(c.n);
-    let k = heap_refusal(
-        c,
+    let lent = Buffers {
         records,
         slots,
         roots,
         sinks,
         sets,
-        (work.len() < m) | rest,
-    );
-    if k != 0 {
-        return k;
-    }
-    trace(
+    };
+    heap_refusal(c, &lent, (work.len() < m) | rest)?;
+    let heap = Heap {
         by,
-        c.n,
-        c.r,
-        records,
+        n: c.n,
         slots,
-        roots,
         sinks,
         sets,
-        &mut work[0..m],
-    );
+    };
+    trace(heap, c.r, roots, records, &mut work[0..m]);
     zero(work, m);
-    0
+    Ok(())
 }

@@ -7,6 +7,7 @@ ghost use Rattle.rules.specs.View.{view};
 ghost use Rattle.walk.specs.Marks.{flags_of};
 ghost use Rattle.walk.specs.State.{pointers_in, Objects, sinks_in, link_at, Linked, Pushable, Pushed, State, Moved};
 
+use crate::heap::Heap;
 use crate::marks::put_bit;
 use bitmap::{lowest_bit, without_lowest};
 use layout::limits::within;
@@ -27,9 +28,7 @@ fn push_pointers(
     ensures { Pushed (pointers_in n (take k (drop from slots.now))) work.old top work.new result }
 {
     let mut at = top;
-    let mut j = k;
-    while 0 < j {
-        j -= 1;
+    for j in (0..k).rev() {
         let w = slots[from + j];
         if within(1, n, w) {
             at -= 1;
@@ -40,68 +39,58 @@ fn push_pointers(
 }
 
 // Marks object x and puts its pointers in front of the pending objects.
-pub(crate) fn scan(
-    n: u32,
-    records: &mut [u32],
-    slots: &[u32],
-    work: &mut [u32],
-    top: usize,
-    x: u32,
-) -> usize
-    requires state { State n records.old slots.now work.old top }
-    requires obj { Obj n x }
-    requires x_value { flags_of n records.old T.marked x ≡ false }
-    ensures { Moved n slots.now records.old work.old top
-        (T.scan (view n records.old slots.now) x)
+pub(crate) fn scan(heap: Heap, records: &mut [u32], work: &mut [u32], top: usize, x: u32) -> usize
+    requires state { State heap.n records.old heap.slots.now work.old top }
+    requires obj { Obj heap.n x }
+    requires x_value { flags_of heap.n records.old T.marked x ≡ false }
+    ensures { Moved heap.entry.n heap.entry.slots.now records.old work.old top
+        (T.scan (view heap.entry.n records.old heap.entry.slots.now) x)
         records.new work.new result }
 {
-    let k = width_of(record_of(n, x, records)) as usize;
+    let k = width_of(record_of(heap.n, x, records)) as usize;
     put_bit(records, x, MARKED, true);
-    push_pointers(n, slots, work, 8 * (x as usize - 1), k, top)
+    push_pointers(heap.n, heap.slots, work, 8 * (x as usize - 1), k, top)
 }
 
 // Scans object x unless it is marked.
 pub(crate) fn scan_unmarked(
-    n: u32,
+    heap: Heap,
     records: &mut [u32],
-    slots: &[u32],
     work: &mut [u32],
     top: usize,
     x: u32,
 ) -> usize
-    requires state { State n records.old slots.now work.old top }
-    requires obj { Obj n x }
-    ensures { Moved n slots.now records.old work.old top
-        (T.scan_if (view n records.old slots.now) true true (flags_of n records.old T.marked x) x)
+    requires state { State heap.n records.old heap.slots.now work.old top }
+    requires obj { Obj heap.n x }
+    ensures { Moved heap.entry.n heap.entry.slots.now records.old work.old top
+        (T.scan_if (view heap.entry.n records.old heap.entry.slots.now) true true (flags_of heap.entry.n records.old T.marked x) x)
         records.new work.new result }
 {
-    if is_marked(record_of(n, x, records)) {
+    if is_marked(record_of(heap.n, x, records)) {
         return top;
     }
-    scan(n, records, slots, work, top, x)
+    scan(heap, records, work, top, x)
 }
 
 // Scans the sinks in the places of a set that are not marked, by place.
 pub(crate) fn scan_sinks(
-    n: u32,
+    heap: Heap,
     records: &mut [u32],
-    slots: &[u32],
-    sinks: &[u32],
     work: &mut [u32],
     top: usize,
     set: u64,
 ) -> usize
-    requires state { State n records.old slots.now work.old top }
-    requires sink_max_in_bounds { (sink_max ≤ length sinks.now) × Objects n (sinks_in sinks.now set) }
-    ensures { Moved n slots.now records.old work.old top
-        (T.scan_all (view n records.old slots.now) (sinks_in sinks.now set))
+    requires state { State heap.n records.old heap.slots.now work.old top }
+    requires sink_max_in_bounds { (sink_max ≤ length heap.sinks.now) × Objects heap.n (sinks_in heap.sinks.now set) }
+    ensures { Moved heap.entry.n heap.entry.slots.now records.old work.old top
+        (T.scan_all (view heap.entry.n records.old heap.entry.slots.now) (sinks_in heap.entry.sinks.now set))
         records.new work.new result }
 {
     let mut at = top;
     let mut rest = set;
     while rest != 0 {
         let k = lowest_bit(rest) as usize;
-        at = scan_unmarked(n, records, slots, work, at, sinks[k]);
+        at = scan_unmarked(heap, records, work, at, heap.sinks[k]);
         rest = without_lowest(rest);
     }
     at
@@ -117,25 +106,24 @@ fn link_of(n: u32, work: &[u32], x: u32) -> u32
 
 // Scans the out members of h's cluster that are not marked, from the highest down, so that in the end their pointers are in number order.
 pub(crate) fn scan_outs(
-    n: u32,
+    heap: Heap,
     records: &mut [u32],
-    slots: &[u32],
     work: &mut [u32],
     top: usize,
     h: u32,
 ) -> usize
-    requires state { State n records.old slots.now work.old top }
-    requires linked { Linked true n records.old work.old }
-    requires obj { Obj n h }
-    ensures { Moved n slots.now records.old work.old top
-        (T.scan_outs (view n records.old slots.now) h n)
+    requires state { State heap.n records.old heap.slots.now work.old top }
+    requires linked { Linked true heap.n records.old work.old }
+    requires obj { Obj heap.n h }
+    ensures { Moved heap.entry.n heap.entry.slots.now records.old work.old top
+        (T.scan_outs (view heap.entry.n records.old heap.entry.slots.now) h heap.entry.n)
         records.new work.new result }
 {
     let mut at = top;
-    let mut x = top_member(link_of(n, work, h));
+    let mut x = top_member(link_of(heap.n, work, h));
     while x != 0 {
-        at = scan_unmarked(n, records, slots, work, at, x);
-        x = next_member(link_of(n, work, x));
+        at = scan_unmarked(heap, records, work, at, x);
+        x = next_member(link_of(heap.n, work, x));
     }
     at
 }

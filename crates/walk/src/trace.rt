@@ -4,8 +4,9 @@ ghost use Rattle.layout.specs.Limits.{object_max};
 ghost use Rattle.graph.specs.Numbers.{Obj};
 ghost use Rattle.graph.specs.Heap.{pointers};
 ghost use Rattle.rules.specs.View.{starts_in};
-ghost use Rattle.walk.specs.State.{way, pending, Objects, Linked, Ready, Followed, Drained, Finished, Traceable, Walked};
+ghost use Rattle.walk.specs.State.{way_of, pending, Objects, Linked, Ready, Followed, Drained, Finished, Traceable, Walked};
 
+use crate::heap::Heap;
 use crate::visit::{take_up, visit, visit_pending};
 use layout::limits::work_len;
 use links::link;
@@ -13,102 +14,55 @@ use postponed::lowest;
 use table::buffers::clear;
 
 // Visits the pending objects, and what they lead to, until none is left.
-fn drain(
-    by: bool,
-    n: u32,
-    records: &mut [u32],
-    slots: &[u32],
-    sinks: &[u32],
-    sets: &[u64],
-    work: &mut [u32],
-    top: usize,
-)
-    requires { Ready (way by sinks.now sets.now) n records.old slots.now work.old top }
-    ensures { Drained (way by sinks.now sets.now) n slots.now records.old (pending n work.old top)
+fn drain(heap: Heap, records: &mut [u32], work: &mut [u32], top: usize)
+    requires { Ready (way_of heap) heap.n records.old heap.slots.now work.old top }
+    ensures { Drained (way_of heap.entry) heap.entry.n heap.entry.slots.now records.old (pending heap.entry.n work.old top)
         records.new work.new }
 {
-    let end = 8 * (n as usize);
+    let end = 8 * (heap.n as usize);
     let mut at = top;
+    // Not a `for`: a visit moves the place of the next one.
     while at < end {
         let x = work[at];
-        at = visit_pending(by, n, records, slots, sinks, sets, work, at + 1, x);
+        at = visit_pending(heap, records, work, at + 1, x);
     }
 }
 
 // Visits object x and what it leads to.
-fn follow(
-    by: bool,
-    n: u32,
-    records: &mut [u32],
-    slots: &[u32],
-    sinks: &[u32],
-    sets: &[u64],
-    work: &mut [u32],
-    x: u32,
-)
-    requires ready { Ready (way by sinks.now sets.now) n records.old slots.now work.old (8 * n) }
-    requires obj { Obj n x }
-    ensures { Followed (way by sinks.now sets.now) n slots.now records.old (x ∷ []) records.new work.new }
+fn follow(heap: Heap, records: &mut [u32], work: &mut [u32], x: u32)
+    requires ready { Ready (way_of heap) heap.n records.old heap.slots.now work.old (8 * heap.n) }
+    requires obj { Obj heap.n x }
+    ensures { Followed (way_of heap.entry) heap.entry.n heap.entry.slots.now records.old (x ∷ []) records.new work.new }
 {
-    let top = visit(
-        by,
-        n,
-        records,
-        slots,
-        sinks,
-        sets,
-        work,
-        8 * (n as usize),
-        x,
-    );
-    drain(by, n, records, slots, sinks, sets, work, top);
+    let top = visit(heap, records, work, 8 * (heap.n as usize), x);
+    drain(heap, records, work, top);
 }
 
 // Visits the objects that the first r roots name, by index.
-fn follow_roots(
-    by: bool,
-    n: u32,
-    r: u32,
-    records: &mut [u32],
-    slots: &[u32],
-    roots: &[u32],
-    sinks: &[u32],
-    sets: &[u64],
-    work: &mut [u32],
-)
-    requires ready { Ready (way by sinks.now sets.now) n records.old slots.now work.old (8 * n) }
-    requires r_in_bounds { (r ≤ length roots.now) × Objects n (pointers (take r roots.now)) }
-    ensures { Followed (way by sinks.now sets.now) n slots.now records.old (pointers (take r roots.now))
+fn follow_roots(heap: Heap, r: u32, roots: &[u32], records: &mut [u32], work: &mut [u32])
+    requires ready { Ready (way_of heap) heap.n records.old heap.slots.now work.old (8 * heap.n) }
+    requires r_in_bounds { (r ≤ length roots.now) × Objects heap.n (pointers (take r roots.now)) }
+    ensures { Followed (way_of heap.entry) heap.entry.n heap.entry.slots.now records.old (pointers (take r roots.now))
         records.new work.new }
 {
-    let mut i: usize = 0;
-    while i < r as usize {
+    for i in 0..r as usize {
         let w = roots[i];
-        i += 1;
         if w != 0 {
-            follow(by, n, records, slots, sinks, sets, work, w);
+            follow(heap, records, work, w);
         }
     }
 }
 
 // Takes up the postponed objects, the lowest first, until none is left.
-fn follow_postponed(
-    by: bool,
-    n: u32,
-    records: &mut [u32],
-    slots: &[u32],
-    sinks: &[u32],
-    sets: &[u64],
-    work: &mut [u32],
-)
-    requires { Ready (way by sinks.now sets.now) n records.old slots.now work.old (8 * n) }
-    ensures { Finished (way by sinks.now sets.now) n slots.now records.old records.new }
+fn follow_postponed(heap: Heap, records: &mut [u32], work: &mut [u32])
+    requires { Ready (way_of heap) heap.n records.old heap.slots.now work.old (8 * heap.n) }
+    ensures { Finished (way_of heap.entry) heap.entry.n heap.entry.slots.now records.old records.new }
 {
-    let mut x = lowest(n, work);
+    let mut x = lowest(heap.n, work);
     while x != 0 {
-        let top = take_up(by, n, records, slots, work, x);
-        drain(by, n, records, slots, sinks, sets, work, top);
-        x = lowest(n, work);
+        let top = take_up(heap, records, work, x);
+        drain(heap, records, work, top);
+        x = lowest(heap.n, work);
     }
 }
 
@@ -125,24 +79,14 @@ fn link_clusters(by: bool, n: u32, records: &[u32], work: &mut [u32])
 }
 
 // Walks the heap from its roots, by clusters or without them, and leaves the flags in the records.
-pub(crate) fn trace(
-    by: bool,
-    n: u32,
-    r: u32,
-    records: &mut [u32],
-    slots: &[u32],
-    roots: &[u32],
-    sinks: &[u32],
-    sets: &[u64],
-    work: &mut [u32],
-)
-    requires traceable { Traceable (way by sinks.now sets.now) n (starts_in r roots.now) records.old slots.now work.old }
+pub(crate) fn trace(heap: Heap, r: u32, roots: &[u32], records: &mut [u32], work: &mut [u32])
+    requires traceable { Traceable (way_of heap) heap.n (starts_in r roots.now) records.old heap.slots.now work.old }
     requires r_in_bounds { r ≤ length roots.now }
-    ensures { Walked (way by sinks.now sets.now) n (starts_in r roots.now)
-        records.old slots.now records.new }
+    ensures { Walked (way_of heap.entry) heap.entry.n (starts_in r roots.now)
+        records.old heap.entry.slots.now records.new }
 {
-    link_clusters(by, n, records, work);
-    clear(work, 9 * (n as usize), work_len(n));
-    follow_roots(by, n, r, records, slots, roots, sinks, sets, work);
-    follow_postponed(by, n, records, slots, sinks, sets, work);
+    link_clusters(heap.by, heap.n, records, work);
+    clear(work, 9 * (heap.n as usize), work_len(heap.n));
+    follow_roots(heap, r, roots, records, work);
+    follow_postponed(heap, records, work);
 }

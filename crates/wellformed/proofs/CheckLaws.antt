@@ -1,33 +1,37 @@
 -- The check: what it has seen of an object after some of its slots, and what its answer is then. Assumes nothing.
 use Prim.Native.Nat.{ℕ, zero, suc, ◌+◌, ◌-◌, ◌*◌, ◌≤◌, ◌<◌}
 use mathlib.Core.Path.{◌≡◌, refl, sym, ap, ◌∙◌, fun_ext}
-use mathlib.Core.Bool.{Bool, true, false, not, cond, ◌&&◌, ◌||◌, beq, true≢false, and-false, and_assoc, or-false, or_assoc, or-true}
+use mathlib.Core.Bool.{Bool, true, false, not, cond, ◌&&◌, ◌||◌, true≢false, and-false, and_assoc, or-false, or_assoc}
 use mathlib.Core.Logic.{◌≢◌}
 use mathlib.Core.List.{List, [], ◌∷◌}
 use native.Mathlib.Decide.{dec_le}
 use native.Mathlib.Omega.{arith}
 use native.Mathlib.Numerals.{add-one}
 use lib.Dec.{eqb, leb}
-use lib.ListN.{length, get_or, take, drop, length-take, drop_of_length-le}
-use lib.Seq.{drop-cons, get_or-take, get_or-drop, take-nil, length-take-le}
-use borrow.Author.Tests.{le-leb, lt-leb, eqb-true, eq-eqb, ne_eqb, not-false}
+use lib.ListN.{length, get_or, take, drop, drop_of_length-le}
+use lib.Seq.{drop-cons, get_or-take, get_or-drop, take-nil}
+use borrow.Author.Tests.{leb-true, not-true, le-leb, lt-leb, eqb-true, eq-eqb, ne_eqb, not-false}
 use borrow.Rule.Slice.PartMut.{mid_of, mid_len}
+use Rattle.std.specs.Prelude.{IsTrue, ◌↔◌}
+use Rattle.std.specs.List.{AllPass}
+use Rattle.std.proofs.lemmas.List.Elements.{All-nil, All-cons, All-head, All-tail}
 use Rattle.layout.specs.declared.answers.Control.{Control}
 use Rattle.layout.specs.ControlRecord.{bad_control}
 use Rattle.layout.specs.Limits.{object_max, sink_max, work_len}
 use Rattle.layout.specs.Refusal.{first}
-use Rattle.layout.proofs.BoolLaws.{or_split}
+use Rattle.layout.proofs.BoolLaws.{and_split, or_split}
 use Rattle.layout.proofs.ControlLaws.{control-facts}
 use Rattle.layout.proofs.RefusalLaws.{first-passed}
-use Rattle.records.specs.Record.{in_use, is_sink, is_out, width, cluster, free, legal}
+use Rattle.records.specs.Record.{in_use, is_sink, width, cluster}
 use Rattle.layout.specs.Word.{is_nil, is_pointer, is_immediate, legal_word, sort_of}
 use Rattle.layout.specs.declared.words.Word.{Word}
 use Rattle.layout.specs.declared.words.Word.TheVariants.{Nil, Object, Immediate, Illegal}
 use Rattle.layout.proofs.WordLaws.{sort-nil, sort-pointer, sort-immediate, sort-illegal, pointer-not-immediate}
 use Rattle.graph.specs.Clusters.{out_count, out_bit}
-use Rattle.rules.specs.Buffers.{short_heap, rec_of, eight, used_words, other_words, all_of, all_to}
+use Rattle.rules.specs.Buffers.{short, short_heap, rec_of, eight, used_words, other_words, all_of, all_to}
 use Rattle.rules.specs.View.{view, exact_out}
 use Rattle.rules.specs.WellFormed.{names, legal_at, empty_at, words_at, head_at, out_at, roots_named, once, list_ok, sets_ok, formed, well_formed, checked}
+use Rattle.rules.proofs.BoolLaws.{is_false}
 use Rattle.rules.proofs.ListLaws.{length-eight}
 use Rattle.rules.proofs.BufferLaws.{rec_of-get}
 use Rattle.rules.proofs.ListedLaws.{lists-facts}
@@ -36,6 +40,8 @@ use Rattle.rules.proofs.SaneLaws.{sane-width}
 use Rattle.table.specs.Room.{Room, Sized, Accepted}
 use Rattle.wellformed.specs.Check.{record_ok, head_ok, slot_ok, member_leaves, out_ok, object_ok, objects_ok, heap_tests}
 use Rattle.table.specs.Clusters.{word_leaves, any_leaves}
+use Rattle.places.specs.Places.{last_places}
+use Rattle.places.proofs.LatestLaws.{sets-exact}
 use Rattle.table.proofs.RoomLaws.{heap-long}
 use Rattle.table.proofs.ClusterLaws.{any-cons, nil-stays}
 
@@ -277,37 +283,6 @@ formed-parts n r recs slots roots =
 
 -- ---- the small tests
 
-module _ (n r : ℕ) where
-  pub record-zero : r ≡ 0 → eqb r 0 ≡ record_ok n r
-  unfolding record_ok free
-  record-zero e = rw (eq-eqb r 0 e) refl
-
-  pub record-other : r ≢ 0 → legal n r ≡ record_ok n r
-  unfolding record_ok free
-  record-other e = rw (ne_eqb r 0 e) refl
-
-  module _ (recs : List ℕ) (c : ℕ) (e : c ≡ cluster r) where
-    pub head-none : c ≡ 0 → eqb c 0 ≡ head_ok n recs r
-    unfolding head_ok
-    head-none z = rw (← e, eq-eqb c 0 z) refl
-
-    pub head-some : c ≢ 0 → (h d : ℕ) → h ≡ rec_of n recs c → d ≡ cluster h → eqb d c ≡ head_ok n recs r
-    unfolding head_ok
-    head-some z h d eh ed = rw (← e, ne_eqb c 0 z, ed, eh) refl
-
-module _ (r c : ℕ) (leaving : Bool) (e : c ≡ cluster r) where
-  pub out_none : c ≡ 0 → not (is_out r) ≡ out_ok r leaving
-  unfolding out_ok
-  out_none z = rw (← e, eq-eqb c 0 z) (neither (is_out r))
-    where
-      neither : (a : Bool) → not a ≡ beq a false
-      neither true = refl
-      neither false = refl
-
-  pub out_some : c ≢ 0 → beq (is_out r) leaving ≡ out_ok r leaving
-  unfolding out_ok
-  out_some z = rw (← e, ne_eqb c 0 z) refl
-
 module _ (n : ℕ) (recs : List ℕ) (w k v : ℕ) where
   pub slot-unused : w ≤ k → eqb v 0 ≡ slot_ok n recs w k v
   unfolding slot_ok is_nil
@@ -334,42 +309,33 @@ module _ (n : ℕ) (recs : List ℕ) (w k v : ℕ) where
   pub slot-end : n ≤ object_max → k < w → (s : Word) → s ≡ sort_of n v → allowed s ≡ slot_ok n recs w k v
   slot-end h l s e = ap allowed e ∙ slot-sorted h l
 
--- ---- the roots, one after the other
+-- ---- the roots
 
-module _ (n r : ℕ) (recs roots : List ℕ) where
-  abbrev root_ok : ℕ → Bool
-  root_ok v = is_nil v || in_use (rec_of n recs v)
+-- an answer that says of a list what the test says of each word
+module _ (t : ℕ → Bool) where
+  pass : (w : ℕ) (l : List ℕ) → AllPass t (w ∷ l) → (t w ≡ true) × AllPass t l
+  pass w l h = (All-head (λ x. t x ≡ true) w l h, All-tail (λ x. t x ≡ true) w l h)
 
-  -- those from place j on
-  unfoldable pub roots_from : ℕ → Bool
-  roots_from j = all_of root_ok (drop j (take r roots))
+  all_of-passed : (l : List ℕ) → AllPass t l → all_of t l ≡ true
+  unfolding all_of
+  all_of-passed [] h = refl
+  all_of-passed (w ∷ l) h = let p = pass w l h in rw p.0 (all_of-passed l p.1)
 
-  pub roots-begin : roots_from 0 ≡ roots_named n r recs roots
-  unfolding roots_from roots_named names
-  roots-begin =
-      ap (λ (t : ℕ → Bool). all_of t (take r roots)) (fun_ext {A = ℕ} {B = λ _. Bool} (λ v. ap (λ (b : Bool). is_nil v || b) (sym (unfold names in (names-used n recs v)))))
+  passed-all_of : (l : List ℕ) → all_of t l ≡ true → AllPass t l
+  unfolding all_of
+  passed-all_of [] h = All-nil (λ x. t x ≡ true)
+  passed-all_of (w ∷ l) h = let p = and_split (t w) (all_of t l) h in All-cons (λ x. t x ≡ true) w l p.0 (passed-all_of l p.1)
 
-  pub roots-end : (j : ℕ) → r ≤ j → roots_from j ≡ true
-  unfolding roots_from all_of
-  roots-end j p = rw (drop_of_length-le (take r roots) {i = j} (let a = length-take r roots in omega arith)) refl
+  all-answered : (l : List ℕ) (b : Bool) → (IsTrue b ↔ AllPass t l) → b ≡ all_of t l
+  all-answered l true h = sym (all_of-passed l (h.0 refl))
+  all-answered l false h = sym (is_false (all_of t l) (λ e. true≢false (sym (h.1 (passed-all_of l e)))))
 
-  module _ (j v : ℕ) (p : j < r) (l : r ≤ length roots) (e : v ≡ get_or roots j 0) where
-    turn : roots_from j ≡ (root_ok v && roots_from (suc j))
-    unfolding roots_from all_of
-    turn =
-        ap (all_of root_ok) (drop-cons (take r roots) j 0 (let a = length-take-le r roots l in omega arith))
-        ∙ ap (λ (y : ℕ). root_ok y && all_of root_ok (drop (suc j) (take r roots))) (get_or-take r roots j 0 p ∙ sym e)
-
-    pub root-nil : v ≡ 0 → roots_from (j + 1) ≡ roots_from j
-    unfolding is_nil
-    root-nil z = rw (add-one j) (sym (turn ∙ rw (eq-eqb v 0 z) refl))
-
-    pub root-used : in_use (rec_of n recs v) ≡ true → roots_from (j + 1) ≡ roots_from j
-    root-used u = rw (add-one j) (sym (turn ∙ rw (u, or-true) refl))
-
-    pub root-bad : v ≢ 0 → in_use (rec_of n recs v) ≡ false → roots_from j ≡ false
-    unfolding is_nil
-    root-bad z u = turn ∙ rw (ne_eqb v 0 z, u) refl
+pub roots-answered : (n r : ℕ) (recs roots : List ℕ) (b : Bool) → (IsTrue b ↔ AllPass (λ w. eqb w 0 || in_use (rec_of n recs w)) (take r roots))
+    → b ≡ roots_named n r recs roots
+unfolding roots_named is_nil
+roots-answered n r recs roots b h =
+    all-answered _ (take r roots) b h
+    ∙ ap (λ (t : ℕ → Bool). all_of t (take r roots)) (fun_ext {A = ℕ} {B = λ _. Bool} (λ v. ap (λ (b : Bool). eqb v 0 || b) (sym (names-used n recs v))))
 
 -- ---- the ends of the whole check
 
@@ -381,41 +347,54 @@ module _ (n r : ℕ) (recs slots roots : List ℕ) (b : Bool) (f : b ≡ objects
   by-roots d t g = g ∙ sym (formed-parts n r recs slots roots ∙ ap (λ (x : Bool). x && roots_named n r recs roots) (sym f ∙ t))
 
 module _ (c : Control) (recs slots roots list sets : List ℕ) where
-  pub no_size : object_max < c.n → false ≡ checked c recs slots roots list sets
+  pub checked-is : c.n ≤ object_max → (h : Bool) → h ≡ short_heap c.n c.r recs slots roots list sets → h ≡ false
+      → checked c recs slots roots list sets ≡ well_formed c recs slots roots list sets
   unfolding checked
-  no_size l = rw (lt-leb c.n object_max l) refl
+  checked-is l h eh t = rw (le-leb c.n object_max l, sym eh ∙ t) refl
 
-  module _ (l : c.n ≤ object_max) (h : Bool) (eh : h ≡ short_heap c.n c.r recs slots roots list sets) where
-    pub too_short : h ≡ true → false ≡ checked c recs slots roots list sets
-    unfolding checked
-    too_short t = rw (le-leb c.n object_max l, sym eh ∙ t) refl
+  -- n is a size, and no slice is too short
+  abbrev pub sized : Bool
+  sized = leb c.n object_max && not (short_heap c.n c.r recs slots roots list sets)
 
-    module _ (t : h ≡ false) where
-      pub checked-is : checked c recs slots roots list sets ≡ well_formed c recs slots roots list sets
-      unfolding checked
-      checked-is = rw (le-leb c.n object_max l, sym eh ∙ t) refl
+  pub in-size : (v : Bool) → v ≡ sized → v ≡ true → (c.n ≤ object_max) × (short_heap c.n c.r recs slots roots list sets ≡ false)
+  in-size v e t =
+      let p = and_split _ _ (sym e ∙ t) in
+      (leb-true _ _ p.0, not-true _ p.1)
 
-      module _ (a : Bool) (f : a ≡ formed c.n c.r recs slots roots) where
-        pub bad-formed : a ≡ false → false ≡ checked c recs slots roots list sets
-        unfolding well_formed
-        bad-formed g = sym (checked-is ∙ rw (← f, g) refl)
+  -- what is known after each of the first tests: v of the sizes, w of the objects and roots besides, x of the list besides
+  module _ (v w x : Bool) (ev : v ≡ sized) (ew : w ≡ (v && formed c.n c.r recs slots roots)) (ex : x ≡ (w && (leb c.n object_max && list_ok c.n recs list))) where
+    tests : x ≡ ((sized && formed c.n c.r recs slots roots) && (leb c.n object_max && list_ok c.n recs list))
+    tests = cc
 
-        module _ (s : a ≡ true) (b : Bool) (g : b ≡ leb c.n object_max && list_ok c.n recs list) where
-          list-is : b ≡ list_ok c.n recs list
-          list-is = g ∙ rw (le-leb c.n object_max l) refl
+    pub broken : x ≡ false → x ≡ checked c recs slots roots list sets
+    unfolding checked well_formed
+    broken e = e ∙ sym (go (leb c.n object_max) (not (short_heap c.n c.r recs slots roots list sets)) (formed c.n c.r recs slots roots) (list_ok c.n recs list) _ (sym tests ∙ e))
+      where
+        go : (a b f l s : Bool) → ((a && b) && f) && (a && l) ≡ false → a && b && (f && l && s) ≡ false
+        go true true true true s e = absurd (true≢false e)
+        go true true true false s e = refl
+        go true true false l s e = refl
+        go true false f l s e = refl
+        go false b f l s e = refl
 
-          pub bad-list : b ≡ false → false ≡ checked c recs slots roots list sets
-          unfolding well_formed
-          bad-list e = sym (checked-is ∙ rw (← f, s, ← list-is, e) refl)
+    module _ (e : x ≡ true) where
+      passed : (sized ≡ true) × (formed c.n c.r recs slots roots ≡ true) × (list_ok c.n recs list ≡ true)
+      passed =
+          let p = and_split _ _ (sym tests ∙ e) in
+          let q = and_split _ _ p.0 in
+          (q.0, q.1, (and_split _ _ p.1).1)
 
-          -- no number is in a list that is right twice
-          pub list-once : b ≡ true → once (take sink_max list) ≡ true
-          unfolding list_ok
-          list-once e = (lists-facts c.n (λ x. is_sink (rec_of c.n recs x)) (take sink_max list) (sym list-is ∙ e)).single
+      -- no number is in a list that is right twice
+      once-listed : once (take sink_max list) ≡ true
+      unfolding list_ok
+      once-listed = (lists-facts c.n (λ y. is_sink (rec_of c.n recs y)) (take sink_max list) passed.2).single
 
-          pub by-sets : (d : Bool) → b ≡ true → d ≡ sets_ok c.n recs slots list sets → d ≡ checked c recs slots roots list sets
-          unfolding well_formed
-          by-sets d e k = k ∙ sym (checked-is ∙ rw (← f, s, ← list-is, e) refl)
+      pub by-sets : (d : Bool) → d ≡ leb c.n object_max && (not (short c.n sets) && sets_ok c.n recs slots (last_places list) sets) → d ≡ checked c recs slots roots list sets
+      unfolding well_formed
+      by-sets d k =
+          let s = in-size sized refl passed.0 in
+          sets-exact c.n recs slots list sets d k s.0 (heap-long c.n c.r recs slots roots list sets s.1).sets-long once-listed
+          ∙ sym (checked-is s.0 false (sym s.1) refl ∙ rw (passed.1, passed.2) refl)
 
 -- ---- the tests of a call that walks the whole heap
 

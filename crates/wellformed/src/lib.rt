@@ -15,9 +15,10 @@ use layout::words::{Word, sort_word};
 use places::{list_ok, sets_ok};
 use records::{cluster_of, in_use, is_out, legal, width_of};
 use table::clusters::{leaves, record_of};
-use table::room::short_heap;
+use table::room::{Buffers, short_heap};
 
 // The record is 0 or legal.
+#[tactic(auto, unfolding(crate::specs::Check::record_ok, records::specs::Record::free))]
 fn record_ok(n: u32, r: u32) -> bool
     ensures { result ≡ record_ok n r }
 {
@@ -25,6 +26,7 @@ fn record_ok(n: u32, r: u32) -> bool
 }
 
 // The object that the record's cluster number names carries that number too.
+#[tactic(auto, unfolding(crate::specs::Check::head_ok))]
 fn head_ok(n: u32, r: u32, records: &[u32]) -> bool
     ensures { result ≡ head_ok n records.now r }
 {
@@ -52,13 +54,11 @@ fn slot_ok(n: u32, width: u32, k: usize, w: u32, records: &[u32]) -> bool
 fn member_leaves(n: u32, c: u32, w: u32, records: &[u32]) -> bool
     ensures { result ≡ member_leaves n records.now c w }
 {
-    if c == 0 || w == 0 {
-        return false;
-    }
-    leaves(n, c, w, records)
+    c != 0 && w != 0 && leaves(n, c, w, records)
 }
 
 // The out bit is set exactly where the object is a member and a used word of it leaves the cluster.
+#[tactic(auto, unfolding(crate::specs::Check::out_ok))]
 fn out_ok(r: u32, leaving: bool) -> bool
     ensures { result ≡ out_ok r leaving }
 {
@@ -75,8 +75,7 @@ fn objects_ok(n: u32, records: &[u32], slots: &[u32]) -> bool
     ensures { result ≡ objects_ok n records.now slots.now }
 {
     let mut ok = true;
-    let mut i: usize = 0;
-    'check: while i < n as usize {
+    'check: for i in 0..n as usize {
         let r = records[i];
         if !record_ok(n, r) || !head_ok(n, r, records) {
             ok = false;
@@ -85,21 +84,18 @@ fn objects_ok(n: u32, records: &[u32], slots: &[u32]) -> bool
         let width = width_of(r);
         let c = cluster_of(r);
         let mut leaving = false;
-        let mut k: usize = 0;
-        while k < WIDTH_MAX as usize {
+        for k in 0..WIDTH_MAX as usize {
             let w = slots[WIDTH_MAX as usize * i + k];
             if !slot_ok(n, width, k, w, records) {
                 ok = false;
                 break 'check;
             }
-            leaving = leaving | member_leaves(n, c, w, records);
-            k += 1;
+            leaving |= member_leaves(n, c, w, records);
         }
         if !out_ok(r, leaving) {
             ok = false;
             break 'check;
         }
-        i += 1;
     }
     ok
 }
@@ -109,15 +105,9 @@ fn roots_ok(n: u32, r: u32, records: &[u32], roots: &[u32]) -> bool
     requires { r ≤ length roots.now }
     ensures { result ≡ roots_named n r records.now roots.now }
 {
-    let mut j: usize = 0;
-    while j < r as usize {
-        let w = roots[j];
-        if w != 0 && !in_use(record_of(n, w, records)) {
-            return false;
-        }
-        j += 1;
-    }
-    true
+    roots[..r as usize]
+        .iter()
+        .all(|w| *w == 0 || in_use(record_of(n, *w, records)))
 }
 
 // Every object and every root keeps the rules.
@@ -130,50 +120,28 @@ fn formed_ok(n: u32, r: u32, records: &[u32], slots: &[u32], roots: &[u32]) -> b
 }
 
 // Whether the heap is well formed; false where n is above 4,095 or a slice is too short.
-pub fn well_formed(
-    c: Control,
-    records: &[u32],
-    slots: &[u32],
-    roots: &[u32],
-    sinks: &[u32],
-    sets: &[u64],
-) -> bool
-    ensures { result ≡ checked c records.now slots.now roots.now sinks.now sets.now }
+pub fn well_formed(c: Control, heap: &Buffers) -> bool
+    ensures { result ≡ checked c heap.now.records.now heap.now.slots.now heap.now.roots.now heap.now.sinks.now heap.now.sets.now }
 {
-    if OBJECT_MAX < c.n {
-        return false;
-    }
-    if short_heap(c.n, c.r, records, slots, roots, sinks, sets) {
-        return false;
-    }
-    if !formed_ok(c.n, c.r, records, slots, roots) {
-        return false;
-    }
-    if !list_ok(c.n, records, sinks) {
-        return false;
-    }
-    sets_ok(c.n, records, slots, sinks, sets)
+    c.n <= OBJECT_MAX
+        && !short_heap(c.n, c.r, heap)
+        && formed_ok(c.n, c.r, heap.records, heap.slots, heap.roots)
+        && list_ok(c.n, heap.records, heap.sinks)
+        && sets_ok(c.n, heap.records, heap.slots, heap.sinks, heap.sets)
 }
 
 // The first test of a call that walks the whole heap that holds refuses; `rest` says that a slice besides is too short.
-pub fn heap_refusal(
-    c: Control,
-    records: &[u32],
-    slots: &[u32],
-    roots: &[u32],
-    sinks: &[u32],
-    sets: &[u64],
-    rest: bool,
-) -> Result<(), Refusal>
-    ensures { refusal_of result ≡ first (heap_tests c records.now slots.now roots.now sinks.now sets.now rest) }
+pub fn heap_refusal(c: Control, heap: &Buffers, rest: bool) -> Result<(), Refusal>
+    ensures { refusal_of result
+        ≡ first (heap_tests c heap.now.records.now heap.now.slots.now heap.now.roots.now heap.now.sinks.now heap.now.sets.now rest) }
 {
     if bad_control(c) {
         return Err(Refusal::BadControl);
     }
-    if short_heap(c.n, c.r, records, slots, roots, sinks, sets) | rest {
+    if short_heap(c.n, c.r, heap) | rest {
         return Err(Refusal::TooShort);
     }
-    if well_formed(c, records, slots, roots, sinks, sets) {
+    if well_formed(c, heap) {
         Ok(())
     } else {
         Err(Refusal::Damaged)

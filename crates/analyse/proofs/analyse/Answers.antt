@@ -1,30 +1,26 @@
 -- `analyse` meets its contract. Assumes nothing.
 use mathlib.Core.Path.{refl, ap, ◌∙◌}
+use Rattle.layout.proofs.RefusalLaws.{numbered}
 use Rattle.rules.specs.Analyse.{next_limit}
 use Rattle.wellformed.proofs.CheckLaws.{accepted-part}
 use Rattle.analyse.proofs.CallLaws.{refused, accepted, cap-fits, formable, outcome}
 use Rattle.analyse.proofs.analyse.Goals as goal
 
-pub shape_of-records-then-refusal-ne0 : goal.shape_of-records-then-refusal-ne0
-shape_of-records-then-refusal-ne0 c = refl
-
-pub shape_of-sets-then-refusal-ne0 : goal.shape_of-sets-then-refusal-ne0
-shape_of-sets-then-refusal-ne0 c = refl
-
-pub returns-then-refusal-ne0 : goal.returns-then-refusal-ne0
-returns-then-refusal-ne0 c = refused _ _ _ _ _ _ _ _ c.work_len-cap.ensures _ c.heap_refusal-refusal.ensures c.if-refusal-ne0.true
+pub returns-in-Err : goal.returns-in-Err
+returns-in-Err c =
+    rw c.from.ensures (refused _ _ _ _ _ _ _ _ c.work_len-cap.ensures _ c.in-Err.ensures (numbered c.in-Err.e))
 
 pub used_count-requires : goal.used_count-requires
-used_count-requires c = let a = (accepted _ _ _ _ _ _ c.args.work.now _ c.work_len-cap.ensures _ c.heap_refusal-refusal.ensures c.if-refusal-ne0.false) in (a.room.recs-long, a.room.most)
+used_count-requires c = let a = (accepted _ _ _ _ _ _ c.args.work.now _ c.work_len-cap.ensures _ c.in_default.ensures refl) in (a.room.recs-long, a.room.most)
 
 pub slice_bounds-form_and_judge-end : goal.slice_bounds-form_and_judge-end
-slice_bounds-form_and_judge-end c = cap-fits _ _ _ _ _ _ _ (accepted _ _ _ _ _ _ c.args.work.now _ c.work_len-cap.ensures _ c.heap_refusal-refusal.ensures c.if-refusal-ne0.false) _ c.work_len-cap.ensures
+slice_bounds-form_and_judge-end c = cap-fits _ _ _ _ _ _ _ (accepted _ _ _ _ _ _ c.args.work.now _ c.work_len-cap.ensures _ c.in_default.ensures refl) _ c.work_len-cap.ensures
 
 pub form_and_judge-found-requires : goal.form_and_judge-found-requires
 form_and_judge-found-requires c =
-    let a = (accepted _ _ _ _ _ _ c.args.work.now _ c.work_len-cap.ensures _ c.heap_refusal-refusal.ensures c.if-refusal-ne0.false) in
+    let a = (accepted _ _ _ _ _ _ c.args.work.now _ c.work_len-cap.ensures _ c.in_default.ensures refl) in
     formable _ _ _ _ _ _ _ (accepted-part _ _ _ _ _ _ _ a _ c.work_len-cap.ensures) _ (c.next_limit-limit.ensures ∙ ap (next_limit c.args.c) c.used_count.ensures)
 
 pub returns : goal.returns
 returns c =
-    outcome _ _ _ _ _ _ c.args.work.now _ c.work_len-cap.ensures _ c.heap_refusal-refusal.ensures c.if-refusal-ne0.false _ (c.next_limit-limit.ensures ∙ ap (next_limit c.args.c) c.used_count.ensures) _ _ c.form_and_judge-found.new.work _ _ _ _ c.form_and_judge-found.ensures c.fill_sets.ensures c.form_and_judge-found.auto.work c.zero.ensures _ c.with_analysis.ensures
+    outcome _ _ _ _ _ _ c.args.work.now _ c.work_len-cap.ensures _ c.in_default.ensures refl _ (c.next_limit-limit.ensures ∙ ap (next_limit c.args.c) c.used_count.ensures) _ _ c.form_and_judge-found.new.work _ _ _ _ c.form_and_judge-found.ensures c.fill_sets.ensures c.form_and_judge-found.auto.work c.zero.ensures _ c.with_analysis.ensures

@@ -10,4 +10,4 @@ overflow_mul-result c = record { fits = product-fits _ _ (search rules) (search 
 
 pub returns : goal.returns
 unfolding over_by
-returns c = refl
+returns c = rw (c.from.ensures, c.from-2.ensures, c.from-3.ensures) refl

@@ -1,13 +1,11 @@
 -- `files::next_line` looks, and reads on while no line is found. Assumes nothing.
 use Rattle.std.proofs.Common.{◌≡◌}
 use Rattle.files.specs.declared.Source.{Source}
-use Rattle.files.specs.Reading.{needs_more, Found}
+use Rattle.files.specs.declared.State.TheVariants.{More}
+use Rattle.files.specs.Reading.{Found}
 use Rattle.files.proofs.next_line.Given as goal
 
 -- what holds of the first answer holds of the last one, and where the first one was enough, it is the last
-abbrev pub invariant-loop-turns : goal.invariant-loop-turns
-invariant-loop-turns g l =
-    ((s : Source) → Found s l.initial.t → Found s l.t) × ((l.initial.t.state ≡ needs_more → ⊥) → (l.t ≡ l.initial.t) × (l.input ≡ l.initial.input))
-
-abbrev pub decreases-loop-turns : goal.decreases-loop-turns
-decreases-loop-turns g l = l.turns
+abbrev pub invariant-loop : goal.invariant-loop
+invariant-loop g l =
+    ((s : Source) → Found s l.initial.t → Found s l.t) × ((l.initial.t.state ≡ More → ⊥) → (l.t ≡ l.initial.t) × (l.input ≡ l.initial.input))

@@ -14,13 +14,13 @@ pub returns-then-none_listed : goal.returns-then-none_listed
 returns-then-none_listed c =
     let a = c.args in
     filled_none a.n a.records.now a.slots.now a.sinks.now _ _ c.if-n-gt-OBJECT_MAX.false
-    (c.none_listed.ensures c.if-none_listed.true) c.zero_sets.ensures
+    (c.none_listed.ensures c.if-none_listed.true) c.zero.ensures
 
 pub returns : goal.returns
 returns c =
     let a = c.args in
     let f = c.fill_places.ensures in
-    let z = c.zero_sets.ensures in
+    let z = c.zero.ensures in
     filled-last a.n a.records.now a.slots.now a.sinks.now a.sets.now _ c.if-n-gt-OBJECT_MAX.false
     (c.put_sets.ensures
     ∙ ap₂ (λ (t s : List ℕ). put_all (gather a.n (is_member a.n a.records.now) (object_bits a.n a.records.now a.slots.now t)) s) f z)

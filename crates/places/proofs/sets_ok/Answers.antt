@@ -1,12 +1,14 @@
 -- `places::sets_ok` makes the exact sets and compares. Assumes nothing.
 use Rattle.places.proofs.ExactLaws.{sets-large, sets-short, exact_none, exact-last}
 use Rattle.places.proofs.sets_ok.Goals as goal
+use Rattle.places.proofs.sets_ok.Goals.{then-n-gt-OBJECT_MAX-via-then-n-gt-OBJECT_MAX, then-n-gt-OBJECT_MAX-via-else-n-gt-OBJECT_MAX+then-sets-n}
 
 pub returns-then-n-gt-OBJECT_MAX : goal.returns-then-n-gt-OBJECT_MAX
-returns-then-n-gt-OBJECT_MAX c = sets-large _ _ c.if-n-gt-OBJECT_MAX.true
-
-pub returns-then-sets-n : goal.returns-then-sets-n
-returns-then-sets-n c = sets-short _ _ _ c.if-sets-n.true
+returns-then-n-gt-OBJECT_MAX c =
+    elim c.then-n-gt-OBJECT_MAX.branch [
+      | then-n-gt-OBJECT_MAX-via-then-n-gt-OBJECT_MAX w ↦ sets-large _ _ w.if-n-gt-OBJECT_MAX.true
+      | then-n-gt-OBJECT_MAX-via-else-n-gt-OBJECT_MAX+then-sets-n w ↦ sets-short _ _ _ w.if-sets-n.true
+    ]
 
 pub returns-then-none_listed : goal.returns-then-none_listed
 returns-then-none_listed c =

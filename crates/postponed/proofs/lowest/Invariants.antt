@@ -1,12 +1,9 @@
 -- `lowest` meets its contract. The loop's invariant: from word k of the summary on the search ends as it does from the first.
 use mathlib.Core.Path.{◌≡◌}
-use Prim.Native.Nat.{◌-◌, ◌≤◌}
+use Prim.Native.Nat.{◌-◌}
 use Rattle.postponed.specs.Postponed as P
 use Rattle.postponed.specs.Postponed.{lowest_from}
 use Rattle.postponed.proofs.lowest.Given as goal
 
 abbrev pub invariant-loop-k : goal.invariant-loop-k
-invariant-loop-k l = (l.k ≤ 4) × (lowest_from l.n l.work l.k (4 - l.k) ≡ P.lowest l.n l.work)
-
-abbrev pub decreases-loop-k : goal.decreases-loop-k
-decreases-loop-k l = 4 - l.k
+invariant-loop-k l = lowest_from l.n l.work l.k (4 - l.k) ≡ P.lowest l.n l.work

@@ -5,5 +5,5 @@ use Rattle.saves.proofs.put_image.Goals as goal
 pub returns : goal.returns
 returns c =
     let a = c.args in
-    image-put a.c a.len a.k a.records.now a.slots.now a.roots.now a.sinks.now c.requires.0 a.image.now _ _ _ _
+    image-put a.c a.len a.k a.heap.now.records.now a.heap.now.slots.now a.heap.now.roots.now a.heap.now.sinks.now c.requires.0 a.image.now _ _ _ _
     c.put_sizes.ensures c.put_objects.ensures c.put_roots.ensures c.put_sinks.ensures

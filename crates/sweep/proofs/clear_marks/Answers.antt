@@ -1,29 +1,23 @@
 -- `sweep::clear_marks` is a pass over the records. Assumes nothing.
-use borrow.Author.Tests.{ltb-true, ltb-false}
-use Rattle.sweep.proofs.MarkLaws.{unflagged-start}
-use Rattle.sweep.proofs.PassingLaws.{passing-start, passing-turn, passing-end, passing-past}
+use mathlib.Core.Path.{◌∙◌}
 use native.Mathlib.Omega.{arith}
+use lib.ListN.{length-take}
+use Rattle.rules.specs.Buffers.{each_record}
+use Rattle.table.proofs.PartLaws.{part-begin, part-turn, part-end}
+use Rattle.sweep.specs.Sweep.{unflagged_record, unflagged}
 use Rattle.sweep.proofs.clear_marks.Goals as goal
 
-pub loop-i-init : goal.loop-i-init
-loop-i-init c = passing-start _ _ _ _ _ (unflagged-start _ _)
+pub loop-r-init : goal.loop-r-init
+loop-r-init c = part-begin 1 _ _ _
 
-pub loop-i-smaller : goal.loop-i-smaller
-loop-i-smaller c = omega arith
+pub loop-r-preserved : goal.loop-r-preserved
+loop-r-preserved c =
+    let l = c.loop-r in
+    let n = length-take c.min-end.result c.args.records.now in
+    part-turn 1 (λ x w. unflagged_record w) _ l.r-index _ _ 0 (omega arith) (omega arith) c.unflagged_record.ensures ∙ l.invariant
 
-pub loop-i-preserved : goal.loop-i-preserved
-loop-i-preserved c =
-    let l = c.loop-i in
-    passing-turn _ _ _ _ _ _ l.i l.invariant _ c.loop-i-test.true (ltb-true _ _ c.if-i-records.true-raw) c.unflagged_record.ensures
-
-pub shape_of-records-else-i-records : goal.shape_of-records-else-i-records
-shape_of-records-else-i-records c = c.loop-i.invariant.long
-
-pub returns-else-i-records : goal.returns-else-i-records
-returns-else-i-records c = let l = c.loop-i in passing-past _ _ _ _ _ _ l.i l.invariant (ltb-false _ _ c.if-i-records.false-raw)
-
-pub shape_of-records-after-loop-i : goal.shape_of-records-after-loop-i
-shape_of-records-after-loop-i c = c.loop-i.invariant.long
-
-pub returns-after-loop-i : goal.returns-after-loop-i
-returns-after-loop-i c = let l = c.loop-i in passing-end _ _ _ _ _ _ l.i l.invariant c.loop-i-test.false
+pub returns : goal.returns
+unfolding unflagged each_record
+returns c =
+    let l = c.loop-r in
+    part-end 1 _ c.args.n _ c.args.records.now c.min-end.ensures l.r-index _ l.auto.r-items c.loop-r-test.false l.invariant

@@ -6,27 +6,6 @@ use Rattle.analyse.proofs.PartLaws.{links-filled}
 use Rattle.analyse.proofs.StartLaws.{prepared}
 use Rattle.analyse.proofs.form.form.Goals as goal
 
-pub overflow_mul-a : goal.overflow_mul-a
-overflow_mul-a c = omega arith
-
-pub overflow_add-a : goal.overflow_add-a
-overflow_add-a c = omega arith
-
-pub overflow_mul-b : goal.overflow_mul-b
-overflow_mul-b c = omega arith
-
-pub overflow_add-b : goal.overflow_add-b
-overflow_add-b c = omega arith
-
-pub offset_bounds-work-a : goal.offset_bounds-work-a
-offset_bounds-work-a c = omega arith
-
-pub slice_bounds-link-count : goal.slice_bounds-link-count
-slice_bounds-link-count c = omega arith
-
-pub slice_bounds-link-start : goal.slice_bounds-link-start
-slice_bounds-link-start c = omega arith
-
 pub slice_bounds-link-end : goal.slice_bounds-link-end
 slice_bounds-link-end c = omega (arith, c.requires.0.sized.work-long)
 

@@ -1,12 +1,8 @@
 -- `from_roots` meets its contract. Assumes nothing.
-use Prim.Native.Nat.{◌-◌, ◌≤◌}
 use mathlib.Core.Path.{◌≡◌}
 use lib.ListN.{length, take}
 use Rattle.analyse.specs.Starts.{GoesOn}
 use Rattle.analyse.proofs.form.from_roots.Given as goal
 
 abbrev pub invariant-loop-j : goal.invariant-loop-j
-invariant-loop-j l = GoesOn l.n l.records l.slots l.sinks l.sets l.limit (take l.j l.roots) l.initial.work l.work × (l.j ≤ l.r) × (length l.work ≡ length l.initial.work)
-
-abbrev pub decreases-loop-j : goal.decreases-loop-j
-decreases-loop-j l = l.r - l.j
+invariant-loop-j l = GoesOn l.heap.n l.heap.records.now l.heap.slots.now l.heap.sinks.now l.heap.sets.now l.heap.limit (take l.j l.roots) l.initial.work l.work × (length l.work ≡ length l.initial.work)

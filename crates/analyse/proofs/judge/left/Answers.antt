@@ -1,4 +1,5 @@
 -- `left` meets its contract. Assumes nothing.
+use Rattle.analyse.proofs.AnswerLaws.{flag-bit}
 use native.Mathlib.Omega.{arith}
 use mathlib.Core.Path.{refl, ap, ◌∙◌}
 use mathlib.Core.Bool.{not}
@@ -30,10 +31,16 @@ pub outs-requires : goal.outs-requires
 outs-requires c = let s = c.requires in (s.0.sized, s.1, s.2)
 
 pub overflow_mul-result : goal.overflow_mul-result
-overflow_mul-result c = record { fits = omega (arith, bit_le (not (eqb c.outs.result 0))) }
+overflow_mul-result c =
+    let e = c.from.ensures ∙ flag-bit (not (eqb c.outs.result 0)) in
+    record { fits = omega (arith, e, bit_le (not (eqb c.outs.result 0))) }
 
 pub overflow_add-result : goal.overflow_add-result
-overflow_add-result c = omega (arith, bit_le (not (eqb c.outs.result 0)))
+overflow_add-result c =
+    let e = c.from.ensures ∙ flag-bit (not (eqb c.outs.result 0)) in
+    omega (arith, e, bit_le (not (eqb c.outs.result 0)))
 
 pub returns : goal.returns
-returns c = left-kept _ _ _ _ _ _ _ _ c.word_of-c.ensures refl _ (stays_by_lem _ _ _ _ _ _ (c.cluster_of-old.ensures ∙ ap cluster c.record_at.ensures) _ _ c.word_of-s.ensures c.word_of.ensures _ c.stays.ensures) c.if-c-eq0.false c.if-old-stays.false _ c.outs.ensures.0
+returns c =
+    let e = c.from.ensures ∙ flag-bit (not (eqb c.outs.result 0)) in
+    rw e (left-kept _ _ _ _ _ _ _ _ c.word_of-c.ensures refl _ (stays_by_lem _ _ _ _ _ _ (c.cluster_of-old.ensures ∙ ap cluster c.record_at.ensures) _ _ c.word_of-s.ensures c.word_of.ensures _ c.stays.ensures) c.if-c-eq0.false c.if-old-stays.false _ c.outs.ensures.0)

@@ -3,8 +3,5 @@ use Prim.Native.Nat.{◌-◌}
 use Rattle.analyse.proofs.SettleLaws.{Settling}
 use Rattle.analyse.proofs.judge.settle.Given as goal
 
-abbrev pub invariant-loop-k : goal.invariant-loop-k
-invariant-loop-k l = Settling l.n l.t l.initial.records l.work l.records l.k l.loss l.clusters l.members
-
-abbrev pub decreases-loop-k : goal.decreases-loop-k
-decreases-loop-k l = l.n - l.k
+abbrev pub invariant-loop-x : goal.invariant-loop-x
+invariant-loop-x l = Settling l.n l.t l.initial.records l.work l.records (l.x - 1) l.loss l.clusters l.members

@@ -15,8 +15,8 @@ returns-then-w-lt-MARK c = let s = c.requires in plain_done _ _ _ _ _ _ _ _ s.0 
 pub overflow_sub-set : goal.overflow_sub-set
 overflow_sub-set c = let s = c.requires in head-low _ _ _ _ _ _ _ _ s.0 s.1 c.if-w-lt-MARK.false
 
-pub bounds-sets-x : goal.bounds-sets-x
-bounds-sets-x c = let s = c.requires in head-there _ _ _ _ _ _ _ _ s.0 s.1 c.if-w-lt-MARK.false
+pub bounds-heap-x : goal.bounds-heap-x
+bounds-heap-x c = let s = c.requires in head-there _ _ _ _ _ _ _ _ s.0 s.1 c.if-w-lt-MARK.false
 
 pub next_place-k-requires : goal.next_place-k-requires
 next_place-k-requires c = let s = c.requires in place-fits _ _ _ _ _ _ _ _ s.0 s.1 c.if-w-lt-MARK.false
@@ -30,8 +30,8 @@ overflow_add-k c = let s = c.requires in record { fits = omega (arith, next_fits
 pub mark-at-requires : goal.mark-at-requires
 mark-at-requires c = let s = c.requires in next-mark-may _ _ _ _ _ _ _ _ s.0 s.1 c.if-w-lt-MARK.false _ c.next_place-k.ensures
 
-pub bounds-sinks-k : goal.bounds-sinks-k
-bounds-sinks-k c = let s = c.requires in sink-there _ _ _ _ _ _ _ _ s.0 s.1 c.if-w-lt-MARK.false _ c.next_place-k.ensures
+pub bounds-heap-k : goal.bounds-heap-k
+bounds-heap-k c = let s = c.requires in sink-there _ _ _ _ _ _ _ _ s.0 s.1 c.if-w-lt-MARK.false _ c.next_place-k.ensures
 
 pub visit-requires-2 : goal.visit-requires-2
 visit-requires-2 c =

@@ -3,9 +3,6 @@ use Rattle.analyse.proofs.OlderLaws.{older-start, older-sized, older-room, older
 use native.Mathlib.Omega.{arith}
 use Rattle.analyse.proofs.walk.older.Goals as goal
 
-pub overflow_mul-n : goal.overflow_mul-n
-overflow_mul-n c = omega arith
-
 pub word_of-requires : goal.word_of-requires
 word_of-requires c = (c.requires.le_d.0, c.requires.le_d.1, omega (arith, c.requires.sized.work-long))
 
@@ -21,9 +18,6 @@ member-at-requires c =
       sized = older-sized _ _ _ _ _ _ c.requires.le_d.0 c.requires.sized c.requires.chained _ _ _ g nz;
       le_x = (omega (arith, nz), g.0.most, c.requires.le_d.1, omega (arith, g.0.inside, c.requires.le_d.2), older-room _ _ _ _ _ _ c.requires.le_d.0 c.requires.sized c.requires.chained _ _ _ g nz c.requires.le_d.3);
     }
-
-pub overflow_mul-n-in-loop-x : goal.overflow_mul-n-in-loop-x
-overflow_mul-n-in-loop-x c = omega arith
 
 pub word_of-requires-in-loop-x : goal.word_of-requires-in-loop-x
 word_of-requires-in-loop-x c =

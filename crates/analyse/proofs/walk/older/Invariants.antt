@@ -6,7 +6,7 @@ use mathlib.Core.Path.{◌≡◌}
 use Rattle.analyse.proofs.walk.older.Given as goal
 
 abbrev pub invariant-loop-x : goal.invariant-loop-x
-invariant-loop-x l = Handling l.n l.records l.slots l.d l.initial.work l.top l.work l.at l.x × (l.x ≢ 0 → cluster_of l.n l.records l.x ≡ l.d)
+invariant-loop-x l = Handling l.heap.n l.heap.records.now l.heap.slots.now l.d l.initial.work l.top l.work l.at l.x × (l.x ≢ 0 → cluster_of l.heap.n l.heap.records.now l.x ≡ l.d)
 
 abbrev pub decreases-loop-x : goal.decreases-loop-x
 decreases-loop-x l = l.x

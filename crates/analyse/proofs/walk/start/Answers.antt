@@ -5,12 +5,6 @@ use Rattle.analyse.proofs.WalkLaws.{start-visit, walk_end}
 use Rattle.analyse.proofs.StartLaws.{on_one}
 use Rattle.analyse.proofs.walk.start.Goals as goal
 
-pub overflow_mul-end : goal.overflow_mul-end
-overflow_mul-end c = omega arith
-
-pub overflow_add-end : goal.overflow_add-end
-overflow_add-end c = omega arith
-
 pub visit-top-requires : goal.visit-top-requires
 visit-top-requires c = let s = c.requires in start-visit _ _ _ _ _ _ _ s.0 _ s.1
 

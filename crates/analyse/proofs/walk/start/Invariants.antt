@@ -8,7 +8,7 @@ use Rattle.analyse.specs.Called.{Walking}
 use Rattle.analyse.proofs.walk.start.Given as goal
 
 abbrev pub invariant-loop-top : goal.invariant-loop-top
-invariant-loop-top l = Walking l.n l.records l.slots l.sinks l.sets l.limit l.work l.top × (finish (heap_in l.n l.records l.slots l.sinks) l.limit (walk_of (heap_in l.n l.records l.slots l.sinks) (mem_of l.n l.work l.top)) ≡ finish (heap_in l.n l.records l.slots l.sinks) l.limit (walk_of (heap_in l.n l.records l.slots l.sinks) (mem_of l.n l.initial.work l.initial.top))) × (length l.work ≡ length l.initial.work)
+invariant-loop-top l = Walking l.heap.n l.heap.records.now l.heap.slots.now l.heap.sinks.now l.heap.sets.now l.heap.limit l.work l.top × (finish (heap_in l.heap.n l.heap.records.now l.heap.slots.now l.heap.sinks.now) l.heap.limit (walk_of (heap_in l.heap.n l.heap.records.now l.heap.slots.now l.heap.sinks.now) (mem_of l.heap.n l.work l.top)) ≡ finish (heap_in l.heap.n l.heap.records.now l.heap.slots.now l.heap.sinks.now) l.heap.limit (walk_of (heap_in l.heap.n l.heap.records.now l.heap.slots.now l.heap.sinks.now) (mem_of l.heap.n l.initial.work l.initial.top))) × (length l.work ≡ length l.initial.work)
 
 abbrev pub decreases-loop-top : goal.decreases-loop-top
-decreases-loop-top l = needed (heap_in l.n l.records l.slots l.sinks) (walk_of (heap_in l.n l.records l.slots l.sinks) (mem_of l.n l.work l.top))
+decreases-loop-top l = needed (heap_in l.heap.n l.heap.records.now l.heap.slots.now l.heap.sinks.now) (walk_of (heap_in l.heap.n l.heap.records.now l.heap.slots.now l.heap.sinks.now) (mem_of l.heap.n l.work l.top))

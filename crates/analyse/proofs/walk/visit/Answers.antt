@@ -13,8 +13,8 @@ word_of-s-requires c = let x = c.requires in (omega (arith, c.if-o-eq0.false), o
 pub returns-then-s-ge4096 : goal.returns-then-s-ge4096
 returns-then-s-ge4096 c = skip-seen _ _ _ _ _ _ _ _ _ _ c.requires _ c.word_of-s.ensures c.if-s-ge4096.true
 
-pub bounds-sets-s : goal.bounds-sets-s
-bounds-sets-s c = older-set _ _ _ _ _ _ _ _ _ _ c.requires c.if-o-eq0.false _ c.word_of-s.ensures c.if-s-ge4096.false c.if-s-ne0.true
+pub bounds-heap-s : goal.bounds-heap-s
+bounds-heap-s c = older-set _ _ _ _ _ _ _ _ _ _ c.requires c.if-o-eq0.false _ c.word_of-s.ensures c.if-s-ge4096.false c.if-s-ne0.true
 
 pub mark-at-requires : goal.mark-at-requires
 mark-at-requires c = mark-may _ _ _ _ _ _ _ _ _ _ c.requires c.if-o-eq0.false _ c.word_of-s.ensures c.if-s-ge4096.false c.if-s-ne0.true

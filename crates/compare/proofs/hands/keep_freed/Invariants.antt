@@ -7,6 +7,3 @@ use Rattle.compare.proofs.hands.keep_freed.Given as goal
 
 abbrev pub invariant-loop-i : goal.invariant-loop-i
 invariant-loop-i l = (length l.hands ≡ length l.initial.hands) × (keep_freed l.is_left l.map l.i (4096 - l.i) l.hands ≡ keep_freed l.is_left l.map 0 4096 l.initial.hands)
-
-abbrev pub decreases-loop-i : goal.decreases-loop-i
-decreases-loop-i l = 4096 - l.i

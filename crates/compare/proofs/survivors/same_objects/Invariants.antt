@@ -6,6 +6,3 @@ use Rattle.compare.proofs.survivors.same_objects.Given as goal
 
 abbrev pub invariant-loop-i : goal.invariant-loop-i
 invariant-loop-i l = same_objects l.rec1 l.slot1 l.rec2 l.slot2 l.i (4095 - l.i) ≡ same_objects l.rec1 l.slot1 l.rec2 l.slot2 0 4095
-
-abbrev pub decreases-loop-i : goal.decreases-loop-i
-decreases-loop-i l = 4095 - l.i

@@ -6,6 +6,3 @@ use Rattle.compare.proofs.survivors.same_roots.Given as goal
 
 abbrev pub invariant-loop-j : goal.invariant-loop-j
 invariant-loop-j l = same_roots l.r1 l.root1 l.r2 l.root2 l.j (64 - l.j) ≡ same_roots l.r1 l.root1 l.r2 l.root2 0 64
-
-abbrev pub decreases-loop-j : goal.decreases-loop-j
-decreases-loop-j l = 64 - l.j

@@ -5,7 +5,4 @@ use Rattle.lines.specs.Line.{numbers_from}
 use Rattle.lines.proofs.parse.numbers.Given as goal
 
 abbrev pub invariant-loop-k : goal.invariant-loop-k
-invariant-loop-k l = numbers_from (l.count - l.k) l.k l.c l.line l.at ≡ numbers_from l.count 0 l.initial.c l.line l.from
-
-abbrev pub decreases-loop-k : goal.decreases-loop-k
-decreases-loop-k l = l.count - l.k
+invariant-loop-k l = numbers_from (l.k-end - l.k) l.k l.c l.line l.at ≡ numbers_from l.k-end 0 l.initial.c l.line l.from

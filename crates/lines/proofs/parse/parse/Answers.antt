@@ -1,41 +1,15 @@
 -- `lines::parse::parse`: the first word names the call, and its kind says what follows. Assumes nothing.
-use mathlib.Core.Path.{◌∙◌}
-use native.Mathlib.Omega.{arith}
-use Rattle.lines.proofs.WordLaws.{word-inside}
-use Rattle.lines.proofs.LineLaws.{line-none, line-some, follow-none, follow-name, follow-sizes, follow-way, follow-numbers}
 use Rattle.lines.proofs.parse.parse.Goals as goal
+use Rattle.lines.proofs.LineLaws.{line_some}
+use Rattle.lines.specs.Line.{and_then}
+use mathlib.Core.Path.{refl}
+use Rattle.std.proofs.Common.{rules}
 
-pub returns-then-start-end : goal.returns-then-start-end
-returns-then-start-end c = c.no_call.ensures ∙ line-none _ _ c.next_word-w.ensures c.if-start-end.true
+pub returns-in_err-call : goal.returns-in_err-call
+returns-in_err-call c = let e = line_some _ _ c.next_word-start.ensures _ c.row_of.ensures c.if-start-end.false in rw (e, c.in_err-call.was) (search rules)
 
-pub slice_bounds-row_of-count : goal.slice_bounds-row_of-count
-slice_bounds-row_of-count c = omega (arith, word-inside _ _ _ c.next_word-w.ensures c.if-start-end.false)
-
-pub slice_bounds-row_of-start : goal.slice_bounds-row_of-start
-slice_bounds-row_of-start c = omega (arith, word-inside _ _ _ c.next_word-w.ensures c.if-start-end.false)
-
-pub slice_bounds-row_of-end-2 : goal.slice_bounds-row_of-end-2
-slice_bounds-row_of-end-2 c = omega (arith, word-inside _ _ _ c.next_word-w.ensures c.if-start-end.false)
-
-pub returns-then-call-eq-NO_CALL : goal.returns-then-call-eq-NO_CALL
-returns-then-call-eq-NO_CALL c = follow-none _ _ _ c.if-call-eq-NO_CALL.true ∙ line-some _ _ c.next_word-w.ensures c.if-start-end.false _ c.row_of-call.ensures
-
-pub returns-then-call-lt-CREATE : goal.returns-then-call-lt-CREATE
-returns-then-call-lt-CREATE c =
-    c.named.ensures ∙ follow-name _ _ _ c.if-call-eq-NO_CALL.false c.if-call-lt-CREATE.true
-    ∙ line-some _ _ c.next_word-w.ensures c.if-start-end.false _ c.row_of-call.ensures
-
-pub returns-then-call-eq-CREATE : goal.returns-then-call-eq-CREATE
-returns-then-call-eq-CREATE c =
-    c.sizes.ensures ∙ follow-sizes _ _ _ c.if-call-eq-CREATE.true
-    ∙ line-some _ _ c.next_word-w.ensures c.if-start-end.false _ c.row_of-call.ensures
-
-pub returns-then-call-eq-COLLECT : goal.returns-then-call-eq-COLLECT
-returns-then-call-eq-COLLECT c =
-    c.way.ensures ∙ follow-way _ _ _ c.if-call-eq-COLLECT.true
-    ∙ line-some _ _ c.next_word-w.ensures c.if-start-end.false _ c.row_of-call.ensures
+pub returns-in_err-made : goal.returns-in_err-made
+returns-in_err-made c = let e = line_some _ _ c.next_word-start.ensures _ c.row_of.ensures c.if-start-end.false in rw (e, c.in_ok-call.was, and_then, ← c.follows.ensures, c.in_err-made.was) (search rules)
 
 pub returns : goal.returns
-returns c =
-    c.numbers.ensures ∙ follow-numbers _ _ _ c.if-call-eq-NO_CALL.false c.if-call-lt-CREATE.false c.if-call-eq-CREATE.false c.if-call-eq-COLLECT.false
-    ∙ line-some _ _ c.next_word-w.ensures c.if-start-end.false _ c.row_of-call.ensures
+returns c = let e = line_some _ _ c.next_word-start.ensures _ c.row_of.ensures c.if-start-end.false in rw (e, c.in_ok-call.was, and_then, ← c.follows.ensures, c.in_ok-made.was) refl

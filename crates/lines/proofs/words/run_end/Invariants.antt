@@ -1,12 +1,7 @@
 -- `lines::words::run_end`: the run from each index passed ends where the first does. Assumes nothing.
-use Prim.Native.Nat.{◌-◌}
 use mathlib.Core.Path.{◌≡◌}
-use lib.ListN.{length}
 use Rattle.lines.specs.Word.{run_end}
 use Rattle.lines.proofs.words.run_end.Given as goal
 
 abbrev pub invariant-loop-i : goal.invariant-loop-i
 invariant-loop-i l = run_end l.kind l.s l.i ≡ run_end l.kind l.s l.from
-
-abbrev pub decreases-loop-i : goal.decreases-loop-i
-decreases-loop-i l = length l.s - l.i

@@ -50,5 +50,5 @@ returns c =
       slots_after = slots-laid _ _ _ _ _ _ _ c.slots_len.ensures c.zero-2.ensures o.slots_after objects;
       roots_after = roots-laid _ _ _ _ _ c.lay_words.ensures.1 words;
       sinks_after = c.lay_sinks.ensures;
-      sets_after = c.zero_sets.ensures;
+      sets_after = c.zero-3.ensures;
     }

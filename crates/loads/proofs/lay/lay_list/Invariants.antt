@@ -1,11 +1,8 @@
 -- `loads::lay::lay_list` puts number after number. Assumes nothing.
-use Prim.Native.Nat.{◌-◌}
-use lib.ListN.{length}
-use Rattle.loads.proofs.SinkPlaces.{Listing}
+use mathlib.Core.Path.{◌≡◌}
+use lib.Seq.{sets}
+use Rattle.loads.proofs.SinkPlaces.{first_numbers}
 use Rattle.loads.proofs.lay.lay_list.Given as goal
 
-abbrev pub invariant-loop-at : goal.invariant-loop-at
-invariant-loop-at l = Listing l.body l.initial.sinks l.sinks l.to l.at
-
-abbrev pub decreases-loop-at : goal.decreases-loop-at
-decreases-loop-at l = length l.body - l.at
+abbrev pub invariant-loop-i : goal.invariant-loop-i
+invariant-loop-i l = l.sinks ≡ sets l.initial.sinks 0 (first_numbers l.body l.initial.sinks l.i)

@@ -1,9 +1,9 @@
 -- `loads::lay::lay_rest` stores word after word. Assumes nothing.
-use Rattle.loads.proofs.LayLaws.{Storing}
+use Prim.Native.Nat.{◌+◌, ◌*◌}
+use mathlib.Core.Path.{◌≡◌}
+use Rattle.endian.specs.Bytes.{number_at}
+use Rattle.loads.specs.Laid.{laid}
 use Rattle.loads.proofs.lay.lay_rest.Given as goal
 
-abbrev pub invariant-loop-left : goal.invariant-loop-left
-invariant-loop-left l = Storing l.body l.from l.k l.initial.words l.base l.words l.at l.to l.left
-
-abbrev pub decreases-loop-left : goal.decreases-loop-left
-decreases-loop-left l = l.left
+abbrev pub invariant-loop-i : goal.invariant-loop-i
+invariant-loop-i l = (l.at ≡ l.from + 4 * l.i) × (l.words ≡ laid l.base l.i (λ i. number_at 4 (l.from + 4 * i) l.body) l.initial.words)

@@ -3,7 +3,4 @@ use Rattle.places.proofs.SeenLaws.{Seeing}
 use Rattle.places.proofs.listed.places_ok.Given as goal
 
 abbrev pub invariant-loop-k : goal.invariant-loop-k
-invariant-loop-k l = Seeing l.n l.records l.sinks l.seen l.k
-
-abbrev pub decreases-loop-k : goal.decreases-loop-k
-decreases-loop-k l = l.k
+invariant-loop-k l = Seeing l.n l.records l.list l.seen l.k

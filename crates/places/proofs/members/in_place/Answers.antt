@@ -1,22 +1,17 @@
 -- `places::members::in_place` asks for the number in the place. Assumes nothing.
-use mathlib.Core.Path.{refl}
-use native.Mathlib.Omega.{arith}
-use lib.ListN.{get_or-eq_default}
+use Rattle.std.proofs.Common.{◌≡◌, refl, rules, slice_index_or}
 use borrow.Author.Tests.{ne_eqb}
 use Rattle.places.specs.Places.{in_place}
 use Rattle.places.proofs.members.in_place.Goals as goal
 
-pub returns-then-sinks-at : goal.returns-then-sinks-at
+pub returns-then-y-ne0 : goal.returns-then-y-ne0
 unfolding in_place
-returns-then-sinks-at c = rw (get_or-eq_default c.args.sinks.now 0 c.if-sinks-at.true) refl
+returns-then-y-ne0 c =
+    let e : c.unwrap_or-y.result ≡ slice_index_or c.args.sinks.now c.args.k 0 = search rules in
+    rw (← e, ne_eqb _ 0 c.if-y-ne0.true) c.has_bit.ensures
 
-pub returns-then-y-eq0 : goal.returns-then-y-eq0
+pub returns-else-y-ne0 : goal.returns-else-y-ne0
 unfolding in_place
-returns-then-y-eq0 c = rw c.if-y-eq0.true refl
-
-pub overflow_cast-y : goal.overflow_cast-y
-overflow_cast-y c = omega (arith, (c.shared_slice_known-3-1.given c.args.k).fits)
-
-pub returns : goal.returns
-unfolding in_place
-returns c = rw (ne_eqb _ 0 c.if-y-eq0.false) c.has_bit.ensures
+returns-else-y-ne0 c =
+    let e : c.unwrap_or-y.result ≡ slice_index_or c.args.sinks.now c.args.k 0 = search rules in
+    rw (← e, c.if-y-ne0.false) refl

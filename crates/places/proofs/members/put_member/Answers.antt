@@ -1,19 +1,17 @@
--- `places::members::put_member` puts the words of the used slots. Assumes nothing.
-use native.Mathlib.Omega.{arith}
-use Rattle.layout.specs.Limits.{slots_len}
-use Rattle.records.specs.Record.{width}
-use Rattle.places.proofs.PutLaws.{used-most, member-none, member-put}
+-- `places::members::put_member` puts word after word of the used ones. Assumes nothing.
+use Rattle.places.proofs.PutLaws.{member-none, member-put, words-turn, words-end}
 use Rattle.places.proofs.members.put_member.Goals as goal
 
 pub returns-then-cluster_of-c : goal.returns-then-cluster_of-c
 returns-then-cluster_of-c c = member-none _ _ _ _ _ _ c.record_of-r.ensures c.cluster_of.ensures _ _ c.if-cluster_of-c.true
 
-pub overflow_add-from : goal.overflow_add-from
-unfolding slots_len
-overflow_add-from c = omega (arith, c.slots_len-from.ensures, used-most (width c.record_of-r.result) c.used_of.result c.used_of.ensures)
+pub loop-w-preserved : goal.loop-w-preserved
+loop-w-preserved c =
+    let l = c.loop-w in
+    words-turn _ _ l.w-index c.loop-w-test.true _ _ _ _ c.target_of.ensures c.put_bit.ensures l.invariant
 
 pub returns : goal.returns
 returns c =
-    let r = c.record_of-r.ensures in
-    member-put _ _ _ _ _ _ r c.cluster_of.ensures _ c.requires _ _ c.slots_len-from.ensures
-    c.used_of.ensures _ _ c.if-cluster_of-c.false c.put_words.ensures
+    let l = c.loop-w in
+    member-put _ _ _ _ _ _ c.record_of-r.ensures c.cluster_of.ensures _ _ c.used_words-w-items.ensures _ _ c.if-cluster_of-c.false
+    (words-end _ _ l.w-index _ _ c.loop-w-test.false l.invariant)

@@ -1,26 +1,17 @@
 -- `places::members::put_members` goes object by object. Assumes nothing.
 use native.Mathlib.Omega.{arith}
-use mathlib.Core.Path.{◌≡◌, ap, ◌∙◌}
-use lib.ListN.{length}
-use Rattle.places.proofs.PutLaws.{gather_none, gather-more, length-put}
+use mathlib.Core.Path.{◌≡◌}
+use Rattle.places.proofs.PutLaws.{gather_none, gather-more}
 use Rattle.places.proofs.members.put_members.Goals as goal
 
 pub loop-i-init : goal.loop-i-init
-loop-i-init c = (omega arith, gather_none _ _ _)
-
-pub loop-i-smaller : goal.loop-i-smaller
-loop-i-smaller c = omega arith
+loop-i-init c = gather_none _ _ _
 
 pub loop-i-preserved : goal.loop-i-preserved
-loop-i-preserved c =
-    let l = c.loop-i in
-    (omega arith, gather-more _ _ _ l.i _ _ l.invariant.1 c.put_member.ensures)
-
-pub shape_of-seen : goal.shape_of-seen
-shape_of-seen c = ap length c.loop-i.invariant.1 ∙ length-put _ _
+loop-i-preserved c = let l = c.loop-i in gather-more _ _ _ l.i _ _ l.invariant c.put_member.ensures
 
 pub returns : goal.returns
 returns c =
     let l = c.loop-i in
     let e : l.i ≡ c.args.n = omega arith in
-    rw e at l.invariant.1
+    rw e at l.invariant

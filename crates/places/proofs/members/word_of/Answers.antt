@@ -18,18 +18,12 @@ pub loop-b-init : goal.loop-b-init
 unfolding bits_of
 loop-b-init c = (omega arith, refl)
 
-pub overflow_sub-b : goal.overflow_sub-b
-overflow_sub-b c = omega arith
-
 pub overflow_mul-word : goal.overflow_mul-word
 overflow_mul-word c = omega (arith, down-room (in_place c.args.sinks.now c.args.seen.now) 0 c.loop-b.b c.loop-b.word c.loop-b-test.true c.loop-b.invariant.0 c.loop-b.invariant.1)
 
 pub overflow_add-word : goal.overflow_add-word
 overflow_add-word c =
     omega (arith, down-room (in_place c.args.sinks.now c.args.seen.now) 0 c.loop-b.b c.loop-b.word c.loop-b-test.true c.loop-b.invariant.0 c.loop-b.invariant.1, bit_le c.in_place.result)
-
-pub loop-b-smaller : goal.loop-b-smaller
-loop-b-smaller c = omega arith
 
 pub loop-b-preserved : goal.loop-b-preserved
 loop-b-preserved c =

@@ -7,6 +7,3 @@ use Rattle.places.proofs.members.word_of.Given as goal
 
 abbrev pub invariant-loop-b : goal.invariant-loop-b
 invariant-loop-b l = (l.b ≤ 64) × (l.word ≡ bits_of (in_place l.sinks l.seen) (0 + l.b) (64 - l.b))
-
-abbrev pub decreases-loop-b : goal.decreases-loop-b
-decreases-loop-b l = l.b

@@ -4,13 +4,13 @@ use Rattle.rules.specs.View.{target}
 use Rattle.places.proofs.PutLaws.{place_none, place-put}
 use Rattle.places.proofs.sets.put_place.Goals as goal
 
-pub returns-then-k-eq0 : goal.returns-then-k-eq0
-returns-then-k-eq0 c = place_none _ _ _ _ _ c.place_of-k.ensures c.if-k-eq0.true
+pub returns-else-k-ne0 : goal.returns-else-k-ne0
+returns-else-k-ne0 c = place_none _ _ _ _ _ c.place_of-k.ensures c.if-k-ne0.false
 
 pub overflow_add-c : goal.overflow_add-c
 overflow_add-c c =
     let a = c.args in
-    omega (arith, c.place_of-k.ensures, c.shared_slice_known-1.given (target a.n a.word))
+    omega (arith, c.place_of-k.ensures, c.type_inv.place (target a.n a.word))
 
-pub returns : goal.returns
-returns c = place-put _ _ _ _ _ _ c.place_of-k.ensures c.if-k-eq0.false c.put_bit.ensures
+pub returns-then-k-ne0 : goal.returns-then-k-ne0
+returns-then-k-ne0 c = place-put _ _ _ _ _ _ c.place_of-k.ensures c.if-k-ne0.true c.put_bit.ensures

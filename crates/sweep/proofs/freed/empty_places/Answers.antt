@@ -1,29 +1,24 @@
 -- `sweep::freed::empty_places` is a pass over the places. Assumes nothing.
-use borrow.Author.Tests.{ltb-true, ltb-false}
-use Rattle.sweep.proofs.FreedLaws.{emptied-start}
-use Rattle.sweep.proofs.PassingLaws.{passing-start, passing-turn, passing-end, passing-past}
+use mathlib.Core.Path.{◌∙◌}
+use mathlib.Core.Bool.{cond}
 use native.Mathlib.Omega.{arith}
+use lib.ListN.{length-take}
+use Rattle.bitmap.specs.Bits.{holds}
+use Rattle.table.proofs.PartLaws.{part-begin, part-turn, part-end}
+use Rattle.sweep.specs.Sweep.{emptied}
 use Rattle.sweep.proofs.freed.empty_places.Goals as goal
 
-pub loop-k-init : goal.loop-k-init
-loop-k-init c = passing-start _ _ _ _ _ (emptied-start _ _)
+pub loop-y-init : goal.loop-y-init
+loop-y-init c = part-begin 0 _ _ _
 
-pub loop-k-smaller : goal.loop-k-smaller
-loop-k-smaller c = omega arith
+pub loop-y-preserved : goal.loop-y-preserved
+loop-y-preserved c =
+    let l = c.loop-y in
+    let n = length-take c.min-end.result c.args.sinks.now in
+    part-turn 0 (λ k y. cond (holds y c.args.map.now) 0 y) _ l.y-index _ _ 0 (omega arith) (omega arith) c.left_in_place.ensures ∙ l.invariant
 
-pub loop-k-preserved : goal.loop-k-preserved
-loop-k-preserved c =
-    let l = c.loop-k in
-    passing-turn _ _ _ _ _ _ l.k l.invariant _ c.loop-k-test.true (ltb-true _ _ c.if-k-sinks.true-raw) c.left_in_place.ensures
-
-pub shape_of-sinks-else-k-sinks : goal.shape_of-sinks-else-k-sinks
-shape_of-sinks-else-k-sinks c = c.loop-k.invariant.long
-
-pub returns-else-k-sinks : goal.returns-else-k-sinks
-returns-else-k-sinks c = let l = c.loop-k in passing-past _ _ _ _ _ _ l.k l.invariant (ltb-false _ _ c.if-k-sinks.false-raw)
-
-pub shape_of-sinks-after-loop-k : goal.shape_of-sinks-after-loop-k
-shape_of-sinks-after-loop-k c = c.loop-k.invariant.long
-
-pub returns-after-loop-k : goal.returns-after-loop-k
-returns-after-loop-k c = let l = c.loop-k in passing-end _ _ _ _ _ _ l.k l.invariant c.loop-k-test.false
+pub returns : goal.returns
+unfolding emptied
+returns c =
+    let l = c.loop-y in
+    part-end 0 _ 64 _ c.args.sinks.now c.min-end.ensures l.y-index _ l.auto.y-items c.loop-y-test.false l.invariant

@@ -10,20 +10,11 @@ loop-j-init c = (mapping-start _ _ _, mapping-start _ _ _)
 pub overflow_cast-j : goal.overflow_cast-j
 overflow_cast-j c = omega arith
 
-pub loop-j-smaller : goal.loop-j-smaller
-loop-j-smaller c = omega arith
-
 pub loop-j-preserved : goal.loop-j-preserved
 loop-j-preserved c =
     let l = c.loop-j in
     let p = c.loop-j-test.true in
     (mapping-turn _ _ _ _ l.j l.invariant.0 _ _ p refl c.free_word.ensures.records_after c.free_word.auto.records, mapping-turn _ _ _ _ l.j l.invariant.1 _ _ p refl c.free_word.ensures.slots_after c.free_word.auto.slots)
-
-pub shape_of-records : goal.shape_of-records
-shape_of-records c = c.loop-j.invariant.0.long
-
-pub shape_of-slots : goal.shape_of-slots
-shape_of-slots c = c.loop-j.invariant.1.long
 
 pub returns : goal.returns
 returns c = let l = c.loop-j in record {

@@ -7,6 +7,3 @@ use Rattle.sweep.proofs.freed.freed_word.Given as goal
 
 abbrev pub invariant-loop-b : goal.invariant-loop-b
 invariant-loop-b l = (l.b ≤ 64) × (l.word ≡ bits_of (freed_at l.n l.records) (64 * l.j + l.b) (64 - l.b))
-
-abbrev pub decreases-loop-b : goal.decreases-loop-b
-decreases-loop-b l = l.b

@@ -1,52 +1,31 @@
 -- `table::clusters::dissolve` is the pass over the records. Assumes nothing.
-use mathlib.Core.Path.{refl, sym, ◌∙◌}
-use lib.ListN.{length-set}
-use borrow.Author.Tests.{ltb-true, ltb-false}
-use Rattle.table.proofs.ClusterLaws.{rest-begin, rest_end, rest-past, rest-loose, rest-same}
+use Prim.Native.Nat.{ℕ}
+use mathlib.Core.Path.{◌≡◌, ◌∙◌}
 use native.Mathlib.Omega.{arith}
+use lib.ListN.{get_or, length-take}
+use Rattle.table.specs.Clusters.{dissolved_record, dissolved}
+use Rattle.rules.specs.Buffers.{each_record}
+use Rattle.table.proofs.ClusterLaws.{loose-is, same-is}
+use Rattle.table.proofs.PartLaws.{part-begin, part-turn, part-end}
 use Rattle.table.proofs.clusters.dissolve.Goals as goal
 use Rattle.table.proofs.clusters.dissolve.Goals.{then-cluster_of-c, else-cluster_of-c}
 
-pub loop-i-init : goal.loop-i-init
-loop-i-init c = (refl, rest-begin _ _ _)
+pub loop-r-init : goal.loop-r-init
+loop-r-init c = part-begin 1 _ _ _
 
-pub offset_bounds-records-i : goal.offset_bounds-records-i
-offset_bounds-records-i c = omega arith
-
-pub bounds-records-i : goal.bounds-records-i
-bounds-records-i c = ltb-true _ _ c.if-i-records.true-raw
-
-pub offset_bounds-records-i-then-cluster_of-c : goal.offset_bounds-records-i-then-cluster_of-c
-offset_bounds-records-i-then-cluster_of-c c = omega arith
-
-pub bounds-records-i-then-cluster_of-c : goal.bounds-records-i-then-cluster_of-c
-bounds-records-i-then-cluster_of-c c = ltb-true _ _ c.if-i-records.true-raw
-
-pub overflow_add-i : goal.overflow_add-i
-overflow_add-i c = omega arith
-
-pub loop-i-smaller : goal.loop-i-smaller
-loop-i-smaller c = omega arith
-
-pub loop-i-preserved : goal.loop-i-preserved
-loop-i-preserved c =
-    let l = c.loop-i in
+pub loop-r-preserved : goal.loop-r-preserved
+loop-r-preserved c =
+    let l = c.loop-r in
+    let n = length-take c.min-end.result c.args.records.now in
     let k = c.cluster_of.ensures in
-    let p = c.loop-i-test.true in
-    let q = ltb-true _ _ c.if-i-records.true-raw in
+    let turn = λ (v : ℕ) (h : v ≡ dissolved_record c.args.c (get_or l.r-items l.r-index 0)). part-turn 1 (λ x w. dissolved_record c.args.c w) c.min-end.result l.r-index l.r-items v 0 (omega arith) (omega arith) h ∙ l.invariant in
     elim c.if-cluster_of-c.branch [
-      | then-cluster_of-c w ↦ rw w.records-is (length-set l.records l.i _ ∙ l.invariant.0, rest-loose _ _ l.i l.records p q _ _ k w.if-cluster_of-c.true w.loose.ensures ∙ l.invariant.1)
-      | else-cluster_of-c w ↦ rw w.records-is (l.invariant.0, rest-same _ _ l.i l.records p q _ k w.if-cluster_of-c.false ∙ l.invariant.1)
+      | then-cluster_of-c w ↦ rw w.r-items-is (turn _ (loose-is _ _ _ k _ w.if-cluster_of-c.true w.loose.ensures))
+      | else-cluster_of-c w ↦ rw w.r-items-is (turn _ (same-is _ _ _ k w.if-cluster_of-c.false))
     ]
 
-pub shape_of-records-else-i-records : goal.shape_of-records-else-i-records
-shape_of-records-else-i-records c = c.loop-i.invariant.0
-
-pub returns-else-i-records : goal.returns-else-i-records
-returns-else-i-records c = let l = c.loop-i in sym (rest-past _ _ l.i l.records (ltb-false _ _ c.if-i-records.false-raw)) ∙ l.invariant.1
-
-pub shape_of-records-after-loop-i : goal.shape_of-records-after-loop-i
-shape_of-records-after-loop-i c = c.loop-i.invariant.0
-
-pub returns-after-loop-i : goal.returns-after-loop-i
-returns-after-loop-i c = let l = c.loop-i in sym (rest_end _ _ l.i l.records c.loop-i-test.false) ∙ l.invariant.1
+pub returns : goal.returns
+unfolding dissolved each_record
+returns c =
+    let l = c.loop-r in
+    part-end 1 _ c.args.n _ c.args.records.now c.min-end.ensures l.r-index _ l.auto.r-items c.loop-r-test.false l.invariant

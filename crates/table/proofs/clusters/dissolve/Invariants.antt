@@ -1,14 +1,10 @@
 -- `table::clusters::dissolve` is the pass over the records. Assumes nothing.
-use Prim.Native.Nat.{◌-◌}
 use mathlib.Core.Path.{◌≡◌}
-use lib.ListN.{length}
-use Rattle.table.specs.Clusters.{dissolved}
-use Rattle.table.proofs.ClusterLaws.{rest}
+use Rattle.rules.specs.Buffers.{each_from}
+use Rattle.table.specs.Clusters.{dissolved_record}
+use Rattle.table.proofs.PartLaws.{left_of}
 use Rattle.table.proofs.clusters.dissolve.Given as goal
 
-abbrev pub invariant-loop-i : goal.invariant-loop-i
-invariant-loop-i l =
-    (length l.records ≡ length l.initial.records) × (rest l.n l.c l.i l.records ≡ dissolved l.n l.c l.initial.records)
-
-abbrev pub decreases-loop-i : goal.decreases-loop-i
-decreases-loop-i l = l.n - l.i
+-- what is left to do comes to the same
+abbrev pub invariant-loop-r : goal.invariant-loop-r
+invariant-loop-r l = left_of 1 (λ x w. dissolved_record l.c w) l.end l.r-index l.r-items ≡ each_from 1 l.end (λ x w. dissolved_record l.c w) l.initial.r-items

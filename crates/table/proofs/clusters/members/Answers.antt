@@ -5,28 +5,16 @@ use Rattle.table.proofs.clusters.members.Goals as goal
 use Rattle.table.proofs.clusters.members.Goals.{then-cluster_of-c, else-cluster_of-c}
 
 pub loop-i-init : goal.loop-i-init
-loop-i-init c = (omega arith, omega arith, members-none _ _ _)
-
-pub overflow_add-i : goal.overflow_add-i
-overflow_add-i c = omega arith
-
-pub overflow_add-k : goal.overflow_add-k
-overflow_add-k c = omega arith
-
-pub overflow_add-i-in-loop-i : goal.overflow_add-i-in-loop-i
-overflow_add-i-in-loop-i c = omega arith
-
-pub loop-i-smaller : goal.loop-i-smaller
-loop-i-smaller c = omega arith
+loop-i-init c = (omega arith, members-none _ _ _)
 
 pub loop-i-preserved : goal.loop-i-preserved
 loop-i-preserved c =
     let l = c.loop-i in
     let r = c.record_of.ensures in
     elim c.if-cluster_of-c.branch [
-      | then-cluster_of-c w ↦ (omega arith, omega arith, rw w.k-is (members-found _ _ _ l.i _ _ _ r c.cluster_of.ensures l.invariant.2 w.if-cluster_of-c.true))
-      | else-cluster_of-c w ↦ (omega arith, omega arith, rw w.k-is (members-passed _ _ _ l.i _ _ _ r c.cluster_of.ensures l.invariant.2 w.if-cluster_of-c.false))
+      | then-cluster_of-c w ↦ (omega arith, rw w.k-is (members-found _ _ _ l.i _ _ _ r c.cluster_of.ensures l.invariant.1 w.if-cluster_of-c.true))
+      | else-cluster_of-c w ↦ (omega arith, rw w.k-is (members-passed _ _ _ l.i _ _ _ r c.cluster_of.ensures l.invariant.1 w.if-cluster_of-c.false))
     ]
 
 pub returns : goal.returns
-returns c = let l = c.loop-i in members-all _ _ _ l.i _ (omega arith) l.invariant.2
+returns c = let l = c.loop-i in members-all _ _ _ l.i _ (omega arith) l.invariant.1

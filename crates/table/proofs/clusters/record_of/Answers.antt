@@ -1,15 +1,17 @@
 -- `table::clusters::record_of` meets its contract. Assumes nothing.
-use Rattle.table.proofs.ClusterLaws.{record-none, record-above, record-in, record-past}
+use Rattle.std.proofs.Common.{◌≡◌, ◌∙◌, ◌-◌, rules, slice_index_or}
+use Rattle.table.proofs.ClusterLaws.{record-none, record-above, record-in}
 use Rattle.table.proofs.clusters.record_of.Goals as goal
+use Rattle.table.proofs.clusters.record_of.Goals.{then-x-eq0-via-then-x-eq0, then-x-eq0-via-else-x-eq0+then-n-x}
 
 pub returns-then-x-eq0 : goal.returns-then-x-eq0
-returns-then-x-eq0 c = record-none _ _ _ c.if-x-eq0.true
+returns-then-x-eq0 c =
+    elim c.then-x-eq0.branch [
+      | then-x-eq0-via-then-x-eq0 w ↦ record-none _ _ _ w.if-x-eq0.true
+      | then-x-eq0-via-else-x-eq0+then-n-x w ↦ record-above _ _ _ w.if-n-x.true
+    ]
 
-pub returns-then-n-x : goal.returns-then-n-x
-returns-then-n-x c = record-above _ _ _ c.if-n-x.true
-
-pub returns-then-at-records : goal.returns-then-at-records
-returns-then-at-records c = record-in _ _ _ c.if-x-eq0.false c.if-n-x.false
-
-pub returns-else-at-records : goal.returns-else-at-records
-returns-else-at-records c = record-past _ _ _ c.if-x-eq0.false c.if-at-records.false
+pub returns : goal.returns
+returns c =
+    let e : c.unwrap_or.result ≡ slice_index_or c.args.records.now (c.args.x - 1) 0 = search rules in
+    e ∙ record-in _ _ _ c.if-x-eq0.false c.if-n-x.false

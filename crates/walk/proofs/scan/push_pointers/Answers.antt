@@ -12,25 +12,10 @@ use Rattle.walk.proofs.scan.push_pointers.Goals as goal
 pub loop-j-init : goal.loop-j-init
 loop-j-init c = pushing-here _ _ _ _ _
 
-pub overflow_sub-j : goal.overflow_sub-j
-overflow_sub-j c = omega arith
-
-pub overflow_add-w : goal.overflow_add-w
-overflow_add-w c = omega arith
-
-pub offset_bounds-slots-from : goal.offset_bounds-slots-from
-offset_bounds-slots-from c = omega arith
-
-pub bounds-slots-from : goal.bounds-slots-from
-bounds-slots-from c = omega arith
-
 pub overflow_sub-at : goal.overflow_sub-at
 overflow_sub-at c =
     let e : within 1 c.args.n (get_or c.args.slots.now (c.args.from + (c.loop-j.j - 1)) 0) ≡ true = sym c.within.ensures ∙ c.if-within.true in
     omega (arith, pushing-room _ _ _ _ _ _ c.requires _ _ _ c.loop-j.invariant c.loop-j-test.true _ refl e)
-
-pub offset_bounds-work-at : goal.offset_bounds-work-at
-offset_bounds-work-at c = omega arith
 
 pub bounds-work-at : goal.bounds-work-at
 bounds-work-at c =
@@ -41,23 +26,13 @@ bounds-work-at c =
       pushing-inside _ _ _ _ _ _ c.requires _ _ _ c.loop-j.invariant c.loop-j-test.true _ refl e,
     )
 
-pub loop-j-smaller-then-within : goal.loop-j-smaller-then-within
-loop-j-smaller-then-within c = omega arith
-
 pub loop-j-preserved-then-within : goal.loop-j-preserved-then-within
 loop-j-preserved-then-within c =
-    let l = c.loop-j in
-    let test = c.loop-j-test in
-    pushing-kept _ _ _ _ _ _ c.requires _ _ _ l.invariant test.true _ refl (sym c.within.ensures ∙ c.if-within.true)
-
-pub loop-j-smaller : goal.loop-j-smaller
-loop-j-smaller c = omega arith
+    pushing-kept _ _ _ _ _ _ c.requires _ _ _ c.loop-j.invariant c.loop-j-test.true _ refl (sym c.within.ensures ∙ c.if-within.true)
 
 pub loop-j-preserved : goal.loop-j-preserved
 loop-j-preserved c =
-    let l = c.loop-j in
-    let test = c.loop-j-test in
-    pushing-passed _ _ _ _ _ _ c.requires _ _ _ l.invariant test.true _ refl (sym c.within.ensures ∙ c.if-within.false)
+    pushing-passed _ _ _ _ _ _ c.requires _ _ _ c.loop-j.invariant c.loop-j-test.true _ refl (sym c.within.ensures ∙ c.if-within.false)
 
 pub shape_of-work : goal.shape_of-work
 shape_of-work c = c.loop-j.invariant.work-length

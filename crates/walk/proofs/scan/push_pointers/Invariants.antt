@@ -5,6 +5,3 @@ use Rattle.walk.proofs.scan.push_pointers.Given as goal
 
 abbrev pub invariant-loop-j : goal.invariant-loop-j
 invariant-loop-j l = Pushing l.n (drop l.from l.slots) l.k l.initial.work l.top l.work l.at l.j
-
-abbrev pub decreases-loop-j : goal.decreases-loop-j
-decreases-loop-j l = l.j

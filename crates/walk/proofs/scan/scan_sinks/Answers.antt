@@ -13,13 +13,13 @@ overflow_cast-k c =
     let l = c.loop-rest in
     omega (arith, scanning-place _ _ _ _ _ _ _ _ _ _ l.rest l.invariant c.loop-rest-test.true _ c.lowest_bit-k.ensures)
 
-pub offset_bounds-sinks-k : goal.offset_bounds-sinks-k
-offset_bounds-sinks-k c =
+pub offset_bounds-heap-k : goal.offset_bounds-heap-k
+offset_bounds-heap-k c =
     let l = c.loop-rest in
     omega (arith, scanning-place _ _ _ _ _ _ _ _ _ _ l.rest l.invariant c.loop-rest-test.true _ c.lowest_bit-k.ensures)
 
-pub bounds-sinks-k : goal.bounds-sinks-k
-bounds-sinks-k c =
+pub bounds-heap-k : goal.bounds-heap-k
+bounds-heap-k c =
     let l = c.loop-rest in
     omega (arith, scanning-place _ _ _ _ _ _ _ _ _ _ l.rest l.invariant c.loop-rest-test.true _ c.lowest_bit-k.ensures, c.requires.sink_max_in_bounds.0)
 

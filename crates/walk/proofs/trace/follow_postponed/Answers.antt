@@ -21,20 +21,20 @@ pub drain-requires : goal.drain-requires
 drain-requires c =
     let a = c.args in
     let take-up-call = c.take_up-top in
-    retaking-ready _ _ _ _ _ _ _ _ c.loop-x.invariant (omega arith) _ _ _ (take-up-call.ensures.moved a.sinks.now a.sets.now)
+    retaking-ready _ _ _ _ _ _ _ _ c.loop-x.invariant (omega arith) _ _ _ (take-up-call.ensures.moved a.heap.sinks.now a.heap.sets.now)
 
 pub loop-x-smaller : goal.loop-x-smaller
 loop-x-smaller c =
     let a = c.args in
     let drain-call = c.drain in
     let take-up-call = c.take_up-top in
-    retaking-less _ _ _ _ _ _ _ _ c.loop-x.invariant (omega (arith, c.loop-x-test.true)) _ _ _ (take-up-call.ensures.moved a.sinks.now a.sets.now) _ _ drain-call.ensures
+    retaking-less _ _ _ _ _ _ _ _ c.loop-x.invariant (omega (arith, c.loop-x-test.true)) _ _ _ (take-up-call.ensures.moved a.heap.sinks.now a.heap.sets.now) _ _ drain-call.ensures
 
 pub loop-x-preserved : goal.loop-x-preserved
 loop-x-preserved c =
     let a = c.args in
     let known = c.slice_known-in-loop-x-4-1.given in
-    retaking-on _ _ _ _ _ _ _ _ c.loop-x.invariant (omega (arith, c.loop-x-test.true)) _ _ _ (c.take_up-top.ensures.moved a.sinks.now a.sets.now) _ _ c.drain.ensures _ (λ i. (known i).fits) c.lowest-x-in-loop-x.ensures
+    retaking-on _ _ _ _ _ _ _ _ c.loop-x.invariant (omega (arith, c.loop-x-test.true)) _ _ _ (c.take_up-top.ensures.moved a.heap.sinks.now a.heap.sets.now) _ _ c.drain.ensures _ (λ i. (known i).fits) c.lowest-x-in-loop-x.ensures
     (c.drain.auto.records ∙ c.take_up-top.auto.records) (c.drain.auto.work ∙ c.take_up-top.auto.work)
 
 pub shape_of-records : goal.shape_of-records

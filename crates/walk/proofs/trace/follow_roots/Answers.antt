@@ -2,23 +2,15 @@
 use mathlib.Core.Path.{refl, ◌∙◌}
 use lib.ListN.{take}
 use Rattle.graph.specs.Heap.{pointers}
-use Rattle.walk.specs.State.{way}
+use Rattle.walk.specs.State.{way_of}
 use Rattle.walk.proofs.TraceLaws.{roots-begin, root-object, root-followed, root-passed, followed-at}
 use native.Mathlib.Omega.{arith}
 use Rattle.walk.proofs.trace.follow_roots.Goals as goal
+use Rattle.walk.proofs.trace.follow_roots.Goals.{then-w-ne0, else-w-ne0}
 
 pub loop-i-init : goal.loop-i-init
 loop-i-init c =
-    (omega arith, roots-begin _ _ _ _ _ c.args.roots.now c.requires.ready, refl, refl)
-
-pub offset_bounds-roots-i : goal.offset_bounds-roots-i
-offset_bounds-roots-i c = omega arith
-
-pub bounds-roots-i : goal.bounds-roots-i
-bounds-roots-i c = omega arith
-
-pub overflow_add-i : goal.overflow_add-i
-overflow_add-i c = omega arith
+    (roots-begin _ _ _ _ _ c.args.roots.now c.requires.ready, refl, refl)
 
 pub follow-requires : goal.follow-requires
 follow-requires c =
@@ -26,47 +18,39 @@ follow-requires c =
     let test = c.loop-i-test in
     let a = c.args in
     record {
-      ready = l.invariant.1.ready;
-      obj = root-object (way a.by a.sinks.now a.sets.now) a.n a.slots.now a.records.now a.roots.now a.r l.i test.true c.requires.r_in_bounds.0 c.requires.r_in_bounds.1 c.if-w-ne0.true;
+      ready = l.invariant.0.ready;
+      obj = root-object (way_of a.heap) a.heap.n a.heap.slots.now a.records.now a.roots.now a.r l.i test.true c.requires.r_in_bounds.0 c.requires.r_in_bounds.1 c.if-w-ne0.true;
     }
-
-pub loop-i-smaller-then-w-ne0 : goal.loop-i-smaller-then-w-ne0
-loop-i-smaller-then-w-ne0 c = omega arith
-
-pub loop-i-preserved-then-w-ne0 : goal.loop-i-preserved-then-w-ne0
-loop-i-preserved-then-w-ne0 c =
-    let test = c.loop-i-test in
-    let l = c.loop-i in
-    let a = c.args in (
-      omega arith,
-      root-followed (way a.by a.sinks.now a.sets.now) a.n a.slots.now a.records.now a.roots.now a.r l.i test.true c.requires.r_in_bounds.0 c.requires.r_in_bounds.1 c.if-w-ne0.true
-          l.records l.work _ _ l.invariant.1 c.follow.ensures,
-      c.follow.auto.records ∙ l.invariant.2,
-      c.follow.auto.work ∙ l.invariant.3,
-    )
-
-pub loop-i-smaller : goal.loop-i-smaller
-loop-i-smaller c = omega arith
 
 pub loop-i-preserved : goal.loop-i-preserved
 loop-i-preserved c =
-    let test = c.loop-i-test in
     let l = c.loop-i in
-    let a = c.args in (
-      omega arith,
-      root-passed (way a.by a.sinks.now a.sets.now) a.n a.slots.now a.records.now a.roots.now a.r l.i test.true c.requires.r_in_bounds.0 c.requires.r_in_bounds.1 c.if-w-ne0.false
-          l.records l.work l.invariant.1,
-      l.invariant.2,
-      l.invariant.3,
-    )
+    let a = c.args in
+    let b = c.requires.r_in_bounds in
+    elim c.if-w-ne0.branch [
+      | then-w-ne0 w ↦
+          rw (w.records-is, w.work-is) (
+            root-followed (way_of a.heap) a.heap.n a.heap.slots.now a.records.now a.roots.now a.r l.i c.loop-i-test.true b.0 b.1 w.if-w-ne0.true
+                l.records l.work _ _ l.invariant.0 w.follow.ensures,
+            w.follow.auto.records ∙ l.invariant.1,
+            w.follow.auto.work ∙ l.invariant.2,
+          )
+      | else-w-ne0 w ↦
+          rw (w.records-is, w.work-is) (
+            root-passed (way_of a.heap) a.heap.n a.heap.slots.now a.records.now a.roots.now a.r l.i c.loop-i-test.true b.0 b.1 w.if-w-ne0.false
+                l.records l.work l.invariant.0,
+            l.invariant.1,
+            l.invariant.2,
+          )
+    ]
 
 pub shape_of-records : goal.shape_of-records
-shape_of-records c = c.loop-i.invariant.2
+shape_of-records c = c.loop-i.invariant.1
 
 pub shape_of-work : goal.shape_of-work
-shape_of-work c = c.loop-i.invariant.3
+shape_of-work c = c.loop-i.invariant.2
 
 pub returns : goal.returns
 returns c =
     let l = c.loop-i in
-    followed-at _ _ _ _ (λ k. pointers (take k c.args.roots.now)) _ _ _ _ l.invariant.0 (omega arith) l.invariant.1
+    followed-at _ _ _ _ (λ k. pointers (take k c.args.roots.now)) _ _ _ _ (omega arith) (omega arith) l.invariant.0

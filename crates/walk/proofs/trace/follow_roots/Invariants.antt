@@ -1,14 +1,10 @@
 -- `follow_roots` meets its contract. The loop's invariant: the first i roots were followed.
-use Prim.Native.Nat.{◌-◌, ◌≤◌}
 use mathlib.Core.Path.{◌≡◌}
 use lib.ListN.{length, take}
 use Rattle.graph.specs.Heap.{pointers}
-use Rattle.walk.specs.State.{way, Followed}
+use Rattle.walk.specs.State.{way_of, Followed}
 use Rattle.walk.proofs.trace.follow_roots.Given as goal
 
 abbrev pub invariant-loop-i : goal.invariant-loop-i
 invariant-loop-i l =
-    (l.i ≤ l.r) × Followed (way l.by l.sinks l.sets) l.n l.slots l.initial.records (pointers (take l.i l.roots)) l.records l.work × (length l.records ≡ length l.initial.records) × (length l.work ≡ length l.initial.work)
-
-abbrev pub decreases-loop-i : goal.decreases-loop-i
-decreases-loop-i l = l.r - l.i
+    Followed (way_of l.heap) l.heap.n l.heap.slots.now l.initial.records (pointers (take l.i l.roots)) l.records l.work × (length l.records ≡ length l.initial.records) × (length l.work ≡ length l.initial.work)

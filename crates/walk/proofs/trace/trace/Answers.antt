@@ -9,7 +9,7 @@ pub follow_roots-requires : goal.follow_roots-requires
 follow_roots-requires c =
     let work-len-call = c.work_len in record {
       ready = trace-ready _ _ _ _ _ _ c.requires.traceable _ _ c.link_clusters.ensures c.link_clusters.auto.work
-          (c.clear.ensures ∙ ap (λ (k : ℕ). cleared (9 * c.args.n) k c.link_clusters.new.work) work-len-call.ensures) c.clear.auto.words;
+          (c.clear.ensures ∙ ap (λ (k : ℕ). cleared (9 * c.args.heap.n) k c.link_clusters.new.work) work-len-call.ensures) c.clear.auto.words;
       r_in_bounds = (c.requires.r_in_bounds, c.requires.traceable.objects);
     }
 

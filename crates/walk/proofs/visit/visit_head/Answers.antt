@@ -10,10 +10,10 @@ use Rattle.walk.proofs.visit.visit_head.Goals as goal
 pub returns-then-is_reached : goal.returns-then-is_reached
 unfolding flags_of
 returns-then-is_reached c =
-    head_passed _ _ _ _ _ c.requires.ready.state _ c.requires.obj c.args.sinks.now (sym (c.is_reached.ensures ∙ ap is_reached c.record_of.ensures) ∙ c.if-is_reached.true)
+    head_passed _ _ _ _ _ c.requires.ready.state _ c.requires.obj c.args.heap.sinks.now (sym (c.is_reached.ensures ∙ ap is_reached c.record_of.ensures) ∙ c.if-is_reached.true)
 
-pub bounds-sets-h : goal.bounds-sets-h
-bounds-sets-h c =
+pub bounds-heap-h : goal.bounds-heap-h
+bounds-heap-h c =
     omega (arith, c.requires.ready.listing.heads, c.requires.obj)
 
 pub scan_sinks-at-requires : goal.scan_sinks-at-requires
@@ -32,8 +32,8 @@ pub scan_outs-requires : goal.scan_outs-requires
 scan_outs-requires c =
     let put-bit-call = c.put_bit in
     let a = sinks-scanned _ _ _ _ c.requires.ready.listing _ c.requires.obj _ _ _ _ _ c.scan_sinks-at.ensures in record {
-      state = rw put-bit-call.ensures (state-reached _ _ _ _ _ c.requires.ready.state _ c.requires.obj c.args.sinks.now _ _ _ a);
-      linked = rw put-bit-call.ensures (linked-reached _ _ _ _ _ c.requires.ready.state _ c.requires.obj c.args.sinks.now _ _ _ a c.requires.ready.linked);
+      state = rw put-bit-call.ensures (state-reached _ _ _ _ _ c.requires.ready.state _ c.requires.obj c.args.heap.sinks.now _ _ _ a);
+      linked = rw put-bit-call.ensures (linked-reached _ _ _ _ _ c.requires.ready.state _ c.requires.obj c.args.heap.sinks.now _ _ _ a c.requires.ready.linked);
       obj = c.requires.obj;
     }
 
@@ -41,6 +41,6 @@ pub returns : goal.returns
 unfolding flags_of
 returns c =
     let a = sinks-scanned _ _ _ _ c.requires.ready.listing _ c.requires.obj _ _ _ _ _ c.scan_sinks-at.ensures in
-    head-reached _ _ _ _ _ c.requires.ready.state _ c.requires.obj c.args.sinks.now _ _ _ a
+    head-reached _ _ _ _ _ c.requires.ready.state _ c.requires.obj c.args.heap.sinks.now _ _ _ a
     (sym (c.is_reached.ensures ∙ ap is_reached c.record_of.ensures) ∙ c.if-is_reached.false) _ _ _
     (rw c.put_bit.ensures at c.scan_outs.ensures)
