@@ -4,6 +4,8 @@ use crate::memory::Memory;
 use crate::page::{Page, fail};
 use crate::pairs::{note_turn, put_turn, turn_of};
 use calls::{Ran, answer, as_run, run};
+use compare::answers::Answered;
+use compare::survivors::Survivors;
 use compare::turns::{State, Verdict, is_over, noted, state_after};
 use files::{Source, call_of, next_line, opened};
 use layout::control::no_control;
@@ -60,6 +62,26 @@ impl<'a> Column<'a> {
 
     pub(crate) fn roots(&self) -> u32 {
         self.ran.control.r
+    }
+
+    // What the call run last answered, as it is compared.
+    pub(crate) fn answered(&self) -> Answered<'_> {
+        Answered {
+            call: self.call,
+            ran: self.ran,
+            slots: &self.memory.slots,
+            map: &self.memory.map,
+        }
+    }
+
+    // What is in the heap, as it is compared.
+    pub(crate) fn survivors(&self) -> Survivors<'_> {
+        Survivors {
+            records: &self.memory.records,
+            slots: &self.memory.slots,
+            roots: &self.memory.roots,
+            root_count: self.roots(),
+        }
     }
 
     // The call run last, where the column is at it in a turn.

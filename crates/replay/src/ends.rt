@@ -1,6 +1,5 @@
 // What follows the rows of the calls: what survives, what changed hands, and the verdict.
 use crate::columns::{Column, Columns};
-use crate::memory::Memory;
 use crate::page::Page;
 use crate::wording::*;
 use compare::hands::*;
@@ -13,19 +12,19 @@ use std::fmt;
 
 // Object i + 1 of a column.
 #[derive(Clone, Copy)]
-struct ObjectCell<'a>(&'a Memory, u32);
+struct ObjectCell<'a>(Survivors<'a>, u32);
 
 impl<'a> fmt::Display for ObjectCell<'a> {
     fn fmt<W: fmt::Write>(&self, f: &mut fmt::Formatter<W>) -> fmt::Result {
-        let ObjectCell(memory, i) = *self;
-        let record = word_at(&memory.records, i as usize);
+        let ObjectCell(heap, i) = *self;
+        let record = word_at(heap.records, i as usize);
         if record == 0 {
             return write!(f, "free");
         }
         let count = width_of(record);
         write!(f, "width {count}")?;
         if count != 0 {
-            let slots = &memory.slots;
+            let slots = heap.slots;
             let from = slots_len(i);
             write!(f, ", {}", WordsText { slots, from, count })?;
         }
@@ -38,13 +37,13 @@ impl<'a> fmt::Display for ObjectCell<'a> {
 
 // Root j of a column.
 #[derive(Clone, Copy)]
-struct RootCell<'a>(&'a Column<'a>, u32);
+struct RootCell<'a>(Survivors<'a>, u32);
 
 impl<'a> fmt::Display for RootCell<'a> {
     fn fmt<W: fmt::Write>(&self, f: &mut fmt::Formatter<W>) -> fmt::Result {
-        let RootCell(column, j) = *self;
-        if j < column.roots() {
-            write!(f, "{}", WordText(word_at(&column.memory.roots, j as usize)))
+        let RootCell(heap, j) = *self;
+        if j < heap.root_count {
+            write!(f, "{}", WordText(word_at(heap.roots, j as usize)))
         } else {
             write!(f, "no root")
         }
@@ -57,14 +56,19 @@ fn mark_of(same: bool) -> &'static str {
 }
 
 // The row of object i + 1, unless it is free in both columns.
-fn object_row<R: Print + Eprint>(rt: &R, page: &mut Page, i: u32, left: &Memory, right: &Memory) {
-    let x = word_at(&left.records, i as usize);
-    let y = word_at(&right.records, i as usize);
+fn object_row<R: Print + Eprint>(
+    rt: &R,
+    page: &mut Page,
+    i: u32,
+    left: Survivors<'_>,
+    right: Survivors<'_>,
+) {
+    let x = word_at(left.records, i as usize);
+    let y = word_at(right.records, i as usize);
     if x == 0 && y == 0 {
         return;
     }
-    let same = same_object(i, &left.records, &left.slots, &right.records, &right.slots);
-    let mark = mark_of(same);
+    let mark = mark_of(same_object(i, &left, &right));
     page.row(
         rt,
         format_args!("{mark}object {}", i + 1),
@@ -74,12 +78,17 @@ fn object_row<R: Print + Eprint>(rt: &R, page: &mut Page, i: u32, left: &Memory,
 }
 
 // The row of root j, if one of the columns has it.
-fn root_row<R: Print + Eprint>(rt: &R, page: &mut Page, j: u32, left: &Column, right: &Column) {
-    let (r, q) = (left.roots(), right.roots());
-    if r <= j && q <= j {
+fn root_row<R: Print + Eprint>(
+    rt: &R,
+    page: &mut Page,
+    j: u32,
+    left: Survivors<'_>,
+    right: Survivors<'_>,
+) {
+    if left.root_count <= j && right.root_count <= j {
         return;
     }
-    let mark = mark_of(same_root(j, r, &left.memory.roots, q, &right.memory.roots));
+    let mark = mark_of(same_root(j, &left, &right));
     page.row(
         rt,
         format_args!("{mark}root {j}"),
@@ -89,18 +98,23 @@ fn root_row<R: Print + Eprint>(rt: &R, page: &mut Page, j: u32, left: &Column, r
 }
 
 // Whether no object is in use.
-fn is_empty(memory: &Memory) -> bool {
-    memory.records.iter().all(|r| *r == 0)
+fn is_empty(heap: Survivors<'_>) -> bool {
+    heap.records.iter().all(|r| *r == 0)
 }
 
 // The objects and roots that survive.
-fn survivors<R: Print + Eprint>(rt: &R, page: &mut Page, left: &Column, right: &Column) {
+fn survivors<R: Print + Eprint>(
+    rt: &R,
+    page: &mut Page,
+    left: Survivors<'_>,
+    right: Survivors<'_>,
+) {
     page.line(rt, "\nSurvivors");
-    if is_empty(&*left.memory) && is_empty(&*right.memory) {
+    if is_empty(left) && is_empty(right) {
         page.line(rt, "none");
     }
     for i in 0..OBJECT_MAX {
-        object_row(rt, page, i, &*left.memory, &*right.memory);
+        object_row(rt, page, i, left, right);
     }
     for j in 0..ROOT_MAX {
         root_row(rt, page, j, left, right);
@@ -176,9 +190,8 @@ fn hands_part<R: Print + Eprint>(rt: &R, page: &mut Page, columns: &Columns) {
 
 // Whether the same survives in both columns.
 fn is_same(left: &Column, right: &Column) -> bool {
-    let (l, r) = (&*left.memory, &*right.memory);
-    same_objects(&l.records, &l.slots, &r.records, &r.slots)
-        && same_roots(left.roots(), &l.roots, right.roots(), &r.roots)
+    let (l, r) = (left.survivors(), right.survivors());
+    same_objects(&l, &r) && same_roots(&l, &r)
 }
 
 // The last line of a report.
@@ -224,7 +237,12 @@ impl<'a> fmt::Display for VerdictText<'a> {
 
 // What follows the rows of the calls, to the last line.
 pub(crate) fn ends<R: Print + Eprint>(rt: &R, page: &mut Page, columns: &Columns) {
-    survivors(rt, page, &columns.left, &columns.right);
+    survivors(
+        rt,
+        page,
+        columns.left.survivors(),
+        columns.right.survivors(),
+    );
     hands_part(rt, page, columns);
     page.line(rt, "");
     page.line(rt, VerdictText(columns));

@@ -116,24 +116,20 @@ pub(crate) fn note_turn(hands: &mut [u64; 8192], left: &Column, right: &Column, 
     let j = right.source.number;
     let x = given(t.has_left, left.call, left.ran);
     let y = given(t.has_right, right.call, right.ran);
-    let (l, r) = (&*left.memory, &*right.memory);
-    note_given(hands, true, x, y, i, &r.records, &r.slots, &r.roots);
-    note_given(hands, false, y, x, j, &l.records, &l.slots, &l.roots);
+    note_given(hands, true, x, y, i, &right.survivors());
+    note_given(hands, false, y, x, j, &left.survivors());
     if did_collect(t.has_left, left.call, left.ran) {
-        keep_freed(hands, true, &l.map);
+        keep_freed(hands, true, &left.memory.map);
     }
     if did_collect(t.has_right, right.call, right.ran) {
-        keep_freed(hands, false, &r.map);
+        keep_freed(hands, false, &right.memory.map);
     }
 }
 
 // What comes next of two columns that both wait.
 pub(crate) fn turn_of(left: &Column, right: &Column) -> Turn {
-    let (l, r) = (&*left.memory, &*right.memory);
     let same = left.state != State::AtCall
         || right.state != State::AtCall
-        || same_answers(
-            left.call, right.call, left.ran, right.ran, &l.slots, &l.map, &r.slots, &r.map,
-        );
+        || same_answers(&left.answered(), &right.answered());
     next_turn(left.state, right.state, same)
 }

@@ -5,4 +5,6 @@ use Rattle.compare.specs.Survivors.{same_roots}
 use Rattle.compare.proofs.survivors.same_roots.Given as goal
 
 abbrev pub invariant-loop-j : goal.invariant-loop-j
-invariant-loop-j l = same_roots l.r1 l.root1 l.r2 l.root2 l.j (64 - l.j) ≡ same_roots l.r1 l.root1 l.r2 l.root2 0 64
+invariant-loop-j l =
+    same_roots l.x.root_count l.x.roots.now l.y.root_count l.y.roots.now l.j (64 - l.j)
+    ≡ same_roots l.x.root_count l.x.roots.now l.y.root_count l.y.roots.now 0 64
