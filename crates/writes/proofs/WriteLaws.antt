@@ -1,7 +1,7 @@
 -- What write answers and leaves at each of its ends. Assumes nothing.
 use Prim.Native.Nat.{ℕ, ◌+◌, ◌-◌, ◌*◌, ◌^◌, ◌≤◌, ◌<◌}
 use mathlib.Core.Path.{◌≡◌, refl, sym, ap, ap₂, ◌∙◌, subst}
-use mathlib.Core.Bool.{Bool, true, false, not, cond, ◌||◌, or_assoc, true≢false}
+use mathlib.Core.Bool.{Bool, true, false, not, cond, ◌||◌, or_assoc}
 use mathlib.Core.List.{List, [], ◌∷◌, ◌++◌}
 use mathlib.Core.Logic.{◌≢◌}
 use native.Mathlib.Decide.{ℕ_discrete}
@@ -22,7 +22,7 @@ use Rattle.layout.specs.declared.refusals.Refusal.{Refusal}
 use Rattle.layout.specs.declared.refusals.Refusal.TheVariants.{LossFull}
 use Rattle.layout.specs.Refusal.{Test, number, refusal_of, first}
 use Rattle.layout.proofs.LimitLaws.{within-true, below-within, above_within}
-use Rattle.layout.proofs.ControlLaws.{control-facts, writes-sound, facts-control}
+use Rattle.layout.proofs.ControlLaws.{control-facts}
 use Rattle.layout.proofs.WordLaws.{Says, sort-says, pointer-legal, immediate-bounds}
 use Rattle.layout.proofs.RefusalLaws.{numbered, Numbered, nil, cons, first-passed, first-front, first-skip, first-zero, first_holds, first-fails, outcome-zero, outcome-number}
 use Rattle.graph.specs.Numbers.{has}

@@ -1,5 +1,4 @@
 -- `writes::write::attempt` meets its contract: one case for each of its ends. Assumes nothing.
-use mathlib.Core.Path.{refl}
 use native.Mathlib.Omega.{arith}
 use Rattle.writes.proofs.WriteLaws.{ends_refused, slot-there, ends-elsewhere, ends-stored}
 use Rattle.writes.proofs.write.attempt.Goals as goal
