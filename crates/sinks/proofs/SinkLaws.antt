@@ -5,15 +5,13 @@ use mathlib.Core.Path.{◌≡◌, refl, sym, ap, ap₂, ◌∙◌, fun_ext}
 use mathlib.Core.Bool.{Bool, true, false, not, cond, ◌&&◌, false≢true}
 use mathlib.Core.Logic.{◌≢◌}
 use mathlib.Core.List.{List, map, ◌++◌}
-use Rattle.std.specs.Prelude.{Option, Some, None, min}
-use Rattle.std.specs.Option.{is_some}
 use native.Mathlib.Decide.{ℕ_discrete, dec_lt, dec_le}
 use native.Mathlib.Omega.{arith}
 use native.Mathlib.Numerals.{add-one}
-use lib.Dec.{eqb, leb}
+use lib.Dec.{eqb, leb, ltb}
 use lib.ListN.{length, get_or, take, drop, set, length-set, length-take}
-use lib.Seq.{get_or-set_other, ext_get_or, get_or-take}
-use borrow.Author.Tests.{eq-eqb, ne_eqb, not-false}
+use lib.Seq.{get_or-set_other, ext_get_or}
+use borrow.Author.Tests.{eq-eqb, eqb-true, ne_eqb, ltb-false, not-false}
 use Rattle.layout.specs.Field.{put, put_flag, digit}
 use Rattle.layout.specs.Limits.{object_max, sink_max, within}
 use Rattle.records.specs.Record.{is_sink, is_written, width, cluster, free, loose, with_out, with_sink, with_cluster}
@@ -47,59 +45,65 @@ use Rattle.rules.proofs.StoreLaws.{rec_of-zero, rec_of-place, stored-alike, rec_
 use Rattle.table.specs.Clusters.{dissolved, dissolved_record}
 use Rattle.table.proofs.RoomLaws.{heap-long}
 use Rattle.wellformed.proofs.CheckLaws.{checked-is}
-use Rattle.sinks.specs.Sinks.{made_exact, EmptyAt, FirstEmpty}
+use Rattle.std.specs.Prelude.{Option, Some, None, ◌==◌, IsSome}
+use Rattle.std.specs.List.{position_or_len}
+use Rattle.std.proofs.lemmas.List.Quantifiers.{position-Some}
+use Rattle.std.proofs.lemmas.List.Sums.{fails_before_first}
+use Rattle.sinks.specs.Sinks.{made_exact, first_empty}
 
 -- ---- the first empty place
 
--- the search: no place before k is empty
-pub record Filled (list : List ℕ) (k : ℕ) : Type 0 where
-  pub most : k ≤ sink_max
-  pub inside : k ≤ length list
-  pub filled : (j : ℕ) → j < k → get_or (take sink_max list) j 0 ≢ 0
+-- a search that found nothing went to the end
+none-past : (m n : ℕ) → ◌≡◌ {A = Option ℕ} (cond (ltb m n) (Some m) None) None → n ≤ m
+none-past m n e = go (ltb m n) refl e
+  where
+    go : (b : Bool) → ltb m n ≡ b → ◌≡◌ {A = Option ℕ} (cond b (Some m) None) None → n ≤ m
+    go false q z = ltb-false m n q
+    go true q z = absurd (cc)
+
+-- what is known of the place that the search found
+pub record FirstEmpty (l : List ℕ) (k : ℕ) : Type 0 where
+  pub inside : k < length l
+  pub empty : get_or l k 0 ≡ 0
+  pub filled : (j : ℕ) → j < k → get_or l j 0 ≢ 0
 
 module _ (list : List ℕ) where
-  pub filled_none : Filled list 0
-  filled_none = record { most = omega arith; inside = omega arith; filled = λ j p. absurd (omega arith) }
+  pub found : (k : ℕ) → first_empty list ≡ Some k → FirstEmpty (take sink_max list) k
+  found k e =
+      let p = position-Some (λ y. y == 0) (take sink_max list) k 0 e in
+      record {
+        inside = p.0;
+        empty = eqb-true _ 0 p.1;
+        filled = λ j h z. false≢true (sym (p.2 j h) ∙ eq-eqb _ 0 z);
+      }
 
-  module _ (k : ℕ) (F : Filled list k) where
-    pub filled_more : k < sink_max → k < length list → get_or list k 0 ≢ 0 → Filled list (k + 1)
-    filled_more p q e = record { most = omega arith; inside = omega arith; filled = λ j h. more j h (ℕ_discrete j k) }
-      where
-        more : (j : ℕ) → j < k + 1 → Dec (j ≡ k) → get_or (take sink_max list) j 0 ≢ 0
-        more j h (yes d) = rw d (λ z. e (sym (get_or-take sink_max list k 0 p) ∙ z))
-        more j h (no d) = F.filled j (omega (arith, d))
+  pub has-empty : (k : ℕ) → first_empty list ≡ Some k → has 0 (take sink_max list) ≡ true
+  has-empty k e = let F = found k e in has-at 0 (take sink_max list) k F.inside F.empty
 
-    pub found : k < sink_max → k < length list → get_or list k 0 ≡ 0 → EmptyAt (take sink_max list) k
-    found p q e =
-        let n = length-take sink_max list in
-        record { inside = omega arith; empty = get_or-take sink_max list k 0 p ∙ e; filled = F.filled }
+  -- where it found none, no place is empty
+  pub no-empty : first_empty list ≡ None → has 0 (take sink_max list) ≡ false
+  no-empty e =
+      let all : length (take sink_max list) ≤ position_or_len (λ y. y == 0) (take sink_max list) = none-past _ _ e in
+      has-none 0 (take sink_max list)
+      (λ j h z. false≢true (sym (fails_before_first (λ y. y == 0) (take sink_max list) j 0 (omega (arith, all, h))) ∙ eq-eqb _ 0 z))
 
-    -- all are filled
-    pub past_all : (e : ℕ) → e ≡ min (length list) sink_max → e ≤ k → (j : ℕ) → j < length (take sink_max list) → get_or (take sink_max list) j 0 ≢ 0
-    past_all e d p j q = F.filled j (let n = length-take sink_max list in omega arith)
+  -- a place that is there is found
+  pub is-found : has 0 (take sink_max list) ≡ true → IsSome (first_empty list)
+  is-found e = go (first_empty list) refl
+    where
+      go : (r : Option ℕ) → first_empty list ≡ r → IsSome r
+      go (Some k) q = refl
+      go None q = absurd (false≢true (sym (no-empty q) ∙ e))
 
--- whether a place is empty, by what was found
-pub has-empty : (l : List ℕ) (k : ℕ) → EmptyAt l k → has 0 l ≡ true
-has-empty l k F = has-at 0 l k F.inside F.empty
-
-pub no-empty : (l : List ℕ) → ((j : ℕ) → j < length l → get_or l j 0 ≢ 0) → has 0 l ≡ false
-no-empty l f = has-none 0 l f
-
-pub some-place : (l : List ℕ) → has 0 l ≡ true → (r : Option ℕ) → FirstEmpty l r → is_some r ≡ true
-some-place l e (Some k) F = refl
-some-place l e None F = absurd (false≢true (sym (no-empty l F) ∙ e))
-
-pub its-place : (l : List ℕ) (r : Option ℕ) → FirstEmpty l r → (k : ℕ) → r ≡ Some k → EmptyAt l k
-its-place l r F k e = rw e at F
-
--- it is in the slice
-pub place-low : (list : List ℕ) (k : ℕ) → EmptyAt (take sink_max list) k → (k < sink_max) × (k < length list)
-place-low list k F = let p = F.inside in let n = length-take sink_max list in (omega arith, omega arith)
+  -- it is in the slice
+  pub place-low : (k : ℕ) → first_empty list ≡ Some k → (k < sink_max) × (k < length list)
+  place-low k e = let n = length-take sink_max list in let i = (found k e).inside in (omega arith, omega arith)
 
 -- the object in it
-pub placed-there : (o : ℕ) (list : List ℕ) → sink_max ≤ length list → (k : ℕ) → EmptyAt (take sink_max list) k
+pub placed-there : (o : ℕ) (list : List ℕ) → sink_max ≤ length list → (k : ℕ) → first_empty list ≡ Some k
     → set list k o ≡ placed o (take sink_max list) ++ drop sink_max list
-placed-there o list long k F =
+placed-there o list long k e =
+    let F = found list k e in
     sym (placed-set o sink_max list long (record { place = k; inside = F.inside; vacant = F.empty; before = F.filled }))
 
 -- ---- the tests
@@ -144,11 +148,11 @@ module _ (c : Control) (i : ℕ) (recs slots roots list sets : List ℕ) where
             is-again y = sym (last-test ∙ rw y refl)
 
             module _ (y : s ≡ false) where
-              pub has-place : (k : ℕ) → EmptyAt (take sink_max list) k → 0 ≡ answer
-              has-place k F = sym (last-test ∙ rw (y, has-empty (take sink_max list) k F) refl)
+              pub has-place : (k : ℕ) → first_empty list ≡ Some k → 0 ≡ answer
+              has-place k e = sym (last-test ∙ rw (y, has-empty list k e) refl)
 
-              pub is-full : ((j : ℕ) → j < length (take sink_max list) → get_or (take sink_max list) j 0 ≢ 0) → 29 ≡ answer
-              is-full f = sym (last-test ∙ rw (y, no-empty (take sink_max list) f) refl)
+              pub is-full : first_empty list ≡ None → 29 ≡ answer
+              is-full e = sym (last-test ∙ rw (y, no-empty list e) refl)
 
   -- 0 says that the object has a record, and what is known of the slices and of the list
   pub record Named : Type 0 where
@@ -185,6 +189,9 @@ module _ (c : Control) (i : ℕ) (recs slots roots list sets : List ℕ) where
     where
       one : (a b : Bool) → a ≡ false → (not a && not b) ≡ false → b ≡ true
       one a b e h = not-false b (rw e at h)
+
+-- the ends of the tests, for the search
+pub ruleset refusing = (bad-control, few_words, no-object, is-damaged, is_free_lem, is-again, has-place, is-full)
 
 -- ---- the out bits, from what the records say of width, sink and cluster
 
@@ -240,20 +247,13 @@ module _ (n : ℕ) (slots base : List ℕ) where
             ∙ P.same x;
       }
 
-  passed-all : (i : ℕ) (recs : List ℕ) → Passed i recs → n ≤ i → recs ≡ made_exact n slots base
+  pub passed-all : (i : ℕ) (recs : List ℕ) → Passed i recs → n ≤ i → recs ≡ made_exact n slots base
   passed-all i recs P p =
       let z : n - i ≡ 0 = omega arith in
       sym (ap (λ (k : ℕ). pass_from 1 i k one recs) z ∙ pass-end 1 i one recs) ∙ P.rest
 
-  passed-past : (i : ℕ) (recs : List ℕ) → Passed i recs → length recs ≤ i → recs ≡ made_exact n slots base
+  pub passed-past : (i : ℕ) (recs : List ℕ) → Passed i recs → length recs ≤ i → recs ≡ made_exact n slots base
   passed-past i recs P p = sym (pass-past 1 i (n - i) one recs p) ∙ P.rest
-
-  pub passed-end : (i : ℕ) (recs : List ℕ) → Passed i recs → (m : ℕ) → length recs ≡ m → (e : ℕ) → e ≡ min m n → e ≤ i → recs ≡ made_exact n slots base
-  passed-end i recs P m l e d p = go (dec_le n i)
-    where
-      go : Dec (n ≤ i) → recs ≡ made_exact n slots base
-      go (yes h) = passed-all i recs P h
-      go (no h) = passed-past i recs P (omega (arith, h))
 
 -- ---- the three steps
 
@@ -459,22 +459,21 @@ encoded-listed : (n : ℕ) (recs slots list : List ℕ) (i : ℕ) → encoded (d
 unfolding encoded declare
 encoded-listed n recs slots list i = refl
 
-module _ (c : Control) (i : ℕ) (recs slots roots list sets : List ℕ) where
-  pub refused : (k : ℕ) → k ≡ first (declare_tests c i recs slots roots list sets) → k ≢ 0
-      → gives (record { refusal = k; control = c }) recs list sets ≡ declare_sink c i recs slots roots list sets
+module _ (c : Control) (i : ℕ) (recs slots roots list sets : List ℕ) (k : ℕ) (e : k ≡ first (declare_tests c i recs slots roots list sets)) where
+  pub refused : k ≢ 0 → gives (record { refusal = k; control = c }) recs list sets ≡ declare_sink c i recs slots roots list sets
   unfolding declare_sink
-  refused k e z = sym (outcome-number _ _ (declare_tests c i recs slots roots list sets) k (sym e) z)
+  refused z = sym (outcome-number _ _ (declare_tests c i recs slots roots list sets) k (sym e) z)
 
-  module _ (e : 0 ≡ first (declare_tests c i recs slots roots list sets)) where
+  module _ (z : k ≡ 0) where
     pub facts : Named c i recs slots roots list sets
-    facts = named c i recs slots roots list sets (sym e)
+    facts = named c i recs slots roots list sets (sym e ∙ z)
 
     here : rec_of c.n recs i ≡ get_or recs (i - 1) 0
     here = rec_of-get c.n recs i facts.low facts.high
 
     pub again : is_sink (get_or recs (i - 1) 0) ≡ true → gives (record { refusal = 0; control = c }) recs list sets ≡ declare_sink c i recs slots roots list sets
     unfolding declare_sink
-    again s = sym (outcome-zero _ _ (declare_tests c i recs slots roots list sets) (sym e) ∙ rw (here, s) refl)
+    again s = sym (outcome-zero _ _ (declare_tests c i recs slots roots list sets) (sym e ∙ z) ∙ rw (here, s) refl)
 
     module _ (s : is_sink (get_or recs (i - 1) 0) ≡ false) where
       no-sink : is_sink (rec_of c.n recs i) ≡ false
@@ -513,7 +512,7 @@ module _ (c : Control) (i : ℕ) (recs slots roots list sets : List ℕ) where
           = fill-exact c.n recs' slots list₁ sets sets' es facts.most (rw el still-once) ∙ ap₂ (λ (x y : List ℕ). exact_sets (heap_in c.n x slots y) sets) m el
           ∙ sets-declared c.n i recs slots facts.low facts.high facts.long list list' sets (taken ∙ sym listed-is) in
           (λ j. gives (record { refusal = 0; control = c }) (r j) (o j) (t j))
-          ∙ sym (outcome-zero _ _ (declare_tests c i recs slots roots list sets) (sym e) ∙ rw no-sink refl)
+          ∙ sym (outcome-zero _ _ (declare_tests c i recs slots roots list sets) (sym e ∙ z) ∙ rw no-sink refl)
 
 -- the ends of a declaration, for the search
 pub ruleset declaring = (facts, refused, again, place-there, anew)
