@@ -28,8 +28,8 @@ pub enum State {
     Failed,
 }
 
-// A list. Of its input the bytes from `from` to `end` are still to be used; the line found has those from `start` to `stop`. Which list it is, `fd`
-// says to the caller, who hands over the reader of it.
+// A list. Of its input the bytes from `from` to `end` are still to be used; the line found has those from `start` to `stop`. `fd` is a number of the
+// caller's own for the list, which stays (`Found.file`); the reader is handed over.
 #[derive(Clone, Copy)]
 pub struct Source {
     pub fd: i32,

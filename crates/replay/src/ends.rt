@@ -71,7 +71,7 @@ fn object_row<R: Print + Eprint>(
     let mark = mark_of(same_object(i, &left, &right));
     page.row(
         rt,
-        format_args!("{mark}object {}", i + 1),
+        format_args!("{mark}object {}", u64::from(i) + 1),
         ObjectCell(left, i),
         ObjectCell(right, i),
     );

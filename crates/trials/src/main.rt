@@ -7,7 +7,7 @@ use heap::allocate::allocate;
 use heap::create::create;
 use layout::answers::{Allocated, Control};
 use layout::control::{new_control, no_control, usual_tuning, with_analysis, with_write_loss};
-use std::{fmt, io};
+use std::fmt;
 use writes::write::write;
 
 // ---- a heap and its calls
@@ -177,35 +177,45 @@ fn first_limit(used: u32) -> u32 {
     heap.control.limit
 }
 
-fn main(rt: HostRuntime) -> io::Result<()> {
-    println!(rt; "create, n 0: {}", creating(0))?;
-    println!(rt; "create, n 4096: {}", creating(4096))?;
+// A line of output. That it could not be written changes nothing, as no line stands on another.
+fn tell<R: Print, D: fmt::Display + Drop>(rt: &R, trial: &str, value: D) {
+    let _ = println!(rt; "{trial}: {value}");
+}
+
+fn main(rt: HostRuntime) {
+    tell(&rt, "create, n 0", creating(0));
+    tell(&rt, "create, n 4096", creating(4096));
     let mut enough = [0; 74];
-    println!(rt;
-        "analyse, n 1, 74 words of work: {}",
-        analysing(&mut enough)
-    )?;
-    println!(rt;
-        "collect plainly, n 1, 74 words of work: {}",
-        collecting(false, &mut enough)
-    )?;
-    println!(rt;
-        "collect by clusters, n 1, 74 words of work: {}",
-        collecting(true, &mut enough)
-    )?;
     let mut less = [0; 73];
-    println!(rt; "analyse, n 1, 73 words of work: {}", analysing(&mut less))?;
-    println!(rt;
-        "collect plainly, n 1, 73 words of work: {}",
-        collecting(false, &mut less)
-    )?;
-    println!(rt;
-        "collect by clusters, n 1, 73 words of work: {}",
-        collecting(true, &mut less)
-    )?;
-    println!(rt; "allocate, width 9: {}", allocating(9))?;
-    println!(rt; "write of 0x7FFFFFFF: {}", writing(0x7FFFFFFF))?;
-    println!(rt; "size limit 17, halved: {}", halved(17))?;
-    println!(rt; "first limit, 143 in use: {}", first_limit(143))?;
-    println!(rt; "first limit, 144 in use: {}", first_limit(144))
+    tell(
+        &rt,
+        "analyse, n 1, 74 words of work",
+        analysing(&mut enough),
+    );
+    tell(
+        &rt,
+        "collect plainly, n 1, 74 words of work",
+        collecting(false, &mut enough),
+    );
+    tell(
+        &rt,
+        "collect by clusters, n 1, 74 words of work",
+        collecting(true, &mut enough),
+    );
+    tell(&rt, "analyse, n 1, 73 words of work", analysing(&mut less));
+    tell(
+        &rt,
+        "collect plainly, n 1, 73 words of work",
+        collecting(false, &mut less),
+    );
+    tell(
+        &rt,
+        "collect by clusters, n 1, 73 words of work",
+        collecting(true, &mut less),
+    );
+    tell(&rt, "allocate, width 9", allocating(9));
+    tell(&rt, "write of 0x7FFFFFFF", writing(0x7FFFFFFF));
+    tell(&rt, "size limit 17, halved", halved(17));
+    tell(&rt, "first limit, 143 in use", first_limit(143));
+    tell(&rt, "first limit, 144 in use", first_limit(144));
 }
