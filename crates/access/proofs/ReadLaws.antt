@@ -2,8 +2,7 @@
 use Prim.Native.Nat.{ℕ, ◌+◌, ◌-◌, ◌≤◌, ◌<◌}
 use mathlib.Core.Path.{◌≡◌, sym, ap, ◌∙◌}
 use mathlib.Core.Bool.{false}
-use Rattle.std.specs.Prelude.{Result, Ok, Err}
-use Rattle.std.specs.Result.{is_err}
+use Rattle.std.specs.Prelude.{Err}
 use mathlib.Core.List.{List, [], ◌∷◌}
 use mathlib.Core.Logic.{◌≢◌}
 use native.Mathlib.Omega.{arith}
@@ -15,7 +14,7 @@ use Rattle.layout.specs.declared.answers.WordRead.{WordRead}
 use Rattle.records.specs.Record.{width}
 use Rattle.layout.specs.Limits.{object_max, slots_len}
 use Rattle.layout.specs.declared.refusals.Refusal.{Refusal}
-use Rattle.layout.specs.Refusal.{Test, number, refusal_of, first}
+use Rattle.layout.specs.Refusal.{Test, number, first}
 use Rattle.layout.proofs.RefusalLaws.{numbered, Numbered, nil, cons, first-front, first-skip, first-zero, first_holds, first-fails, outcome-zero, outcome-number}
 use Rattle.rules.specs.Buffers.{rec_of}
 use Rattle.rules.specs.Show.{show_tests}
@@ -75,11 +74,6 @@ module _ (c : Control) (i k : ℕ) (recs slots : List ℕ) where
         (ap (λ (x : ℕ). record { refusal = 0; word = x; control = c })
         (sym (used-get c.n recs slots i N.low N.legal.narrow k (rw v l)))
         ∙ sym (outcome-zero _ _ (Read.read_tests c i k recs slots) (last-test ∙ first-fails 5 [] _ t)))
-
--- what `object_refusal` answers is no refusal
-pub all_pass : (r : Result Unit Refusal) (m : ℕ) → refusal_of r ≡ m → is_err r ≡ false → 0 ≡ m
-all_pass (Ok _) m e d = e
-all_pass (Err _) m e d = cc
 
 -- the ends of a read, for the search
 pub ruleset ends = (in_reach, refused, no_slot)

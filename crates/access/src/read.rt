@@ -28,11 +28,10 @@ fn look_up(
     Ok(slots[slots_len(object - 1) + slot as usize])
 }
 
-// The same with the control record.
-fn answer(found: Result<u32, Refusal>, c: Control) -> WordRead
-    ensures { result ≡ answered found c }
+pub fn read(c: Control, object: u32, slot: u32, records: &[u32], slots: &[u32]) -> WordRead
+    ensures { result ≡ Read.read c object slot records.now slots.now }
 {
-    match found {
+    match look_up(c, object, slot, records, slots) {
         Ok(w) => WordRead {
             refusal: 0,
             word: w,
@@ -43,24 +42,5 @@ fn answer(found: Result<u32, Refusal>, c: Control) -> WordRead
             word: 0,
             control: c,
         },
-    }
-}
-
-// A read that passes is answered here. All others go to `look_up`, which is called twice and so stays a function: then the control
-// record is tested where it is, and copied whole (docs/BENCHMARK.md, "Read").
-#[tactic(auto, using(crate::proofs::ReadLaws::ends))]
-pub fn read(c: Control, object: u32, slot: u32, records: &[u32], slots: &[u32]) -> WordRead
-    ensures { result ≡ Read.read c object slot records.now slots.now }
-{
-    if object_refusal(c, object, records, slots, OBJECT_MAX as usize).is_err() {
-        return answer(look_up(c, object, slot, &records[..], &slots[..]), c);
-    }
-    if width_of(records[(object - 1) as usize]) <= slot {
-        return answer(look_up(c, object, slot, &records[..], &slots[..]), c);
-    }
-    WordRead {
-        refusal: 0,
-        word: slots[slots_len(object - 1) + slot as usize],
-        control: c,
     }
 }

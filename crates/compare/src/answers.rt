@@ -35,22 +35,29 @@ pub(crate) fn same_part(x: &[u32], y: &[u32], start: usize, other: usize, count:
     }
 }
 
+// What the call of a line answered on a column's heap, with the slots and the map that it speaks of.
+#[derive(Clone, Copy)]
+pub struct Answered<'a> {
+    pub call: Option<Call>,
+    pub ran: Ran,
+    pub slots: &'a [u32],
+    pub map: &'a [u64],
+}
+
 // Whether what an accepted call gives besides its answer is the same: what was freed, or the slots that are shown.
 #[tactic(auto, unfolding(crate::specs::Answers::same_values))]
-fn same_values(
-    kind: Kind,
-    x: Ran,
-    y: Ran,
-    slots1: &[u32],
-    map1: &[u64],
-    slots2: &[u32],
-    map2: &[u64],
-) -> bool
-    ensures { result ≡ same_values kind x y slots1.now map1.now slots2.now map2.now }
+fn same_values(kind: Kind, x: &Answered, y: &Answered) -> bool
+    ensures { result ≡ same_values kind x.now.ran y.now.ran x.now.slots.now x.now.map.now y.now.slots.now y.now.map.now }
 {
     match kind {
-        Kind::Collect => map1 == map2,
-        Kind::Show => same_part(slots1, slots2, x.a as usize, y.a as usize, x.b),
+        Kind::Collect => x.map == y.map,
+        Kind::Show => same_part(
+            x.slots,
+            y.slots,
+            x.ran.a as usize,
+            y.ran.a as usize,
+            x.ran.b,
+        ),
         _ => true,
     }
 }
@@ -68,24 +75,15 @@ fn beside(kind: Kind, x: Ran, y: Ran) -> Ran
 
 // Whether two lines make calls of the same kind, answered the same, as far as it counts.
 #[tactic(auto, unfolding(crate::specs::Answers::same_answers))]
-pub fn same_answers(
-    call: Option<Call>,
-    other: Option<Call>,
-    x: Ran,
-    y: Ran,
-    slots1: &[u32],
-    map1: &[u64],
-    slots2: &[u32],
-    map2: &[u64],
-) -> bool
-    ensures { result ≡ same_answers call other x y slots1.now map1.now slots2.now map2.now }
+pub fn same_answers(x: &Answered, y: &Answered) -> bool
+    ensures { result ≡ same_answers x.now.call y.now.call x.now.ran y.now.ran x.now.slots.now x.now.map.now y.now.slots.now y.now.map.now }
 {
-    match (call, other) {
+    match (x.call, y.call) {
         (None, None) => true,
         (Some(c), Some(d)) => {
             c.kind == d.kind
-                && agree(c, x, beside(c.kind, x, y))
-                && (x.refusal != 0 || same_values(c.kind, x, y, slots1, map1, slots2, map2))
+                && agree(c, x.ran, beside(c.kind, x.ran, y.ran))
+                && (x.ran.refusal != 0 || same_values(c.kind, x, y))
         }
         _ => false,
     }

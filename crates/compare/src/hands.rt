@@ -5,7 +5,7 @@
 ghost use Rattle.std.specs.Prelude.{◌≡◌, get_or, set};
 ghost use Rattle.compare.specs.Hands.{given_by, collects, word_of, keep_one, keep_freed, found, naming, is_again, note_given};
 
-use crate::survivors::word_at;
+use crate::survivors::{Survivors, word_at};
 use bitmap::has_bit;
 use calls::Ran;
 use lines::kinds::*;
@@ -126,24 +126,15 @@ fn is_again(hands: &[u64], is_left: bool, x: u32, y: u32, records: &[u32]) -> bo
 }
 
 // Notes whether the object x that a column was given at a line changed hands, where a place names it. The other column was given
-// y, and has these buffers.
+// y, and has this heap.
 #[tactic(auto, unfolding(crate::specs::Hands::note_given, crate::specs::Hands::handed))]
-pub fn note_given(
-    hands: &mut [u64],
-    is_left: bool,
-    x: u32,
-    y: u32,
-    line: u64,
-    records: &[u32],
-    slots: &[u32],
-    roots: &[u32],
-)
-    ensures { hands.new ≡ note_given is_left x y line records.now slots.now roots.now hands.old }
+pub fn note_given(hands: &mut [u64], is_left: bool, x: u32, y: u32, line: u64, other: &Survivors)
+    ensures { hands.new ≡ note_given is_left x y line other.now.records.now other.now.slots.now other.now.roots.now hands.old }
 {
-    if !is_again(hands, is_left, x, y, records) {
+    if !is_again(hands, is_left, x, y, other.records) {
         return;
     }
-    if let Some(place) = named_at(slots, roots, x) {
+    if let Some(place) = named_at(other.slots, other.roots, x) {
         if place < NOWHERE && line < LINES {
             set_hand(hands, is_left, x, line * 65536 + place as u64);
         }

@@ -21,33 +21,42 @@ fn same_record(x: u32, y: u32) -> bool
     (x == 0) == (y == 0) && width_of(x) == width_of(y) && is_sink(x) == is_sink(y)
 }
 
-// Whether object i + 1 is free in both heaps, or the same in both.
-#[tactic(auto, unfolding(crate::specs::Survivors::same_object))]
-pub fn same_object(i: u32, rec1: &[u32], slot1: &[u32], rec2: &[u32], slot2: &[u32]) -> bool
-    ensures { result ≡ same_object i rec1.now slot1.now rec2.now slot2.now }
-{
-    let x = word_at(rec1, i as usize);
-    let y = word_at(rec2, i as usize);
-    let at = slots_len(i);
-    same_record(x, y) && (x == 0 || same_part(slot1, slot2, at, at, 8))
+// What is compared of a column's heap, which has so many roots.
+#[derive(Clone, Copy)]
+pub struct Survivors<'a> {
+    pub records: &'a [u32],
+    pub slots: &'a [u32],
+    pub roots: &'a [u32],
+    pub root_count: u32,
 }
 
-// Whether root j is the same in two heaps of r1 and r2 roots.
-#[tactic(auto, unfolding(crate::specs::Survivors::same_root))]
-pub fn same_root(j: u32, r1: u32, root1: &[u32], r2: u32, root2: &[u32]) -> bool
-    ensures { result ≡ same_root j r1 root1.now r2 root2.now }
+// Whether object i + 1 is free in both heaps, or the same in both.
+#[tactic(auto, unfolding(crate::specs::Survivors::same_object))]
+pub fn same_object(i: u32, x: &Survivors, y: &Survivors) -> bool
+    ensures { result ≡ same_object i x.now.records.now x.now.slots.now y.now.records.now y.now.slots.now }
 {
-    let same = word_at(root1, j as usize) == word_at(root2, j as usize);
-    (r1 <= j) == (r2 <= j) && (r1 <= j || same)
+    let a = word_at(x.records, i as usize);
+    let b = word_at(y.records, i as usize);
+    let at = slots_len(i);
+    same_record(a, b) && (a == 0 || same_part(x.slots, y.slots, at, at, 8))
+}
+
+// Whether root j is the same in both heaps.
+#[tactic(auto, unfolding(crate::specs::Survivors::same_root))]
+pub fn same_root(j: u32, x: &Survivors, y: &Survivors) -> bool
+    ensures { result ≡ same_root j x.now.root_count x.now.roots.now y.now.root_count y.now.roots.now }
+{
+    let same = word_at(x.roots, j as usize) == word_at(y.roots, j as usize);
+    (x.root_count <= j) == (y.root_count <= j) && (x.root_count <= j || same)
 }
 
 // Whether the first 4095 objects are the same.
 #[tactic(auto, using(crate::proofs::DecideLaws::everies))]
-pub fn same_objects(rec1: &[u32], slot1: &[u32], rec2: &[u32], slot2: &[u32]) -> bool
-    ensures { result ≡ same_objects rec1.now slot1.now rec2.now slot2.now 0 4095 }
+pub fn same_objects(x: &Survivors, y: &Survivors) -> bool
+    ensures { result ≡ same_objects x.now.records.now x.now.slots.now y.now.records.now y.now.slots.now 0 4095 }
 {
     for i in 0..4095 {
-        if !same_object(i, rec1, slot1, rec2, slot2) {
+        if !same_object(i, x, y) {
             return false;
         }
     }
@@ -56,11 +65,11 @@ pub fn same_objects(rec1: &[u32], slot1: &[u32], rec2: &[u32], slot2: &[u32]) ->
 
 // Whether the first 64 roots are the same.
 #[tactic(auto, using(crate::proofs::DecideLaws::everies))]
-pub fn same_roots(r1: u32, root1: &[u32], r2: u32, root2: &[u32]) -> bool
-    ensures { result ≡ same_roots r1 root1.now r2 root2.now 0 64 }
+pub fn same_roots(x: &Survivors, y: &Survivors) -> bool
+    ensures { result ≡ same_roots x.now.root_count x.now.roots.now y.now.root_count y.now.roots.now 0 64 }
 {
     for j in 0..64 {
-        if !same_root(j, r1, root1, r2, root2) {
+        if !same_root(j, x, y) {
             return false;
         }
     }

@@ -58,8 +58,8 @@ pub fn fill_sets(n: u32, records: &[u32], slots: &[u32], sinks: &[u32], sets: &m
     put_sets(n, records, slots, &place, sets);
 }
 
-// Whether n is a size, there are n sets, and every one is exact; a number that is in the list twice counts in its last place. The exact sets and
-// the places of `fill_sets` take 36 KiB of stack.
+// Whether n is a size, there are n sets, and every one is exact; a number that is in the list twice counts in its last place.
+// The exact sets and the places of `fill_sets` take 36 KiB of stack.
 pub fn sets_ok(n: u32, records: &[u32], slots: &[u32], sinks: &[u32], sets: &[u64]) -> bool
     ensures { result ≡ leb n object_max && (not (short n sets.now)
         && sets_ok n records.now slots.now (last_places sinks.now) sets.now) }

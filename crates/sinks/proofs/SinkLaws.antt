@@ -8,10 +8,10 @@ use mathlib.Core.List.{List, map, ◌++◌}
 use native.Mathlib.Decide.{ℕ_discrete, dec_lt, dec_le}
 use native.Mathlib.Omega.{arith}
 use native.Mathlib.Numerals.{add-one}
-use lib.Dec.{eqb, leb}
-use lib.ListN.{length, get_or, take, drop, set, length-set, length-take, get_or-eq_default}
-use lib.Seq.{get_or-set_other, ext_get_or, get_or-take, length-take-le}
-use borrow.Author.Tests.{eq-eqb, ne_eqb, not-false}
+use lib.Dec.{eqb, leb, ltb}
+use lib.ListN.{length, get_or, take, drop, set, length-set, length-take}
+use lib.Seq.{get_or-set_other, ext_get_or}
+use borrow.Author.Tests.{eq-eqb, eqb-true, ne_eqb, ltb-false, not-false}
 use Rattle.layout.specs.Field.{put, put_flag, digit}
 use Rattle.layout.specs.Limits.{object_max, sink_max, within}
 use Rattle.records.specs.Record.{is_sink, is_written, width, cluster, free, loose, with_out, with_sink, with_cluster}
@@ -45,68 +45,66 @@ use Rattle.rules.proofs.StoreLaws.{rec_of-zero, rec_of-place, stored-alike, rec_
 use Rattle.table.specs.Clusters.{dissolved, dissolved_record}
 use Rattle.table.proofs.RoomLaws.{heap-long}
 use Rattle.wellformed.proofs.CheckLaws.{checked-is}
-use Rattle.sinks.specs.Sinks.{made_exact, FirstEmpty}
+use Rattle.std.specs.Prelude.{Option, Some, None, ◌==◌, IsSome}
+use Rattle.std.specs.List.{position_or_len}
+use Rattle.std.proofs.lemmas.List.Quantifiers.{position-Some}
+use Rattle.std.proofs.lemmas.List.Sums.{fails_before_first}
+use Rattle.sinks.specs.Sinks.{made_exact, first_empty}
 
 -- ---- the first empty place
 
--- the search: no place before k is empty
-pub record Filled (list : List ℕ) (k : ℕ) : Type 0 where
-  pub most : k ≤ sink_max
-  pub inside : k ≤ length list
-  pub filled : (j : ℕ) → j < k → get_or (take sink_max list) j 0 ≢ 0
+-- a search that found nothing went to the end
+none-past : (m n : ℕ) → ◌≡◌ {A = Option ℕ} (cond (ltb m n) (Some m) None) None → n ≤ m
+none-past m n e = go (ltb m n) refl e
+  where
+    go : (b : Bool) → ltb m n ≡ b → ◌≡◌ {A = Option ℕ} (cond b (Some m) None) None → n ≤ m
+    go false q z = ltb-false m n q
+    go true q z = absurd (cc)
+
+-- what is known of the place that the search found
+pub record FirstEmpty (l : List ℕ) (k : ℕ) : Type 0 where
+  pub inside : k < length l
+  pub empty : get_or l k 0 ≡ 0
+  pub filled : (j : ℕ) → j < k → get_or l j 0 ≢ 0
 
 module _ (list : List ℕ) where
-  pub filled_none : Filled list 0
-  filled_none = record { most = omega arith; inside = omega arith; filled = λ j p. absurd (omega arith) }
+  pub found : (k : ℕ) → first_empty list ≡ Some k → FirstEmpty (take sink_max list) k
+  found k e =
+      let p = position-Some (λ y. y == 0) (take sink_max list) k 0 e in
+      record {
+        inside = p.0;
+        empty = eqb-true _ 0 p.1;
+        filled = λ j h z. false≢true (sym (p.2 j h) ∙ eq-eqb _ 0 z);
+      }
 
-  module _ (k : ℕ) (F : Filled list k) where
-    pub filled_more : k < sink_max → k < length list → get_or list k 0 ≢ 0 → Filled list (k + 1)
-    filled_more p q e = record { most = omega arith; inside = omega arith; filled = λ j h. more j h (ℕ_discrete j k) }
-      where
-        more : (j : ℕ) → j < k + 1 → Dec (j ≡ k) → get_or (take sink_max list) j 0 ≢ 0
-        more j h (yes d) = rw d (λ z. e (sym (get_or-take sink_max list k 0 p) ∙ z))
-        more j h (no d) = F.filled j (omega (arith, d))
+  pub has-empty : (k : ℕ) → first_empty list ≡ Some k → has 0 (take sink_max list) ≡ true
+  has-empty k e = let F = found k e in has-at 0 (take sink_max list) k F.inside F.empty
 
-    pub found : k < sink_max → get_or list k 0 ≡ 0 → FirstEmpty (take sink_max list) k
-    found p e =
-        let n = length-take sink_max list in
-        let l = F.inside in
-        record { low = omega arith; empty = get_or-take sink_max list k 0 p ∙ e; filled = F.filled }
+  -- where it found none, no place is empty
+  pub no-empty : first_empty list ≡ None → has 0 (take sink_max list) ≡ false
+  no-empty e =
+      let all : length (take sink_max list) ≤ position_or_len (λ y. y == 0) (take sink_max list) = none-past _ _ e in
+      has-none 0 (take sink_max list)
+      (λ j h z. false≢true (sym (fails_before_first (λ y. y == 0) (take sink_max list) j 0 (omega (arith, all, h))) ∙ eq-eqb _ 0 z))
 
-    -- all are filled
-    past_all : length (take sink_max list) ≡ k → FirstEmpty (take sink_max list) k
-    past_all e = record { low = omega arith; empty = get_or-eq_default (take sink_max list) 0 (omega arith); filled = F.filled }
-
-    pub past-list : length list ≤ k → FirstEmpty (take sink_max list) k
-    past-list p = past_all (let n = length-take sink_max list in let a = F.most in let b = F.inside in omega arith)
-
-    pub past-places : sink_max ≤ k → FirstEmpty (take sink_max list) k
-    past-places p = past_all (let n = length-take sink_max list in let a = F.most in let b = F.inside in omega arith)
-
--- whether a place is empty, by the place that was found
-module _ (l : List ℕ) (k : ℕ) (F : FirstEmpty l k) where
-  pub has-empty : k < length l → has 0 l ≡ true
-  has-empty p = has-at 0 l k p F.empty
-
-  pub no-empty : length l ≤ k → has 0 l ≡ false
-  no-empty p = has-none 0 l (λ q h. F.filled q (omega arith))
-
-  pub place_inside : has 0 l ≡ true → k < length l
-  place_inside e = go (dec_lt k (length l))
+  -- a place that is there is found
+  pub is-found : has 0 (take sink_max list) ≡ true → IsSome (first_empty list)
+  is-found e = go (first_empty list) refl
     where
-      go : Dec (k < length l) → k < length l
-      go (yes p) = p
-      go (no p) = absurd (false≢true (sym (no-empty (omega (arith, p))) ∙ e))
+      go : (r : Option ℕ) → first_empty list ≡ r → IsSome r
+      go (Some k) q = refl
+      go None q = absurd (false≢true (sym (no-empty q) ∙ e))
 
--- it is in the slice
-pub place-low : (list : List ℕ) → has 0 (take sink_max list) ≡ true → (k : ℕ) → FirstEmpty (take sink_max list) k → (k < sink_max) × (k < length list)
-place-low list e k F = let p = place_inside (take sink_max list) k F e in let n = length-take sink_max list in (omega arith, omega arith)
+  -- it is in the slice
+  pub place-low : (k : ℕ) → first_empty list ≡ Some k → (k < sink_max) × (k < length list)
+  place-low k e = let n = length-take sink_max list in let i = (found k e).inside in (omega arith, omega arith)
 
 -- the object in it
-pub placed-there : (o : ℕ) (list : List ℕ) → sink_max ≤ length list → has 0 (take sink_max list) ≡ true → (k : ℕ) → FirstEmpty (take sink_max list) k
+pub placed-there : (o : ℕ) (list : List ℕ) → sink_max ≤ length list → (k : ℕ) → first_empty list ≡ Some k
     → set list k o ≡ placed o (take sink_max list) ++ drop sink_max list
-placed-there o list long e k F =
-    sym (placed-set o sink_max list long (record { place = k; inside = place_inside (take sink_max list) k F e; vacant = F.empty; before = F.filled }))
+placed-there o list long k e =
+    let F = found list k e in
+    sym (placed-set o sink_max list long (record { place = k; inside = F.inside; vacant = F.empty; before = F.filled }))
 
 -- ---- the tests
 
@@ -149,15 +147,12 @@ module _ (c : Control) (i : ℕ) (recs slots roots list sets : List ℕ) where
             pub is-again : s ≡ true → 0 ≡ answer
             is-again y = sym (last-test ∙ rw y refl)
 
-            module _ (y : s ≡ false) (k : ℕ) (F : FirstEmpty (take sink_max list) k) where
-              places-long : length (take sink_max list) ≡ sink_max
-              places-long = length-take-le sink_max list (heap-long c.n c.r recs slots roots list sets (sym eh ∙ t)).sinks-long
+            module _ (y : s ≡ false) where
+              pub has-place : (k : ℕ) → first_empty list ≡ Some k → 0 ≡ answer
+              has-place k e = sym (last-test ∙ rw (y, has-empty list k e) refl)
 
-              pub has-place : k < sink_max → 0 ≡ answer
-              has-place p = sym (last-test ∙ rw (y, has-empty (take sink_max list) k F (rw places-long p)) refl)
-
-              pub is-full : sink_max ≤ k → 29 ≡ answer
-              is-full p = sym (last-test ∙ rw (y, no-empty (take sink_max list) k F (rw places-long p)) refl)
+              pub is-full : first_empty list ≡ None → 29 ≡ answer
+              is-full e = sym (last-test ∙ rw (y, no-empty list e) refl)
 
   -- 0 says that the object has a record, and what is known of the slices and of the list
   pub record Named : Type 0 where
@@ -194,6 +189,9 @@ module _ (c : Control) (i : ℕ) (recs slots roots list sets : List ℕ) where
     where
       one : (a b : Bool) → a ≡ false → (not a && not b) ≡ false → b ≡ true
       one a b e h = not-false b (rw e at h)
+
+-- the ends of the tests, for the search
+pub ruleset refusing = (bad-control, few_words, no-object, is-damaged, is_free_lem, is-again, has-place, is-full)
 
 -- ---- the out bits, from what the records say of width, sink and cluster
 

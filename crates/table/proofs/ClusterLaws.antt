@@ -11,11 +11,6 @@ use native.Mathlib.Numerals.{add-one}
 use lib.Dec.{eqb, ltb}
 use lib.ListN.{length, get_or, take, drop, length-drop, length-take}
 use lib.Seq.{take-take, take_all, take-nil}
-use Rattle.std.specs.Option.{MatchOption, unwrap_or}
-use Rattle.std.specs.declared.option.Option.{Option}
-use Rattle.std.specs.declared.option.Option.TheVariants.{Some, None}
-use denote.Bor.{Bor}
-use mathlib.Core.Logic.{◌⊎◌, inl, inr}
 use borrow.Author.Tests.{le-leb, lt-leb, eq-eqb, ne_eqb, lt-ltb}
 use Rattle.layout.specs.Limits.{slots_len}
 use Rattle.records.specs.Record.{is_sink, cluster, width, loose}
@@ -104,13 +99,8 @@ module _ (x : ℕ) (slots : List ℕ) (w : ℕ) where
       let l = length-drop from slots in
       rw (eight-from x slots (omega (arith, h)) from d) (sym (take-min u (to - from) (drop from slots) (omega arith)) ∙ take-both w u (drop from slots) e)
 
--- a range that is asked for, or none
-pub range-got : (o : Option (Bor (List ℕ))) (none : Bor (List ℕ)) → none.now ≡ [] → (from to : ℕ) (l : List ℕ) → to ≤ length l
-    → MatchOption o ((to < from) ⊎ (length l < to)) (λ s. (from ≤ to) × (to ≤ length l) × (s.now ≡ take (to - from) (drop from l)) × (length s.now + from ≡ to))
-    → (unwrap_or o none).now ≡ take (to - from) (drop from l)
-range-got (Some s) none e from to l p h = h.2
-range-got None none e from to l p (inl q) = let z : to - from ≡ 0 = omega arith in rw z e
-range-got None none e from to l p (inr q) = absurd (omega arith)
+  pub used-past : (from u to : ℕ) → x ≢ 0 → from ≡ slots_len (x - 1) → u ≡ min w 8 → to ≡ min (length slots) (from + u) → to ≤ from → [] ≡ take w (eight slots x)
+  used-past from u to h d e f p = let z : to - from ≡ 0 = omega arith in rw z at (used-are h from u to d e f)
 
 -- ---- the out bit
 

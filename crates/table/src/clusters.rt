@@ -40,7 +40,8 @@ pub fn used_words(x: u32, r: u32, slots: &[u32]) -> &[u32]
     let from = slots_len(x - 1);
     let used = width_of(r).min(WIDTH_MAX) as usize;
     let to = slots.len().min(from + used);
-    slots.get(from..to).unwrap_or(&[])
+    // Not `get(from..to).unwrap_or(&[])`, which was tried and takes longer.
+    if from < to { &slots[from..to] } else { &[] }
 }
 
 // The out bit that object x should have.

@@ -1,7 +1,7 @@
 -- What write answers and leaves at each of its ends. Assumes nothing.
 use Prim.Native.Nat.{ℕ, ◌+◌, ◌-◌, ◌*◌, ◌^◌, ◌≤◌, ◌<◌}
 use mathlib.Core.Path.{◌≡◌, refl, sym, ap, ap₂, ◌∙◌, subst}
-use mathlib.Core.Bool.{Bool, true, false, not, cond, ◌||◌, or_assoc, true≢false}
+use mathlib.Core.Bool.{Bool, true, false, not, cond, ◌||◌, or_assoc}
 use mathlib.Core.List.{List, [], ◌∷◌, ◌++◌}
 use mathlib.Core.Logic.{◌≢◌}
 use native.Mathlib.Decide.{ℕ_discrete}
@@ -20,11 +20,9 @@ use Rattle.layout.specs.ControlRecord.{bad_control, with_write_loss}
 use Rattle.std.specs.Prelude.{Result, Ok, Err}
 use Rattle.layout.specs.declared.refusals.Refusal.{Refusal}
 use Rattle.layout.specs.declared.refusals.Refusal.TheVariants.{LossFull}
-use Rattle.writes.specs.declared.write.Tried.{Tried}
-use Rattle.writes.specs.declared.write.Tried.TheVariants.{Stored, Elsewhere, Refused}
 use Rattle.layout.specs.Refusal.{Test, number, refusal_of, first}
 use Rattle.layout.proofs.LimitLaws.{within-true, below-within, above_within}
-use Rattle.layout.proofs.ControlLaws.{control-facts, writes-sound, facts-control}
+use Rattle.layout.proofs.ControlLaws.{control-facts}
 use Rattle.layout.proofs.WordLaws.{Says, sort-says, pointer-legal, immediate-bounds}
 use Rattle.layout.proofs.RefusalLaws.{numbered, Numbered, nil, cons, first-passed, first-front, first-skip, first-zero, first_holds, first-fails, outcome-zero, outcome-number}
 use Rattle.graph.specs.Numbers.{has}
@@ -427,13 +425,13 @@ module _ (c : Control) (i k w : ℕ) (recs slots list sets : List ℕ) where
   unfolding word_tests
   above-zero = cons (lit< tt) (cons (lit< tt) (cons (lit< tt) (cons (lit< tt) (cons (lit< tt) (cons (lit< tt) (cons (lit< tt) (cons (lit< tt) nil)))))))
 
-  pub refused : (r : Refusal) → number r ≡ first (front_tests c i k w recs slots (others_of list sets))
-      → Write.gives (record { refusal = number r; control = c }) recs slots sets ≡ Write.write c i k w recs slots list sets
+  pub refused : (m : ℕ) → m ≡ first (front_tests c i k w recs slots (others_of list sets)) → m ≢ 0
+      → Write.gives (record { refusal = m; control = c }) recs slots sets ≡ Write.write c i k w recs slots list sets
   unfolding Write.write
-  refused r e =
-      let f : number r ≡ first tests = e ∙ sym (front-spelled c i k w recs slots list sets) in
-      sym (outcome-number _ _ (Write.write_tests c i k w recs slots list sets) (number r)
-      (ap first tests-parts ∙ first-front tests last-test (λ z. numbered r (f ∙ z)) ∙ sym f) (numbered r))
+  refused m e d =
+      let f : m ≡ first tests = e ∙ sym (front-spelled c i k w recs slots list sets) in
+      sym (outcome-number _ _ (Write.write_tests c i k w recs slots list sets) m
+      (ap first tests-parts ∙ first-front tests last-test (λ z. d (f ∙ z)) ∙ sym f) d)
 
   module _ (e : 0 ≡ first (front_tests c i k w recs slots (others_of list sets))) where
     only-last : first (Write.write_tests c i k w recs slots list sets) ≡ first last-test
@@ -506,23 +504,42 @@ module _ (c : Control) (i k w : ℕ) (recs slots list sets : List ℕ) where
 
 -- the store to an object in the cluster that is asked for, after the tests
 pub stored-in : (c : Control) (i k w : ℕ) (recs slots : List ℕ) (x : ℕ) → 0 ≡ first (front_tests c i k w recs slots x) → (o : ℕ) → o ≡ x
-    → (r d : ℕ) → r ≡ rec_of c.n recs i → d ≡ cluster r → (a : Tried) (rs ss : List ℕ) → Attempted c i k w recs slots o d a rs ss
+    → (r d : ℕ) → r ≡ rec_of c.n recs i → d ≡ cluster r → (a : ℕ) (rs ss : List ℕ) → Attempted c i k w recs slots o d a rs ss
     → (rs ≡ set recs (i - 1) (with_written true (rec_of c.n recs i))) × (ss ≡ set slots (8 * (i - 1) + k) w)
-stored-in c i k w recs slots x e o g r d q h a rs ss (refuses y _ f _ _) = absurd (numbered y (f ∙ ap (λ (y : ℕ). first (front_tests c i k w recs slots y)) g ∙ sym e))
+stored-in c i k w recs slots x e o g r d q h a rs ss (refuses f z _ _) = absurd (z (f ∙ ap (λ (y : ℕ). first (front_tests c i k w recs slots y)) g ∙ sym e))
 stored-in c i k w recs slots x e o g r d q h a rs ss (passes _ z _ _ _) = absurd (z (sym (h ∙ ap cluster q)))
 stored-in c i k w recs slots x e o g r d q h a rs ss (stores _ _ _ y z) = (y, z)
 
 -- the attempt's ends, by the cluster of the record that is read
+pub ends_refused : (c : Control) (i k w : ℕ) (recs slots : List ℕ) (o h : ℕ) (r : Refusal) → number r ≡ first (front_tests c i k w recs slots o)
+    → (m : ℕ) → m ≡ number r → Attempted c i k w recs slots o h m recs slots
+ends_refused c i k w recs slots o h r e m f = refuses (f ∙ e) (λ z. numbered r (sym f ∙ z)) refl refl
+
 module _ (c : Control) (i k w : ℕ) (recs slots : List ℕ) (o : ℕ) (e : 0 ≡ first (front_tests c i k w recs slots o)) (h d : ℕ) (f : d ≡ cluster (get_or recs (i - 1) 0)) where
   own-cluster : cluster_of c.n recs i ≡ d
   own-cluster = ap cluster (passed-named c i k w recs slots o e).rec-at ∙ sym f
 
-  pub ends-elsewhere : d ≢ h → Attempted c i k w recs slots o h Elsewhere recs slots
+  pub ends-elsewhere : d ≢ h → Attempted c i k w recs slots o h 63 recs slots
   ends-elsewhere q = passes e (λ y. q (sym own-cluster ∙ y)) refl refl refl
 
   pub ends-stored : d ≡ h → (rs ss : List ℕ) → rs ≡ set recs (i - 1) (with_written true (rec_of c.n recs i)) → ss ≡ set slots (8 * (i - 1) + k) w
-      → Attempted c i k w recs slots o h Stored rs ss
+      → Attempted c i k w recs slots o h 0 rs ss
   ends-stored q rs ss = stores e (own-cluster ∙ q) refl
+
+-- a refusal is below 63
+low : (m : ℕ) (b : Bool) (l : List Test) → m < 63 → first l < 63 → first ((m, b) ∷ l) < 63
+unfolding first
+low m true l h r = h
+low m false l h r = r
+
+none-low : first [] < 63
+unfolding first
+none-low = lit< tt
+
+front_low : (c : Control) (i k w : ℕ) (recs slots : List ℕ) (o : ℕ) → first (front_tests c i k w recs slots o) < 63
+unfolding front_tests named_tests word_tests
+front_low c i k w recs slots o =
+    low 20 _ _ (lit< tt) (low 2 _ _ (lit< tt) (low 4 _ _ (lit< tt) (low 21 _ _ (lit< tt) (low 22 _ _ (lit< tt) (low 5 _ _ (lit< tt) (low 6 _ _ (lit< tt) (low 23 _ [] (lit< tt) none-low)))))))
 
 -- one that stored nothing because the object is elsewhere
 pub record Left (c : Control) (i k w : ℕ) (recs slots : List ℕ) (o : ℕ) (rs ss : List ℕ) : Type 0 where
@@ -530,11 +547,10 @@ pub record Left (c : Control) (i k w : ℕ) (recs slots : List ℕ) (o : ℕ) (r
   pub slots-left : ss ≡ slots
   pub passed : 0 ≡ first (front_tests c i k w recs slots o)
 
-pub left : (c : Control) (i k w : ℕ) (recs slots : List ℕ) (o h : ℕ) (rs ss : List ℕ)
-    → Attempted c i k w recs slots o h Elsewhere rs ss → Left c i k w recs slots o rs ss
-left c i k w recs slots o h rs ss (refuses _ q _ _ _) = cc
-left c i k w recs slots o h rs ss (passes e _ _ x y) = record { records-left = x; slots-left = y; passed = e }
-left c i k w recs slots o h rs ss (stores _ _ q _ _) = cc
+pub left : (c : Control) (i k w : ℕ) (recs slots : List ℕ) (o h a : ℕ) (rs ss : List ℕ) → Attempted c i k w recs slots o h a rs ss → a ≡ 63 → Left c i k w recs slots o rs ss
+left c i k w recs slots o h a rs ss (refuses e _ _ _) q = let x = front_low c i k w recs slots o in absurd (omega arith)
+left c i k w recs slots o h a rs ss (passes e _ _ x y) q = record { records-left = x; slots-left = y; passed = e }
+left c i k w recs slots o h a rs ss (stores _ _ z _ _) q = absurd (omega arith)
 
 -- ---- the store to a member
 
@@ -573,32 +589,20 @@ module _ (c : Control) (i k w : ℕ) (recs slots list sets : List ℕ) where
       (p ∙ stays-loose c.n i k w recs slots s N.legal q) y
       (set-none c.n i recs (store_by false (heap_in c.n recs slots list) i k (target c.n w)) sets _ _ refl refl q)
 
-  module _ (o : ℕ) (g : o ≡ others) (rs₁ ss₁ : List ℕ) where
-    -- an attempt that stored
-    pub answered : Attempted c i k w recs slots o 0 Stored rs₁ ss₁ → outcome c 0 rs₁ ss₁ sets
-    answered t = go (subst (λ (x : ℕ). Attempted c i k w recs slots x 0 Stored rs₁ ss₁) g t)
+  module _ (o : ℕ) (g : o ≡ others) (a₁ : ℕ) (rs₁ ss₁ : List ℕ) (t : Attempted c i k w recs slots o 0 a₁ rs₁ ss₁) where
+    -- an attempt that refused or stored
+    pub answered : a₁ ≢ 63 → outcome c a₁ rs₁ ss₁ sets
+    answered d = go (subst (λ (x : ℕ). Attempted c i k w recs slots x 0 a₁ rs₁ ss₁) g t)
       where
-        go : Attempted c i k w recs slots others 0 Stored rs₁ ss₁ → outcome c 0 rs₁ ss₁ sets
-        go (refuses _ q _ _ _) = cc
-        go (passes _ _ q _ _) = cc
-        go (stores e q _ x y) = loose-stored e q rs₁ ss₁ x y
-
-    -- or refused
-    pub turned_down : (r : Refusal) → Attempted c i k w recs slots o 0 (Refused r) rs₁ ss₁ → (m : ℕ) → m ≡ number r → outcome c m rs₁ ss₁ sets
-    turned_down r t m f = go (subst (λ (x : ℕ). Attempted c i k w recs slots x 0 (Refused r) rs₁ ss₁) g t)
-      where
-        go : Attempted c i k w recs slots others 0 (Refused r) rs₁ ss₁ → outcome c m rs₁ ss₁ sets
-        go (refuses s q e x y) =
-            let g : r ≡ s = cc in
-            let h : m ≡ number s = f ∙ ap number g in
-            (λ j. Write.gives (record { refusal = h j; control = c }) (x j) (y j) sets) ∙ refused c i k w recs slots list sets s e
-        go (passes _ _ q _ _) = cc
-        go (stores _ _ q _ _) = cc
+        go : Attempted c i k w recs slots others 0 a₁ rs₁ ss₁ → outcome c a₁ rs₁ ss₁ sets
+        go (refuses e z p q) = (λ j. Write.gives (record { refusal = a₁; control = c }) (p j) (q j) sets) ∙ refused c i k w recs slots list sets a₁ e z
+        go (passes _ _ z _ _) = absurd (d z)
+        go (stores e q z x y) = ap (λ (n : ℕ). Write.gives (record { refusal = n; control = c }) rs₁ ss₁ sets) z ∙ loose-stored e q rs₁ ss₁ x y
 
     -- one that left a member to its own store
-    module _ (t : Attempted c i k w recs slots o 0 Elsewhere rs₁ ss₁) where
+    module _ (z : a₁ ≡ 63) where
       L : Left c i k w recs slots others rs₁ ss₁
-      L = left c i k w recs slots others 0 rs₁ ss₁ (subst (λ (x : ℕ). Attempted c i k w recs slots x 0 Elsewhere rs₁ ss₁) g t)
+      L = left c i k w recs slots others 0 a₁ rs₁ ss₁ (subst (λ (x : ℕ). Attempted c i k w recs slots x 0 a₁ rs₁ ss₁) g t) z
 
       pub passed_on : 0 ≡ first (front_tests c i k w rs₁ ss₁ others)
       passed_on = L.passed ∙ ap₂ (λ (x y : List ℕ). first (front_tests c i k w x y others)) (sym L.records-left) (sym L.slots-left)

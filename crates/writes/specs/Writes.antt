@@ -6,7 +6,7 @@ use Rattle.records.specs.Record.{width, legal, with_written}
 use Rattle.layout.specs.Word.{is_pointer, legal_word}
 use Rattle.layout.specs.declared.refusals.Refusal.{Refusal}
 use Rattle.layout.specs.ControlRecord.{with_write_loss}
-use Rattle.layout.specs.Refusal.{Test, number, refusal_of, first}
+use Rattle.layout.specs.Refusal.{Test, refusal_of, first}
 use Rattle.graph.specs.Heap.{Heap}
 use Rattle.graph.specs.Writes.{dissolves, store_by}
 use Rattle.rules.specs.Buffers.{short, rec_of}
@@ -14,8 +14,6 @@ use Rattle.rules.specs.View.{target, view, heap_in, set_word, encoded}
 use Rattle.table.specs.Named.{named_tests}
 use Rattle.table.specs.Room.{Room}
 use Rattle.table.specs.Clusters.{cluster_of, members_of}
-use Rattle.writes.specs.declared.write.Tried.{Tried}
-use Rattle.writes.specs.declared.write.Tried.TheVariants.{Stored, Elsewhere, Refused}
 
 -- the tests of the word that is to be stored
 unfoldable pub word_tests : ℕ → ℕ → List ℕ → List Test
@@ -45,13 +43,12 @@ with_set H h sets = cond (eqb h 0) sets (set sets (h - 1) (set_word H h))
 unfoldable pub sets_by : Bool → ℕ → ℕ → ℕ → ℕ → List ℕ → List ℕ → List ℕ → List ℕ → List ℕ
 sets_by d n i k w recs slots list sets = with_set (store_by d (heap_in n recs slots list) i k (target n w)) (cluster_of n recs i) sets
 
--- what an attempt at a write answers and leaves: a refusal, or that the object is not in cluster h, or the word stored
-pub data Attempted (c : Control) (i k w : ℕ) (recs slots : List ℕ) (others h : ℕ) (a : Tried) (rs ss : List ℕ) : Type 0 where
-  refuses : (e : Refusal) → a ≡ Refused e → number e ≡ first (front_tests c i k w recs slots others) → rs ≡ recs → ss ≡ slots
+-- what an attempt at a write answers and leaves: a refusal, 63 where the object is not in cluster h, or the word stored
+pub data Attempted (c : Control) (i k w : ℕ) (recs slots : List ℕ) (others h a : ℕ) (rs ss : List ℕ) : Type 0 where
+  refuses : a ≡ first (front_tests c i k w recs slots others) → a ≢ 0 → rs ≡ recs → ss ≡ slots → Attempted c i k w recs slots others h a rs ss
+  passes : 0 ≡ first (front_tests c i k w recs slots others) → cluster_of c.n recs i ≢ h → a ≡ 63 → rs ≡ recs → ss ≡ slots
       → Attempted c i k w recs slots others h a rs ss
-  passes : 0 ≡ first (front_tests c i k w recs slots others) → cluster_of c.n recs i ≢ h → a ≡ Elsewhere → rs ≡ recs → ss ≡ slots
-      → Attempted c i k w recs slots others h a rs ss
-  stores : 0 ≡ first (front_tests c i k w recs slots others) → cluster_of c.n recs i ≡ h → a ≡ Stored
+  stores : 0 ≡ first (front_tests c i k w recs slots others) → cluster_of c.n recs i ≡ h → a ≡ 0
       → rs ≡ set recs (i - 1) (with_written true (rec_of c.n recs i)) → ss ≡ set slots (width_max * (i - 1) + k) w
       → Attempted c i k w recs slots others h a rs ss
 

@@ -194,14 +194,9 @@ fn store_staying(
 
 // ---- the call
 
-// What `attempt` comes to.
-#[derive(Clone, Copy)]
-enum Tried {
-    Stored,
-    // The object is in another cluster, and nothing is stored.
-    Elsewhere,
-    Refused(Refusal),
-}
+// Above all refusals: what `attempt` answers for an object in another cluster. It answers a number, not an enum: `write` is then short
+// enough to be put into its exports (tried, and slower).
+const ELSEWHERE: u32 = 63;
 
 // The tests, and then the store, where the object is in this cluster: 0 is for none. An object in no cluster has no out bit, and there
 // is no set to make.
@@ -215,17 +210,17 @@ fn attempt(
     slots: &mut [u32],
     others: usize,
     cluster: u32,
-) -> Tried
+) -> u32
     ensures { Attempted c object slot word records.old slots.old others cluster result records.new slots.new }
 {
     if let Err(e) = write_refusal(c, object, slot, word, records, slots, others) {
-        return Tried::Refused(e);
+        return u32::from(e);
     }
     if cluster_of(records[(object - 1) as usize]) != cluster {
-        return Tried::Elsewhere;
+        return ELSEWHERE;
     }
     store_word(c.n, object, slot, word, records, slots);
-    Tried::Stored
+    0
 }
 
 // A store that dissolves the object's cluster: every member becomes loose, and the set is empty.
@@ -284,7 +279,6 @@ fn store_member(
 // Most writes are to objects in no cluster, and `attempt` makes them. It and `store_member` stay functions that take the control record
 // where it is: so this one is short enough to be put into both exports, and copies a record that stays whole (docs/BENCHMARK.md, "Write").
 
-#[inline(always)]
 pub fn write(
     c: Control,
     object: u32,
@@ -301,15 +295,12 @@ pub fn write(
     let list = &sinks[..];
     let mut d = c;
     let room = others(list, sets);
-    let refusal = match attempt(c, object, slot, word, records, slots, room, 0) {
-        Tried::Stored => 0,
-        Tried::Elsewhere => {
-            refusal_of(store_member(&mut d, object, slot, word, records, slots, list, sets))
-        }
-        Tried::Refused(e) => u32::from(e),
-    };
+    let mut k = attempt(c, object, slot, word, records, slots, room, 0);
+    if k == ELSEWHERE {
+        k = refusal_of(store_member(&mut d, object, slot, word, records, slots, list, sets));
+    }
     Done {
-        refusal: refusal,
+        refusal: k,
         control: d,
     }
 }

@@ -1,13 +1,9 @@
 -- `form` meets its contract. Assumes nothing.
-use mathlib.Core.Path.{◌∙◌}
 use mathlib.Core.List.{[]}
 use native.Mathlib.Omega.{arith}
 use Rattle.analyse.proofs.PartLaws.{links-filled}
 use Rattle.analyse.proofs.StartLaws.{prepared}
 use Rattle.analyse.proofs.form.form.Goals as goal
-
-pub slice_bounds-link-end : goal.slice_bounds-link-end
-slice_bounds-link-end c = omega (arith, c.requires.0.sized.work-long)
 
 pub put_states-requires : goal.put_states-requires
 put_states-requires c =
@@ -21,12 +17,6 @@ from_roots-requires c =
     let z = s.0.sized in
     let l = links-filled _ _ _ _ z.room.most z.room.recs-long z.work-long c.link.auto.work c.link.ensures in
     ((prepared _ _ _ _ _ _ _ _ _ _ s.0 l c.put_states.ensures).walked.walking, s.1, s.0.fit)
-
-pub shape_of-work : goal.shape_of-work
-shape_of-work c =
-    let z = c.requires.0.sized in
-    let l = links-filled _ _ _ _ z.room.most z.room.recs-long z.work-long c.link.auto.work c.link.ensures in
-    c.from_roots.auto.work ∙ c.put_states.ensures.long ∙ l.long
 
 pub returns : goal.returns
 returns c =

@@ -13,9 +13,6 @@ pub loop-x-preserved : goal.loop-x-preserved
 loop-x-preserved c =
     fill-turn _ _ _ _ _ _ _ _ c.loop-x.invariant (omega arith) (omega (arith, c.loop-x-test.true)) (omega (arith, c.requires.1)) refl (c.cluster_of.ensures ∙ ap cluster c.record_at.ensures)
 
-pub shape_of-work : goal.shape_of-work
-shape_of-work c = c.loop-x.invariant.long
-
 pub returns : goal.returns
 returns c =
     let e : c.loop-x.x - 1 ≡ c.args.n = omega (arith, c.loop-x-test.false, c.loop-x.auto.x-end (omega arith)) in

@@ -17,9 +17,6 @@ loop-x-preserved c =
     let g = c.loop-x.invariant in
     fill-turn _ _ _ _ _ _ _ _ g (omega arith) (omega (arith, c.loop-x-test.true)) (omega (arith, c.requires.sized.work-long)) refl (c.left.ensures ∙ left-same _ _ _ _ _ _ _ g _ _)
 
-pub shape_of-work : goal.shape_of-work
-shape_of-work c = c.loop-x.invariant.long
-
 pub returns : goal.returns
 returns c =
     let e : c.loop-x.x - 1 ≡ c.args.n = omega (arith, c.loop-x-test.false, c.loop-x.auto.x-end (omega arith)) in

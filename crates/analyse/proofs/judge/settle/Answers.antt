@@ -14,15 +14,6 @@ loop-x-init c = settle-start _ _ _ _
 pub overflow_add-loss : goal.overflow_add-loss
 overflow_add-loss c = record { fits = settle-fits _ _ _ _ _ _ _ _ _ c.loop-x.invariant c.requires.2 _ c.loss_of-loss.ensures.1 }
 
-pub shape_of-records : goal.shape_of-records
-shape_of-records c = c.loop-x.invariant.left.2
-
-pub bounds-records-x : goal.bounds-records-x
-bounds-records-x c = omega (arith, c.loop-x.invariant.left.2, c.requires.0, c.loop-x-test.true)
-
-pub bounds-records-x-in-loop-x : goal.bounds-records-x-in-loop-x
-bounds-records-x-in-loop-x c = omega (arith, c.loop-x.invariant.left.2, c.requires.0, c.loop-x-test.true)
-
 pub loss_of-loss-requires : goal.loss_of-loss-requires
 loss_of-loss-requires c = let s = c.requires in (s.2, s.1, omega arith, omega (arith, c.loop-x-test.true), s.3 _)
 

@@ -1,6 +1,6 @@
 -- `tally` meets its contract. Assumes nothing.
 use Prim.Native.Nat.{◌-◌, ◌≤◌}
-use mathlib.Core.Path.{◌≡◌, ◌∙◌}
+use mathlib.Core.Path.{◌≡◌}
 use Rattle.analyse.proofs.JudgeLaws.{judging-cleared, tally-start, tally-end, own-there, count-asks, count-skip, count-there, count_fits, count_turn}
 use Rattle.analyse.proofs.PartLaws.{zeros-filled}
 use native.Mathlib.Omega.{arith}
@@ -37,9 +37,6 @@ loop-x-preserved c =
       | then-c-ne0 w ↦ rw w.work-is (count_turn _ _ _ _ _ _ l.invariant low high w.if-c-ne0.true _ w.outs.ensures.0 w.outs.ensures.1)
       | else-c-ne0 w ↦ rw w.work-is (count-skip _ _ _ _ _ _ l.invariant low high w.if-c-ne0.false)
     ]
-
-pub shape_of-work : goal.shape_of-work
-shape_of-work c = c.loop-x.invariant.counted.long ∙ (zeros-filled _ _ _ (omega (arith, c.requires.sized.work-long)) c.zero.ensures).long
 
 pub returns : goal.returns
 returns c =

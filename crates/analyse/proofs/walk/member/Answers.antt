@@ -8,9 +8,6 @@ use Rattle.analyse.proofs.SlotLaws.{resized}
 use Rattle.analyse.proofs.OlderLaws.{member-room, member-out, member-plain}
 use Rattle.analyse.proofs.walk.member.Goals as goal
 
-pub bounds-work-i : goal.bounds-work-i
-bounds-work-i c = omega (arith, c.requires.sized.work-long, c.requires.le_x.0, c.requires.le_x.1)
-
 pub record_at-requires : goal.record_at-requires
 record_at-requires c = (c.requires.le_x.0, c.requires.le_x.1, c.requires.sized.room.recs-long)
 
@@ -20,11 +17,6 @@ push_kids-requires c =
       sized = resized c.requires.sized (length-set c.args.work.now (9 * c.args.heap.n + c.args.x) (c.args.d + 4096));
       le_x = (c.requires.le_x.0, c.requires.le_x.1, omega arith, c.requires.le_x.3, member-room _ _ _ _ c.requires.sized _ c.requires.le_x.0 c.requires.le_x.1 c.args.d _ _ (c.is_out.ensures ∙ ap is_out c.record_at.ensures) c.if-is_out.true c.requires.le_x.4);
     }
-
-pub shape_of-work-then-is_out : goal.shape_of-work-then-is_out
-shape_of-work-then-is_out c =
-    let a = c.args in
-    c.push_kids.auto.work ∙ length-set a.work.now (9 * a.heap.n + a.x) (a.d + 4096)
 
 pub returns-then-is_out : goal.returns-then-is_out
 returns-then-is_out c =

@@ -32,9 +32,6 @@ pub loop-x-preserved : goal.loop-x-preserved
 loop-x-preserved c =
     older-again _ _ _ _ _ _ c.requires.le_d.0 c.requires.sized c.requires.chained _ _ _ c.loop-x.invariant c.loop-x-test.true _ _ c.member-at.auto.work c.member-at.ensures.0 c.member-at.ensures.1 _ _ c.word_of-in-loop-x.ensures c.next_member-x.ensures
 
-pub shape_of-work : goal.shape_of-work
-shape_of-work c = c.loop-x.invariant.0.long
-
 pub returns : goal.returns
 returns c =
     older-end _ _ _ _ _ _ c.requires.le_d.0 c.requires.sized c.requires.chained _ _ _ c.loop-x.invariant c.loop-x-test.false

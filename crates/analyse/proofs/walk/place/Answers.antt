@@ -20,9 +20,6 @@ count-requires c =
 pub overflow_add-work : goal.overflow_add-work
 overflow_add-work c = record { fits = omega (arith, c.requires.sized.room.most, place-fits _ _ _ _ _ _ c.requires.le_o.1 _ c.record_at.ensures _ c.choose-e.ensures c.requires.le_o.2) }
 
-pub bounds-work-i : goal.bounds-work-i
-bounds-work-i c = omega (arith, c.requires.sized.work-long, c.requires.le_o.0, c.requires.le_o.1, c.count.auto.work)
-
 pub push_kids-requires : goal.push_kids-requires
 push_kids-requires c =
     let a = c.args in
@@ -30,11 +27,6 @@ push_kids-requires c =
       sized = resized c.requires.sized (length-set c.count.new.work (9 * a.heap.n + a.o) (c.choose-e.result + 4096) ∙ c.count.auto.work);
       le_x = (c.requires.le_o.0, c.requires.le_o.1, place-fits _ _ _ _ _ _ c.requires.le_o.1 _ c.record_at.ensures _ c.choose-e.ensures c.requires.le_o.2, c.requires.le_o.3, c.requires.le_o.4);
     }
-
-pub shape_of-work : goal.shape_of-work
-shape_of-work c =
-    let a = c.args in
-    c.push_kids.auto.work ∙ length-set c.count.new.work (9 * a.heap.n + a.o) (c.choose-e.result + 4096) ∙ c.count.auto.work
 
 pub returns : goal.returns
 returns c =

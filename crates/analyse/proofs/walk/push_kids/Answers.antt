@@ -19,9 +19,6 @@ bounds-heap-from c =
     let r = slots-there _ c.args.c _ _ _ c.requires.sized _ c.requires.le_x.0 c.requires.le_x.1 _ c.requires.le_x.4 _ (c.width_of-w.ensures ∙ ap width c.record_at.ensures) in
     omega (arith, r, c.loop-j.invariant.most)
 
-pub overflow_mul-work : goal.overflow_mul-work
-overflow_mul-work c = omega (arith, c.requires.sized.room.most, c.requires.le_x.2)
-
 pub overflow_add-work : goal.overflow_add-work
 overflow_add-work c =
     record { fits = omega (arith, c.requires.sized.room.most, c.requires.le_x.2, target_fits _ _ _ c.target_of.ensures) }
@@ -31,9 +28,6 @@ bounds-work-at c = spot-there _ _ _ _ _ c.requires.sized _ c.requires.le_x.0 c.r
 
 pub loop-j-preserved : goal.loop-j-preserved
 loop-j-preserved c = pushing-turn _ _ _ _ _ c.requires.sized _ c.requires.le_x.0 c.requires.le_x.1 _ c.requires.le_x.4 _ (c.width_of-w.ensures ∙ ap width c.record_at.ensures) _ _ _ _ c.requires.le_x.3 c.loop-j.invariant c.loop-j-test.true c.target_of.ensures
-
-pub shape_of-work : goal.shape_of-work
-shape_of-work c = c.loop-j.invariant.long
 
 pub returns : goal.returns
 returns c = pushing-end _ _ _ _ _ c.requires.sized _ c.requires.le_x.0 c.requires.le_x.1 _ c.requires.le_x.4 _ (c.width_of-w.ensures ∙ ap width c.record_at.ensures) _ _ _ c.loop-j.invariant c.loop-j-test.false

@@ -1,6 +1,5 @@
 -- `start` meets its contract. Assumes nothing.
 use mathlib.Core.Path.{refl, ◌∙◌}
-use native.Mathlib.Omega.{arith}
 use Rattle.analyse.proofs.WalkLaws.{start-visit, walk_end}
 use Rattle.analyse.proofs.StartLaws.{on_one}
 use Rattle.analyse.proofs.walk.start.Goals as goal
@@ -21,9 +20,6 @@ pub loop-top-preserved : goal.loop-top-preserved
 loop-top-preserved c =
     let g = c.loop-top.invariant in
     (c.next-top.ensures.walking, c.next-top.ensures.same ∙ g.1, c.next-top.auto.work ∙ g.2)
-
-pub shape_of-work : goal.shape_of-work
-shape_of-work c = c.loop-top.invariant.2 ∙ c.visit-top.auto.work
 
 pub returns : goal.returns
 returns c =

@@ -34,9 +34,6 @@ pub loop-j-preserved : goal.loop-j-preserved
 loop-j-preserved c =
     pushing-passed _ _ _ _ _ _ c.requires _ _ _ c.loop-j.invariant c.loop-j-test.true _ refl (sym c.within.ensures ∙ c.if-within.false)
 
-pub shape_of-work : goal.shape_of-work
-shape_of-work c = c.loop-j.invariant.work-length
-
 pub returns : goal.returns
 returns c =
     pushing-done _ _ _ _ _ _ c.requires _ _ _ c.loop-j.invariant c.loop-j-test.false

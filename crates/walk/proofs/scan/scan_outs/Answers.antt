@@ -40,12 +40,6 @@ loop-x-preserved c =
     sweeping-on _ _ _ _ _ _ c.requires.state c.requires.linked c.requires.obj _ _ _ _ l.invariant (omega arith) _ _ _ _ c.scan_unmarked-at.ensures
     (c.next_member-x.ensures ∙ ap (λ (y : ℕ). y % 4096) c.link_of-in-loop-x.ensures) c.scan_unmarked-at.auto.records c.scan_unmarked-at.auto.work
 
-pub shape_of-records : goal.shape_of-records
-shape_of-records c = c.loop-x.invariant.recs-length
-
-pub shape_of-work : goal.shape_of-work
-shape_of-work c = c.loop-x.invariant.work-length
-
 pub returns : goal.returns
 returns c =
     sweeping-done _ _ _ _ _ _ c.requires.state c.requires.linked c.requires.obj _ _ _ _ c.loop-x.invariant c.loop-x-test.false

@@ -42,11 +42,5 @@ loop-rest-preserved c =
     scanning-on _ _ _ _ _ _ _ _ _ _ l.rest l.invariant c.loop-rest-test.true _ c.lowest_bit-k.ensures c.requires.state.sized.room.recs-long _ _ _ _
     c.scan_unmarked-at.ensures c.without_lowest-rest.ensures c.scan_unmarked-at.auto.records c.scan_unmarked-at.auto.work
 
-pub shape_of-records : goal.shape_of-records
-shape_of-records c = c.loop-rest.invariant.recs-length
-
-pub shape_of-work : goal.shape_of-work
-shape_of-work c = c.loop-rest.invariant.work-length
-
 pub returns : goal.returns
 returns c = scanning-done _ _ _ _ _ _ _ _ _ _ _ c.loop-rest.invariant c.loop-rest-test.false

@@ -3,19 +3,9 @@ use Rattle.walk.proofs.EndLaws.{draining-here, next-object, ready-pop, draining-
 use native.Mathlib.Omega.{arith}
 use Rattle.walk.proofs.trace.drain.Goals as goal
 
-pub overflow_mul-end : goal.overflow_mul-end
-overflow_mul-end c =
-    omega (arith, c.requires.state.sized)
-
 pub loop-at-init : goal.loop-at-init
 loop-at-init c =
     draining-here _ _ _ _ _ _ c.requires
-
-pub offset_bounds-work-at : goal.offset_bounds-work-at
-offset_bounds-work-at c = omega (arith, c.loop-at.invariant.ready.state.sized)
-
-pub bounds-work-at : goal.bounds-work-at
-bounds-work-at c = omega (arith, c.loop-at.invariant.ready.state.sized)
 
 pub overflow_add-at : goal.overflow_add-at
 overflow_add-at c =
@@ -45,12 +35,6 @@ loop-at-preserved c =
     let l = c.loop-at in
     let test = c.loop-at-test in
     draining-on _ _ _ _ _ _ _ _ _ l.invariant test.true _ _ _ c.visit_pending-at.ensures c.visit_pending-at.auto.records c.visit_pending-at.auto.work
-
-pub shape_of-records : goal.shape_of-records
-shape_of-records c = c.loop-at.invariant.recs-length
-
-pub shape_of-work : goal.shape_of-work
-shape_of-work c = c.loop-at.invariant.work-length
 
 pub returns : goal.returns
 returns c = drained _ _ _ _ _ _ _ _ _ c.loop-at.invariant c.loop-at-test.false

@@ -37,11 +37,5 @@ loop-x-preserved c =
     retaking-on _ _ _ _ _ _ _ _ c.loop-x.invariant (omega (arith, c.loop-x-test.true)) _ _ _ (c.take_up-top.ensures.moved a.heap.sinks.now a.heap.sets.now) _ _ c.drain.ensures _ (λ i. (known i).fits) c.lowest-x-in-loop-x.ensures
     (c.drain.auto.records ∙ c.take_up-top.auto.records) (c.drain.auto.work ∙ c.take_up-top.auto.work)
 
-pub shape_of-records : goal.shape_of-records
-shape_of-records c = c.loop-x.invariant.recs-length
-
-pub shape_of-work : goal.shape_of-work
-shape_of-work c = c.loop-x.invariant.work-length
-
 pub returns : goal.returns
 returns c = retaking-done _ _ _ _ _ _ _ _ c.loop-x.invariant c.loop-x-test.false

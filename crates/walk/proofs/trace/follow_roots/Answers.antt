@@ -1,5 +1,4 @@
 -- `follow_roots` meets its contract. The loop's invariant: the first i roots were followed.
-use mathlib.Core.Path.{refl, ◌∙◌}
 use lib.ListN.{take}
 use Rattle.graph.specs.Heap.{pointers}
 use Rattle.walk.specs.State.{way_of}
@@ -9,8 +8,7 @@ use Rattle.walk.proofs.trace.follow_roots.Goals as goal
 use Rattle.walk.proofs.trace.follow_roots.Goals.{then-w-ne0, else-w-ne0}
 
 pub loop-i-init : goal.loop-i-init
-loop-i-init c =
-    (roots-begin _ _ _ _ _ c.args.roots.now c.requires.ready, refl, refl)
+loop-i-init c = roots-begin _ _ _ _ _ c.args.roots.now c.requires.ready
 
 pub follow-requires : goal.follow-requires
 follow-requires c =
@@ -18,7 +16,7 @@ follow-requires c =
     let test = c.loop-i-test in
     let a = c.args in
     record {
-      ready = l.invariant.0.ready;
+      ready = l.invariant.ready;
       obj = root-object (way_of a.heap) a.heap.n a.heap.slots.now a.records.now a.roots.now a.r l.i test.true c.requires.r_in_bounds.0 c.requires.r_in_bounds.1 c.if-w-ne0.true;
     }
 
@@ -29,28 +27,16 @@ loop-i-preserved c =
     let b = c.requires.r_in_bounds in
     elim c.if-w-ne0.branch [
       | then-w-ne0 w ↦
-          rw (w.records-is, w.work-is) (
-            root-followed (way_of a.heap) a.heap.n a.heap.slots.now a.records.now a.roots.now a.r l.i c.loop-i-test.true b.0 b.1 w.if-w-ne0.true
-                l.records l.work _ _ l.invariant.0 w.follow.ensures,
-            w.follow.auto.records ∙ l.invariant.1,
-            w.follow.auto.work ∙ l.invariant.2,
-          )
+          rw (w.records-is, w.work-is)
+          (root-followed (way_of a.heap) a.heap.n a.heap.slots.now a.records.now a.roots.now a.r l.i c.loop-i-test.true b.0 b.1 w.if-w-ne0.true
+          l.records l.work _ _ l.invariant w.follow.ensures)
       | else-w-ne0 w ↦
-          rw (w.records-is, w.work-is) (
-            root-passed (way_of a.heap) a.heap.n a.heap.slots.now a.records.now a.roots.now a.r l.i c.loop-i-test.true b.0 b.1 w.if-w-ne0.false
-                l.records l.work l.invariant.0,
-            l.invariant.1,
-            l.invariant.2,
-          )
+          rw (w.records-is, w.work-is)
+          (root-passed (way_of a.heap) a.heap.n a.heap.slots.now a.records.now a.roots.now a.r l.i c.loop-i-test.true b.0 b.1 w.if-w-ne0.false
+          l.records l.work l.invariant)
     ]
-
-pub shape_of-records : goal.shape_of-records
-shape_of-records c = c.loop-i.invariant.1
-
-pub shape_of-work : goal.shape_of-work
-shape_of-work c = c.loop-i.invariant.2
 
 pub returns : goal.returns
 returns c =
     let l = c.loop-i in
-    followed-at _ _ _ _ (λ k. pointers (take k c.args.roots.now)) _ _ _ _ (omega arith) (omega arith) l.invariant.0
+    followed-at _ _ _ _ (λ k. pointers (take k c.args.roots.now)) _ _ _ _ (omega arith) (omega arith) l.invariant

@@ -12,10 +12,6 @@ unfolding flags_of
 returns-then-is_reached c =
     head_passed _ _ _ _ _ c.requires.ready.state _ c.requires.obj c.args.heap.sinks.now (sym (c.is_reached.ensures ∙ ap is_reached c.record_of.ensures) ∙ c.if-is_reached.true)
 
-pub bounds-heap-h : goal.bounds-heap-h
-bounds-heap-h c =
-    omega (arith, c.requires.ready.listing.heads, c.requires.obj)
-
 pub scan_sinks-at-requires : goal.scan_sinks-at-requires
 scan_sinks-at-requires c =
     let g = c.requires.ready.listing in

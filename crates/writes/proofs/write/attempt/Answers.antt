@@ -1,12 +1,10 @@
 -- `writes::write::attempt` meets its contract: one case for each of its ends. Assumes nothing.
-use mathlib.Core.Path.{refl}
 use native.Mathlib.Omega.{arith}
-use Rattle.writes.specs.Writes.{refuses}
-use Rattle.writes.proofs.WriteLaws.{slot-there, ends-elsewhere, ends-stored}
+use Rattle.writes.proofs.WriteLaws.{ends_refused, slot-there, ends-elsewhere, ends-stored}
 use Rattle.writes.proofs.write.attempt.Goals as goal
 
 pub returns-in-Err : goal.returns-in-Err
-returns-in-Err c = refuses c.in-Err.e refl c.in-Err.ensures refl refl
+returns-in-Err c = ends_refused _ _ _ _ _ _ _ _ _ c.in-Err.ensures _ c.from.ensures
 
 pub overflow_sub-object : goal.overflow_sub-object
 overflow_sub-object c = (slot-there _ _ _ _ _ _ _ c.in_default.ensures).low

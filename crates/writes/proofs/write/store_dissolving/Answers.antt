@@ -1,5 +1,4 @@
 -- `writes::write::store_dissolving` meets its contract. Assumes nothing.
-use mathlib.Core.Path.{refl}
 use Rattle.writes.proofs.WriteLaws.{slot-there, stored-in, gone, set-gone}
 use Rattle.writes.proofs.write.store_dissolving.Goals as goal
 

@@ -1,6 +1,5 @@
 -- `writes::write::store_member` meets its contract: one case for each of its ends. Assumes nothing.
 use mathlib.Core.Path.{refl}
-use native.Mathlib.Omega.{arith}
 use Rattle.layout.specs.ControlRecord.{with_write_loss}
 use Rattle.writes.proofs.WriteLaws.{slot-there, losses, ends-kept, ends-broken, ends-full}
 use Rattle.writes.proofs.write.store_member.Goals as goal
