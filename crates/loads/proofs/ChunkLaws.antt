@@ -7,7 +7,7 @@ use mathlib.Core.List.{List, [], ◌∷◌}
 use mathlib.Core.Logic.{◌≢◌}
 use native.Mathlib.Decide.{ℕ_discrete}
 use native.Mathlib.Omega.{arith}
-use borrow.Author.Tests.{le-leb, lt-leb, lt-ltb, le-ltb, eq-eqb, ne_eqb, eqb-true, leb-false, not-false}
+use borrow.Author.Tests.{lt-ltb, le-ltb, ne_eqb, eqb-true, leb-false, not-false}
 use lib.Dec.{eqb, ltb}
 use lib.ListN.{length, take, drop, length-drop}
 use lib.Seq.{drop-drop}
@@ -24,31 +24,6 @@ use Rattle.rules.proofs.ImageLaws.{past-suc}
 use Rattle.rules.proofs.AcceptedLaws.{fronted}
 use Rattle.loads.specs.Chunks.{kind_refusal, front_refusal, chunk_refusal, refusal_from, Chunk}
 use Rattle.loads.proofs.PlaceLaws.{number-drop, number-here}
-
--- ---- the kind
-
-module _ (t k : ℕ) where
-  pub kind-here : within 1 3 k ≡ true → k - 1 ≡ t → 0 ≡ kind_refusal t k
-  unfolding kind_refusal misplaced known passed
-  kind-here e p =
-      let b = within-true 1 3 k e in
-      sym (rw (e, eq-eqb k (suc t) (omega arith), lt-leb 0x8000 k (omega arith)) refl)
-
-  pub kind-late : within 1 3 k ≡ true → k - 1 ≢ t → 27 ≡ kind_refusal t k
-  unfolding kind_refusal misplaced known passed
-  kind-late e p = sym (rw (e, ne_eqb k (suc t) (λ q. p (omega arith))) refl)
-
-  pub kind-unknown : within 1 3 k ≡ false → k < 0x8000 → 28 ≡ kind_refusal t k
-  unfolding kind_refusal misplaced known passed
-  kind-unknown e p = sym (rw (e, lt-leb 0x8000 k p) refl)
-
-  pub kind-early : within 1 3 k ≡ false → 0x8000 ≤ k → t < 3 → 27 ≡ kind_refusal t k
-  unfolding kind_refusal misplaced known passed
-  kind-early e p l = sym (rw (e, le-leb 0x8000 k p, lt-ltb t 3 l) refl)
-
-  pub kind-passed : within 1 3 k ≡ false → 0x8000 ≤ k → 3 ≤ t → 0 ≡ kind_refusal t k
-  unfolding kind_refusal misplaced known passed
-  kind-passed e p l = sym (rw (e, le-leb 0x8000 k p, le-ltb t 3 l) refl)
 
 -- ---- the front
 
