@@ -12,8 +12,7 @@ use lib.ListN.{length, get_or, set, take, drop, replicate, length-append, length
 use lib.Seq.{take_at, take_all, set_at, drop-append-add, drop-drop, length-take-le, take-suc-set, sets, sets-eq, set_out}
 use borrow.Rule.Slice.PartMut.{put_mid}
 use denote.Ref.{Bor}
-use Rattle.std.specs.Prelude.{Option, Some, None}
-use Rattle.std.specs.Option.{unwrap_or}
+use Rattle.std.specs.Prelude.{Some, None}
 use Rattle.std.specs.Slice.{IsGetRangeResult}
 use Rattle.std.proofs.lemmas.List.{take_more}
 use Rattle.endian.specs.Bytes.{Octets, bytes, number, number_at, bytes_of}
@@ -109,12 +108,14 @@ module _ (k i : ℕ) (l : List ℕ) (h : Octets l) (p : i + k ≤ length l) wher
 -- ---- reading
 
 -- what is left from place i on
-pub rest-is : (r : Option (Bor (List ℕ))) (e : Bor (List ℕ)) (l : List ℕ) (i : ℕ) → e.now ≡ [] → IsGetRangeResult l i (length l) r → (unwrap_or r e).now ≡ drop i l
-rest-is None e l i h p = h ∙ sym (drop_of_length-le l (past p.0))
+pub rest-some : (x : Bor (List ℕ)) (l : List ℕ) (i : ℕ) → IsGetRangeResult l i (length l) (Some x) → x.now ≡ drop i l
+rest-some x l i p = p.0.2 ∙ take_all (length l - i) (drop i l) (omega (arith, length-drop i l))
+
+pub rest-none : (l : List ℕ) (i : ℕ) → IsGetRangeResult l i (length l) None → drop i l ≡ []
+rest-none l i p = drop_of_length-le l (past p.0)
   where
     past : (length l < i) ⊎ (length l < length l) → length l ≤ i
     past q = omega (arith, q)
-rest-is (Some x) e l i h p = p.0.2 ∙ take_all (length l - i) (drop i l) (omega (arith, length-drop i l))
 
 -- zeros behind the highest byte change nothing
 pub number-pad : (l : List ℕ) (k : ℕ) → number (l ++ replicate k 0) ≡ number l

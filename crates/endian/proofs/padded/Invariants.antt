@@ -1,9 +1,9 @@
--- `endian::bytes_at` reads bytes, 0 for those past the end. Invariant: the bytes so far, and zeros. Assumes nothing.
+-- `endian::padded` puts zeros behind bytes. Invariant: the bytes so far, and zeros. Assumes nothing.
 use mathlib.Core.Path.{◌≡◌}
 use mathlib.Core.List.{◌++◌}
 use Prim.Native.Nat.{◌-◌}
 use lib.ListN.{take, replicate}
-use Rattle.endian.proofs.bytes_at.Given as goal
+use Rattle.endian.proofs.padded.Given as goal
 
 abbrev pub invariant-loop-k : goal.invariant-loop-k
 invariant-loop-k g l = l.all ≡ take l.k l.rest ++ replicate (g.row.K - l.k) 0
