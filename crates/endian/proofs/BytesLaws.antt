@@ -1,18 +1,19 @@
 -- Numbers written as bytes and read again, and bytes read as numbers and written again.
 -- Assumes nothing.
-use Prim.Native.Nat.{ℕ, zero, suc, ◌+◌, ◌-◌, ◌*◌, ◌/◌, ◌%◌, ◌^◌, ◌≤◌, ◌<◌}
+use Prim.Native.Nat.{ℕ, zero, suc, ◌+◌, ◌-◌, ◌*◌, ◌/◌, ◌%◌, ◌^◌, ◌≤◌, ◌<◌, min}
 use mathlib.Core.Path.{◌≡◌, refl, sym, ap, ap₂, subst, ◌∙◌}
 use mathlib.Core.List.Memᴰ
 use mathlib.Core.List.{List, [], ◌∷◌, ◌++◌, append_assoc, append-nil, Memᴰ}
 use mathlib.Core.Logic.{◌⊎◌}
 use native.Mathlib.Nat.{pow-succ'}
-use native.Mathlib.Decide.{dec_lt}
+use native.Mathlib.Decide.{dec_lt, dec_le}
 use native.Mathlib.Omega.{arith}
 use lib.ListN.{length, get_or, set, take, drop, replicate, length-append, length-drop, length-set, take-append-drop, drop_of_length-le}
 use lib.Seq.{take_at, take_all, set_at, drop-append-add, drop-drop, length-take-le, take-suc-set, sets, sets-eq, set_out}
 use borrow.Rule.Slice.PartMut.{put_mid}
 use denote.Ref.{Bor}
-use Rattle.std.specs.Prelude.{Some, None}
+use Rattle.std.specs.Prelude.{Option, Some, None}
+use Rattle.std.specs.Option.{unwrap_or}
 use Rattle.std.specs.Slice.{IsGetRangeResult}
 use Rattle.std.proofs.lemmas.List.{take_more}
 use Rattle.endian.specs.Bytes.{Octets, bytes, number, number_at, bytes_of}
@@ -108,14 +109,20 @@ module _ (k i : ℕ) (l : List ℕ) (h : Octets l) (p : i + k ≤ length l) wher
 -- ---- reading
 
 -- what is left from place i on
-pub rest-some : (x : Bor (List ℕ)) (l : List ℕ) (i : ℕ) → IsGetRangeResult l i (length l) (Some x) → x.now ≡ drop i l
-rest-some x l i p = p.0.2 ∙ take_all (length l - i) (drop i l) (omega (arith, length-drop i l))
-
-pub rest-none : (l : List ℕ) (i : ℕ) → IsGetRangeResult l i (length l) None → drop i l ≡ []
-rest-none l i p = drop_of_length-le l (past p.0)
+pub rest-is : (r : Option (Bor (List ℕ))) (e : Bor (List ℕ)) (l : List ℕ) (i : ℕ) → e.now ≡ [] → IsGetRangeResult l i (length l) r → (unwrap_or r e).now ≡ drop i l
+rest-is None e l i h p = h ∙ sym (drop_of_length-le l (past p.0))
   where
     past : (length l < i) ⊎ (length l < length l) → length l ≤ i
     past q = omega (arith, q)
+rest-is (Some x) e l i h p = p.0.2 ∙ take_all (length l - i) (drop i l) (omega (arith, length-drop i l))
+
+-- no byte is behind the K-th
+pub take-least : (K : ℕ) (l : List ℕ) → take (min (length l) K) l ≡ take K l
+take-least K l = go (dec_le (length l) K)
+  where
+    go : Dec (length l ≤ K) → take (min (length l) K) l ≡ take K l
+    go (yes p) = take_all (min (length l) K) l (omega (arith, p)) ∙ sym (take_all K l p)
+    go (no p) = let e : min (length l) K ≡ K = omega (arith, p) in ap (λ m. take m l) e
 
 -- zeros behind the highest byte change nothing
 pub number-pad : (l : List ℕ) (k : ℕ) → number (l ++ replicate k 0) ≡ number l

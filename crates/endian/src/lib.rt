@@ -1,7 +1,7 @@
 // Numbers as bytes, the lowest first. Past the end a byte reads as 0, and a store does nothing.
 #![tactic(auto)]
 
-ghost use Rattle.std.specs.Prelude.{◌≡◌, ◌<◌, length, get_or};
+ghost use Rattle.std.specs.Prelude.{◌≡◌, get_or};
 ghost use Rattle.std.proofs.lemmas.List.Edits.{sets};
 ghost use Rattle.endian.specs.Bytes.{bytes, number, number_at};
 
@@ -14,32 +14,27 @@ pub fn byte_at(b: &[u8], i: usize) -> u32
     u32::from(b.get(i).copied().unwrap_or(0))
 }
 
-// Fewer bytes than K, with zeros behind. A function of its own: so the reading of bytes that are all there stays short, and is put into
-// the loops that read (docs/DECISIONS.md, "Time").
+// The K bytes from place i on, 0 for those past the end.
 #[inline(never)]
-fn padded<const K: usize>(rest: &[u8]) -> [u8; K]
-    requires { length rest.now < K }
-    ensures { number result ≡ number rest.now }
+fn near_end<const K: usize>(b: &[u8], i: usize) -> [u8; K]
+    ensures { number result ≡ number_at K i b.now }
 {
+    let rest = b.get(i..).unwrap_or(&[]);
     let mut all = [0; K];
-    // Byte by byte: a part of `all` to copy into is lent only where K is known to be below 2^63.
-    for (k, byte) in rest.iter().enumerate() {
-        all[k] = *byte;
+    for k in 0..rest.len().min(K) {
+        all[k] = rest[k];
     }
     all
 }
 
-// The K bytes from place i on, 0 for those past the end.
+// The same. Where all are there, no test stands between them, so that they can be loaded as one; the other way is a function of its own,
+// so that this one is put into the loops that read (docs/DECISIONS.md, "Time").
 fn bytes_at<const K: usize>(b: &[u8], i: usize) -> [u8; K]
     ensures { number result ≡ number_at K i b.now }
 {
-    let Some(rest) = b.get(i..) else {
-        return [0; K];
-    };
-    // Where all are there, no test stands between them, so that they can be loaded as one.
-    match rest.first_chunk() {
-        Some(all) => *all,
-        None => padded(rest),
+    match b.len().checked_sub(K) {
+        Some(last) if i <= last => *b[i..].first_chunk().unwrap(),
+        _ => near_end(b, i),
     }
 }
 
