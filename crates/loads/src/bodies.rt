@@ -6,9 +6,9 @@ ghost use Rattle.rules.specs.Buffers.{all_of, all_to};
 ghost use Rattle.rules.specs.Image.{sizes_ok, words_ok, sinks_ok};
 ghost use Rattle.loads.specs.Bodies.{shape_ok, objects_pass, Fit, Listed, Sunk, Empty, NoZero, take_bit, passes, words_at, four_pass, words_end, roots_pass};
 
-use crate::words::{head_byte, word_at};
+use crate::words::{head_byte, number_at, word_at};
 use bitmap::{has_bit, ones, put_bit};
-use endian::{byte_at, get2};
+use endian::get2;
 use layout::limits::{SINK_MAX, WIDTH_MAX};
 use layout::refusals::bad_sizes;
 
@@ -41,12 +41,12 @@ pub(crate) fn fits(n: u32, last: u32, body: &[u8], at: usize) -> bool
     if left < 4 {
         return false;
     }
-    let x = get2(body, at);
-    let width = byte_at(body, at + 2);
+    let x = number_at(body, at);
+    let width = head_byte(body, at, 2);
     last < x
         && x <= n
         && width <= WIDTH_MAX
-        && byte_at(body, at + 3) <= 1
+        && head_byte(body, at, 3) <= 1
         && width as usize <= (left - 4) / 4
 }
 
@@ -64,10 +64,10 @@ pub(crate) fn shape(n: u32, body: &[u8], words: &mut [u64], sinks: &mut [u64]) -
         if !fits(n, last, body, at) {
             return false;
         }
-        last = get2(body, at);
+        last = number_at(body, at);
         put_bit(words, last as usize);
-        put_sink(sinks, last, byte_at(body, at + 3));
-        at += 4 + 4 * byte_at(body, at + 2) as usize;
+        put_sink(sinks, last, head_byte(body, at, 3));
+        at += 4 + 4 * head_byte(body, at, 2) as usize;
     }
     true
 }

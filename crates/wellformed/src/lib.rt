@@ -123,11 +123,19 @@ fn formed_ok(n: u32, r: u32, records: &[u32], slots: &[u32], roots: &[u32]) -> b
 pub fn well_formed(c: Control, heap: &Buffers) -> bool
     ensures { result ≡ checked c heap.now.records.now heap.now.slots.now heap.now.roots.now heap.now.sinks.now heap.now.sets.now }
 {
+    // Taken out of the struct once: so the compiler knows in the loops what the test of the lengths has found.
+    let Buffers {
+        records,
+        slots,
+        roots,
+        sinks,
+        sets,
+    } = *heap;
     c.n <= OBJECT_MAX
         && !short_heap(c.n, c.r, heap)
-        && formed_ok(c.n, c.r, heap.records, heap.slots, heap.roots)
-        && list_ok(c.n, heap.records, heap.sinks)
-        && sets_ok(c.n, heap.records, heap.slots, heap.sinks, heap.sets)
+        && formed_ok(c.n, c.r, records, slots, roots)
+        && list_ok(c.n, records, sinks)
+        && sets_ok(c.n, records, slots, sinks, sets)
 }
 
 // The first test of a call that walks the whole heap that holds refuses; `rest` says that a slice besides is too short.

@@ -19,7 +19,7 @@ returns-then-not-fits c = record {
 
 pub loop-at-preserved : goal.loop-at-preserved
 loop-at-preserved c =
-    rw (c.put_bit.ensures, c.put_sink.ensures, c.get2-last.ensures, c.byte_at.ensures, c.byte_at-in-loop-at.ensures)
+    rw (c.put_bit.ensures, c.put_sink.ensures, c.number_at-last.ensures, c.head_byte.ensures, c.head_byte-in-loop-at.ensures)
     (shaping-turn _ _ _ _ _ _ c.loop-at.invariant c.requires.0 (c.fits.ensures.0 c.if-not-fits.false))
 
 pub returns : goal.returns
