@@ -11,11 +11,11 @@ ghost use Rattle.analyse.specs.Filling.{Filling};
 ghost use Rattle.analyse.specs.Judge.{walk_clusters, outs_at, Tallying, left_word, loss_at, Judgeable, Settled};
 
 use crate::memory::{record_at, word_of};
-use crate::walk::target_of;
 use choices::{loss, settled_record, stays};
 use layout::answers::Tuning;
 use records::{cluster_of, is_sink, width_of};
 use table::buffers::zero;
+use table::clusters::target_of;
 
 // The out loss, and the clusters formed and left, with their members.
 #[derive(Clone, Copy)]

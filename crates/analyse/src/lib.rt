@@ -28,7 +28,8 @@ use table::buffers::zero;
 use table::room::Buffers;
 use wellformed::heap_refusal;
 
-// The clusters are formed, and those that do not stay dissolved, with work words of just the length that this takes.
+// The clusters are formed, and those that do not stay dissolved, with work words of just the length that this takes. The steps take
+// different ones of these arguments, so that a struct of them would be taken apart at each.
 fn form_and_judge(
     n: u32,
     r: u32,
@@ -58,7 +59,7 @@ fn form_and_judge(
     settle(n, t, records, work)
 }
 
-// Analyses the heap.
+// Analyses the heap. The slices are handed over one by one, as C lends them.
 pub fn analyse(
     c: Control,
     records: &mut [u32],

@@ -1,4 +1,5 @@
-// One word for each object x: its record, and word base + x of the work words.
+// One word for each object x: its record, and word base + x of the work words. What is asked of x, n and the lengths is about two of them at
+// a time, and so a requirement, and no type's.
 ghost use Rattle.std.specs.Prelude.{◌≡◌, ◌+◌, ◌≤◌, ◌<◌, length};
 ghost use Rattle.rules.specs.Buffers.{rec_of};
 ghost use Rattle.analyse.specs.Memory.{area};

@@ -15,16 +15,10 @@ use crate::memory::{record_at, word_of};
 use bitmap::lowest_bit;
 use links::{next_member, top_member};
 use records::{is_out, width_of};
+use table::clusters::target_of;
 
 // A word from this on is a marker.
 const MARK: u32 = 16777216;
-
-// The object that the word w points at, 0 where it is no pointer.
-pub(crate) fn target_of(n: u32, w: u32) -> u32
-    ensures { result ≡ target n w }
-{
-    if w <= n { w } else { 0 }
-}
 
 // Puts visits to what object x points at, each with the cluster c, in front of the others.
 fn push_kids(heap: Heap, work: &mut [u32], x: u32, c: u32, top: usize) -> usize
@@ -73,7 +67,7 @@ fn older(heap: Heap, work: &mut [u32], d: u32, top: usize) -> usize
     at
 }
 
-// The cluster that object o, with the record r and in no cluster, gets when c is passed to it; 0 for none.
+// The cluster that object o, with the record r and in no cluster, gets when c is passed to it; 0 for none, as in its record.
 fn choose(n: u32, limit: u32, work: &[u32], r: u32, o: u32, c: u32) -> u32
     requires { (9 * n < length work.now) × (c ≤ n) × (n ≤ 4095) }
     ensures { result ≡ goes_to limit r (area n (8 * n) work.now) o c }

@@ -159,7 +159,7 @@ pub fn as_run(call: Option<Call>, plain: bool) -> Option<Call>
 }
 
 // Runs the call of a line; a line that makes none does nothing. `saved` is the length of the last image, which is at the front of its bytes; 0
-// before any save.
+// before any save. The buffers go one by one: of a struct of lent ones this would have to promise that it still holds the same.
 #[tactic(auto, unfolding(crate::specs::Run::run, crate::specs::Run::run_kind))]
 pub fn run(
     call: Option<Call>,

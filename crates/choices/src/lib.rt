@@ -37,7 +37,7 @@ pub fn next_limit(c: Control, used: u32) -> u32
 
 // ---- the cluster of an object
 
-// The cluster that object o, with the record r and in no cluster, gets when c, with `size` members, is passed to it; 0 for none.
+// The cluster that object o, with the record r and in no cluster, gets when c, with `size` members, is passed to it; 0 for none, as in its record.
 #[tactic(auto, unfolding(crate::specs::Choices::goes_by, crate::specs::Choices::joined))]
 pub fn choose(limit: u32, r: u32, size: u32, o: u32, c: u32) -> u32
     ensures { result ≡ goes_by limit r size o c }

@@ -1,4 +1,4 @@
-// Collections: a walk over the heap, plainly or by clusters, then the sweep. `by` tells whether clusters are walked.
+// Collections: a walk over the heap, plainly or by clusters, then the sweep. `by` tells whether clusters are walked, as `kind_of` takes it.
 #![tactic(auto)]
 
 ghost use Rattle.std.specs.Prelude.{◌≡◌, cond};
@@ -32,7 +32,8 @@ fn count_kept(by: bool, n: u32, scanned: u32, records: &[u32]) -> u32
 }
 
 // Frees every object in use that cannot be reached along pointers from a root; the map tells which. By clusters only objects
-// without a cluster, out members of reached clusters, and postponed members are scanned.
+// without a cluster, out members of reached clusters, and postponed members are scanned. The slices
+// are handed over one by one, as C lends them.
 pub fn collect(
     by: bool,
     c: Control,

@@ -1,7 +1,7 @@
 -- Tests that decide as their definitions do.
 -- Assumes nothing.
-use Prim.Native.Nat.{ℕ, suc, ◌+◌, ◌-◌, ◌≤◌, ◌<◌}
-use mathlib.Core.Path.{◌≡◌, refl, sym}
+use Prim.Native.Nat.{ℕ, zero, suc, ◌+◌, ◌-◌, ◌≤◌, ◌<◌}
+use mathlib.Core.Path.{◌≡◌, refl, sym, ap}
 use mathlib.Core.Bool.{Bool, true, false, cond, ◌&&◌, and-false}
 use mathlib.Core.List.{List}
 use native.Mathlib.Omega.{arith}
@@ -9,7 +9,7 @@ use native.Mathlib.Numerals.{add-one}
 use lib.Dec.{eqb, leb}
 use lib.ListN.{length, get_or, set, take, length-set, length-take}
 use Rattle.std.proofs.Common.{Some, None, nat_lt, ◌==◌}
-use Rattle.std.specs.List.{position_or_len}
+use Rattle.std.specs.List.{position_or_len, list_all, range_with_len}
 use lib.Seq.{set_out}
 use borrow.Author.Tests.{le-leb, lt-leb, ltb-true}
 use Rattle.bitmap.specs.Bits.{holds}
@@ -43,18 +43,11 @@ module _ (i n : ℕ) where
 
 -- ---- survivors
 
-module _ (p : ℕ → Bool) (i n : ℕ) where
-  pub every_step : i < n → p i ≡ true → every p (i + 1) (n - (i + 1)) ≡ every p i (n - i)
-  unfolding every
-  every_step h e = rw (more i n h, e, add-one i) refl
-
-  pub every_stop : i < n → p i ≡ false → false ≡ every p i (n - i)
-  unfolding every
-  every_stop h e = rw (more i n h, e) refl
-
-  pub every_end : n ≤ i → true ≡ every p i (n - i)
-  unfolding every
-  every_end h = rw (over i n h) refl
+-- the numbers of a range, asked one by one
+pub every-range : (p : ℕ → Bool) (k a : ℕ) → list_all p (range_with_len a k) ≡ every p a k
+unfolding every
+every-range p zero a = refl
+every-range p (suc k) a = ap (λ b. p a && b) (rw add-one (every-range p k (suc a)))
 
 -- ---- what changed hands
 
@@ -84,8 +77,6 @@ module _ (left : Bool) (map : List ℕ) (i : ℕ) (h : List ℕ) where
       go : (t : Bool) → length (cond t (set h (word_of left i) freed) h) ≡ length h
       go true = simp length-set
       go false = refl
-
-pub ruleset everies = (every_step, every_stop, every_end)
 
 pub ruleset keeps = (keep_step, keep_end, keep_length)
 

@@ -51,27 +51,15 @@ pub fn same_root(j: u32, x: &Survivors, y: &Survivors) -> bool
 }
 
 // Whether the first 4095 objects are the same.
-#[tactic(auto, using(crate::proofs::DecideLaws::everies))]
 pub fn same_objects(x: &Survivors, y: &Survivors) -> bool
     ensures { result ≡ same_objects x.now.records.now x.now.slots.now y.now.records.now y.now.slots.now 0 4095 }
 {
-    for i in 0..4095 {
-        if !same_object(i, x, y) {
-            return false;
-        }
-    }
-    true
+    (0..4095).all(|i| same_object(i, x, y))
 }
 
 // Whether the first 64 roots are the same.
-#[tactic(auto, using(crate::proofs::DecideLaws::everies))]
 pub fn same_roots(x: &Survivors, y: &Survivors) -> bool
     ensures { result ≡ same_roots x.now.root_count x.now.roots.now y.now.root_count y.now.roots.now 0 64 }
 {
-    for j in 0..64 {
-        if !same_root(j, x, y) {
-            return false;
-        }
-    }
-    true
+    (0..64).all(|j| same_root(j, x, y))
 }

@@ -29,6 +29,7 @@ fn create_refusal(n: u32, r: u32, t: Tuning, short: bool) -> Result<(), Refusal>
 }
 
 // n records, 8 n slots, r roots, the 64 places of sinks and n sets become 0; after a refusal nothing changes and the control record is all zeros.
+// The slices are handed over one by one, as C lends them.
 #[tactic(auto, using(crate::proofs::CreateLaws::refused))]
 pub fn create(
     n: u32,

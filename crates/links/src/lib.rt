@@ -1,4 +1,5 @@
-// The members of each cluster, or its out members alone, linked from the highest down: the walks go through a cluster by them.
+// The members of each cluster, or its out members alone, linked from the highest down: the walks go through a cluster by them. In a link word
+// as in a record 0 is for none, so 0 is answered too: an `Option` would be made of the number by one more test.
 #![tactic(auto)]
 
 ghost use Rattle.std.specs.Prelude.{◌≡◌, cond, ◌-◌, ◌/◌, ◌%◌, ◌≤◌, length, drop};
@@ -56,7 +57,7 @@ fn link_all(outs: bool, n: u32, records: &[u32], work: &mut [u32])
     }
 }
 
-// Writes the link words of n objects, `outs`: of the out members alone; nothing changes where n is above 4,095 or a slice is too short.
+// Writes the link words of n objects, of the out members alone where `outs` is true, as in `linked_at`; nothing changes where n is above 4,095 or a slice is too short.
 #[tactic(auto, unfolding(crate::specs::Links::linkable, rules::specs::Buffers::short))]
 pub fn link(outs: bool, n: u32, records: &[u32], work: &mut [u32])
     ensures { work.new ≡ cond (linkable n records.now work.old) (links n (linked_at outs n records.now) work.old) work.old }

@@ -1,4 +1,5 @@
-// The bodies of an image, tested. Nothing is stored but two sets, a bit for each number: the listed objects, and the sinks among them.
+// The bodies of an image, tested. Nothing is stored but two sets, a bit for each number: the listed objects, and the sinks among them. That n
+// is a size is asked of each function and held by no type, which would be taken off at each of the comparisons with numbers of the image.
 ghost use Rattle.std.specs.Prelude.{◌≡◌, ◌+◌, ◌*◌, ◌/◌, ◌<◌, ◌≤◌, true, cond, eqb, length};
 ghost use Rattle.layout.specs.Limits.{object_max};
 ghost use Rattle.bitmap.specs.Bits.{holds, put_bit};

@@ -151,7 +151,7 @@ pub(crate) fn lay_sinks(
     }
 }
 
-// The heap of an image that is not refused.
+// The heap of an image that is not refused. The slices go one by one, as in `load_image`.
 pub(crate) fn lay(
     n: u32,
     r: u32,

@@ -31,7 +31,8 @@ fn input_refusal(t: Tuning, image: &[u8]) -> Result<(), Refusal>
 }
 
 // A heap with no clusters from the bytes of an image. Every test comes before the first store: after a refusal nothing changes. The sizes
-// stand at fixed places of an image that is not refused.
+// stand at fixed places of an image that is not refused. Slices that are stored to go one by one: of a struct of them each function would
+// have to promise that it still holds the same slices.
 #[tactic(auto, using(crate::proofs::LoadLaws::loading))]
 fn load_image(
     t: Tuning,
@@ -62,7 +63,7 @@ fn load_image(
     Ok(with_last(new_control(n, r, t), get2(image, 12)))
 }
 
-// The heap of an image. The control record after a refusal is all zeros.
+// The heap of an image. The control record after a refusal is all zeros. The slices are handed over one by one, as C lends them.
 pub fn load(
     t: Tuning,
     image: &[u8],

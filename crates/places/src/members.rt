@@ -8,14 +8,7 @@ ghost use Rattle.places.specs.Places.{put_all, kids_of, in_place};
 
 use bitmap::{has_bit, put_bit};
 use records::cluster_of;
-use table::clusters::{record_of, used_words};
-
-// The object that a word points at, 0 for none.
-pub(crate) fn target_of(n: u32, word: u32) -> u32
-    ensures { result ≡ target n word }
-{
-    if n < word { 0 } else { word }
-}
+use table::clusters::{record_of, target_of, used_words};
 
 // What object x points at, if it is a member of cluster c.
 fn put_member(n: u32, c: u32, x: u32, records: &[u32], slots: &[u32], seen: &mut [u64])

@@ -7,11 +7,10 @@ ghost use Rattle.rules.specs.View.{target};
 ghost use Rattle.places.specs.Places.{put_all, placed, place_bits, is_member, object_bits};
 
 use crate::listed::places;
-use crate::members::target_of;
 use bitmap::put_bit;
 use layout::limits::within;
 use records::cluster_of;
-use table::clusters::{record_of, used_words};
+use table::clusters::{record_of, target_of, used_words};
 
 // Each number of the list gets its place, counted from 1; a number that is in the list twice gets the later one.
 pub(crate) fn fill_places(sinks: &[u32], place: &mut [u8])
@@ -27,7 +26,7 @@ pub(crate) fn fill_places(sinks: &[u32], place: &mut [u8])
     place[0] = 0;
 }
 
-// The place of what a word points at, 0 for none.
+// The place of what a word points at. 0 for none: the places are bytes of an array that begins with zeros.
 fn place_of(n: u32, word: u32, place: &[u8]) -> usize
     ensures { result ≡ get_or place.now (target n word) 0 }
 {

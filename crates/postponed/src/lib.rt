@@ -40,7 +40,7 @@ pub fn put(n: u32, work: &mut [u32], x: u32, on: bool)
     put_bit(work, 9 * m + (m / 32 + 1) + j / 32, j, w != 0);
 }
 
-// The lowest number of the set, 0 for none.
+// The lowest number of the set. 0 for none, as in all work words: no object has it, and an `Option` would be made by one more test.
 pub fn lowest(n: u32, work: &[u32]) -> u32
     ensures { result ≡ P.lowest n work.now }
 {

@@ -242,7 +242,7 @@ fn write_image(c: Control, heap: &Buffers, image: &mut [u8]) -> Result<u32, Refu
     Ok(length)
 }
 
-// Saves the heap.
+// Saves the heap. The slices are handed over one by one, as C lends them.
 pub fn save(
     c: Control,
     records: &[u32],

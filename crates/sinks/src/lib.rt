@@ -78,7 +78,8 @@ fn make_exact(n: u32, records: &mut [u32], slots: &[u32])
     }
 }
 
-// The object becomes a sink, for as long as it lives, and gets the first empty place of the list.
+// The object becomes a sink, for as long as it lives, and gets the first empty place of the list. The slices are handed over
+// one by one, as C lends them.
 #[tactic(auto, using(crate::proofs::SinkLaws::declaring))]
 pub fn declare_sink(
     c: Control,

@@ -2,7 +2,7 @@
 ghost use Rattle.std.specs.Prelude.{◌≡◌, take};
 ghost use Rattle.records.specs.Record.{width};
 ghost use Rattle.rules.specs.Buffers.{rec_of, eight};
-ghost use Rattle.rules.specs.View.{view, exact_out};
+ghost use Rattle.rules.specs.View.{target, view, exact_out};
 ghost use Rattle.table.specs.Clusters.{word_leaves, members_of, dissolved};
 
 use layout::limits::{WIDTH_MAX, slots_len};
@@ -16,6 +16,14 @@ pub fn record_of(n: u32, x: u32, records: &[u32]) -> u32
         return 0;
     }
     records.get((x - 1) as usize).copied().unwrap_or(0)
+}
+
+// The object that a word points at. 0 for none, as in the words and in the records: an `Option` would be made by one more test.
+#[tactic(auto, unfolding(rules::specs::View::target))]
+pub fn target_of(n: u32, word: u32) -> u32
+    ensures { result ≡ target n word }
+{
+    if n < word { 0 } else { word }
 }
 
 // Whether the word points at an object outside cluster c that is no sink.

@@ -20,7 +20,8 @@ use table::room::Buffers;
 use wellformed::heap_refusal;
 
 // Tests the heap and walks it from its roots; the first test that holds refuses. After an accepted walk the flags are in the records, and
-// the work words are 0. `rest` says that a slice besides is too short.
+// the work words are 0. `rest` says that a slice besides is too short. Records and work words, which are stored to, go beside
+// the struct of the others: of a struct with them each function would have to promise that it still holds the same slices.
 pub fn walk(
     by: bool,
     c: Control,

@@ -15,7 +15,7 @@ use postponed::put;
 use records::{POSTPONED, REACHED, cluster_of, is_marked, is_reached};
 use table::clusters::record_of;
 
-// The cluster of object x, 0 where clusters are not walked.
+// The cluster of object x; 0, which is for none in a record, where clusters are not walked.
 fn cluster_seen(by: bool, n: u32, x: u32, records: &[u32]) -> u32
     ensures { result ≡ cond by (cluster (rec_of n records.now x)) 0 }
 {

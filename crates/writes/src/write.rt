@@ -51,6 +51,9 @@ fn others(sinks: &[u32], sets: &[u64]) -> usize
     sets.len()
 }
 
+// Object, slot and word go one by one through the functions of a write, and so do the slices: each function takes others of them, and by
+// registers (docs/BENCHMARK.md, "Write").
+
 // The first test of a write that holds, but for the last test, refuses. The slices that only the caller knows have room for `others`
 // objects.
 #[tactic(auto, using(crate::proofs::WriteLaws::fronts))]
