@@ -22,7 +22,7 @@ use Rattle.rules.specs.Read as Read
 use Rattle.rules.proofs.BufferLaws.{used-get}
 use Rattle.table.specs.Named.{named_tests}
 use Rattle.table.proofs.NamedLaws.{show-named, start_is}
-use Rattle.access.specs.Found.{answered}
+use Rattle.access.specs.Answered.{answered}
 use Rattle.access.proofs.ShowLaws.{tested, passed, in_reach}
 
 module _ (c : Control) (i k : ℕ) (recs slots : List ℕ) where

@@ -1,2 +1,2 @@
 -- What the functions below the calls are held to.
-pub mod Found
+pub mod Answered

@@ -1,7 +1,7 @@
 // Read: one word of an object.
 ghost use Rattle.std.specs.Prelude.{◌≡◌};
 ghost use Rattle.rules.specs.Read as Read;
-ghost use Rattle.access.specs.Found.{answered};
+ghost use Rattle.access.specs.Answered.{answered};
 
 use layout::answers::{Control, WordRead};
 use layout::limits::{OBJECT_MAX, slots_len};

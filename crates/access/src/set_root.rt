@@ -8,7 +8,7 @@ use layout::refusals::{Refusal, bad_control};
 use layout::words::{Word, sort_word};
 use records::legal;
 
-// The first test that holds refuses.
+// The first test that holds refuses. An immediate may stand in a slot and not in a root: so the last test is not that of a write.
 #[tactic(auto, using(crate::proofs::SetRootLaws::ends))]
 pub(crate) fn root_refusal(
     c: Control,

@@ -28,6 +28,7 @@ fn from_roots(heap: Heap, r: u32, roots: &[u32], work: &mut [u32])
     requires { WalkingIn heap work.old (stack_end heap.n) × (r ≤ length roots.now) × Fit heap.n (take r roots.now) }
     ensures { GoesOnIn heap.entry (take r roots.now) work.old work.new }
 {
+    // By index: the proof goes by how many roots are done.
     for j in 0..r as usize {
         start(heap, work, roots[j]);
     }

@@ -60,6 +60,7 @@ fn older(heap: Heap, work: &mut [u32], d: u32, top: usize) -> usize
 {
     let mut at = top;
     let mut x = top_member(word_of(heap.n, work, 8 * heap.n as usize, d));
+    // Not a `for`: along the links.
     while x != 0 {
         at = member(heap, work, d, x, at);
         x = next_member(word_of(heap.n, work, 8 * heap.n as usize, x));
@@ -174,6 +175,7 @@ pub(crate) fn start(heap: Heap, work: &mut [u32], o: u32)
 {
     let end = 8 * heap.n as usize + 1;
     let mut top = visit(heap, work, o, 0, end);
+    // Not a `for`: each visit moves the top.
     while top < end {
         top = next(heap, work, top);
     }

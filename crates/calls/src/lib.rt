@@ -150,7 +150,7 @@ pub fn plainly(call: Call) -> Option<Call>
     }
 }
 
-// The call of a line, if it makes one, as a column runs it.
+// The call of a line, if it makes one, as a column runs it: `plain` is no third way besides, so a bool, as in the definition.
 #[tactic(auto, unfolding(crate::specs::Compare::as_run))]
 pub fn as_run(call: Option<Call>, plain: bool) -> Option<Call>
     ensures { result ≡ as_run plain call }

@@ -22,7 +22,7 @@ const NOWHERE: usize = 65535;
 // The first line number that has no room in a word; a list ends long before.
 const LINES: u64 = 281474976710656;
 
-// Where the word of an object is: those of the left column come first.
+// Where the word of an object is: those of the left column come first. `is_left` is a bool here and below, as the definitions take it.
 #[tactic(auto, unfolding(crate::specs::Hands::word_of))]
 fn word_of(is_left: bool, x: u32) -> usize
     ensures { result ≡ word_of is_left x }

@@ -13,7 +13,7 @@ pub fn word_at(words: &[u32], i: usize) -> u32
     words.get(i).copied().unwrap_or(0)
 }
 
-// Whether two records are both 0 or neither, and have the same width and sink bit.
+// Whether two records are both 0 or neither, and have the same width and sink bit. Not `==`: clusters and written bits do not count.
 #[tactic(auto, unfolding(crate::specs::Survivors::same_record))]
 fn same_record(x: u32, y: u32) -> bool
     ensures { result ≡ same_record x y }

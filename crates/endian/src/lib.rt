@@ -21,6 +21,7 @@ fn near_end<const K: usize>(b: &[u8], i: usize) -> [u8; K]
 {
     let rest = b.get(i..).unwrap_or(&[]);
     let mut all = [0; K];
+    // By index: a part of `all` to copy into is lent only where K is known to be below 2^63.
     for k in 0..rest.len().min(K) {
         all[k] = rest[k];
     }

@@ -32,6 +32,26 @@ pub enum Kind {
     Load,
 }
 
+impl fmt::Display for Kind {
+    fn fmt<W: fmt::Write>(&self, f: &mut fmt::Formatter<W>) -> fmt::Result {
+        f.write_str(match self {
+            Kind::Wrote => "wrote",
+            Kind::Loaded => "loaded",
+            Kind::Create => "create",
+            Kind::Allocate => "allocate",
+            Kind::Read => "read",
+            Kind::Show => "show",
+            Kind::Write => "write",
+            Kind::Root => "root",
+            Kind::Sink => "sink",
+            Kind::Analyse => "analyse",
+            Kind::Collect => "collect",
+            Kind::Save => "save",
+            Kind::Load => "load",
+        })
+    }
+}
+
 // The kinds in the order of TABLE.
 pub const KINDS: [Kind; 13] = [
     Kind::Wrote,

@@ -40,6 +40,7 @@ fn belongs(kind: Kind, b: u8) -> bool
 fn run_end(kind: Kind, s: &[u8], from: usize) -> usize
     ensures { result ≡ run_end kind s.now from }
 {
+    // By index, since `from` may be past the end, and is the answer then.
     for i in from..s.len() {
         if !belongs(kind, s[i]) {
             return i;

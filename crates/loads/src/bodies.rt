@@ -75,7 +75,7 @@ pub(crate) fn shape(n: u32, body: &[u8], words: &mut [u64], sinks: &mut [u64]) -
 
 // ---- words
 
-// Whether a word is nil, a number in the set, or an immediate where these may stand. By the remainder, which is the number itself, the
+// Whether a word is nil, a number in the set, or an immediate where these may stand (`immediates`: in slots, not in roots). By the remainder, which is the number itself, the
 // compiler knows that the set has a word for it.
 pub(crate) fn word_passes(immediates: bool, n: u32, word: u32, words: &[u64]) -> bool
     requires { n ≤ object_max }

@@ -101,6 +101,7 @@ pub(crate) fn lay_list(body: &[u8], sinks: &mut [u32])
     requires { length body.now / 2 ≤ length sinks.old }
     ensures { sinks.new ≡ sets sinks.old 0 (saved_list body.now) }
 {
+    // By index: two bytes of one slice go to one word of the other.
     for i in 0..body.len() / 2 {
         sinks[i] = get2(body, 2 * i);
     }

@@ -40,6 +40,7 @@ pub(crate) fn places_ok(n: u32, records: &[u32], sinks: &[u32], seen: &mut [u64]
     ensures { Tested n records.now (take sink_max sinks.now) result seen.new }
 {
     let list = places(sinks);
+    // By index: the proof goes by the place that is tested.
     for k in (0..list.len()).rev() {
         let y = list[k];
         if !place_ok(n, y, records, seen) {

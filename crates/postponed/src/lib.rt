@@ -22,7 +22,7 @@ fn put_bit(work: &mut [u32], at: usize, i: usize, on: bool) -> u32
     w
 }
 
-// The word at a place, 0 past the end.
+// The word at a place, 0 past the end. `compare` has the same line, and stands on other crates.
 fn word_at(work: &[u32], at: usize) -> u32
     ensures { result ≡ get_or work.now at 0 }
 {

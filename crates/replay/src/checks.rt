@@ -59,16 +59,21 @@ impl From<io::Error> for Wrong {
     }
 }
 
+// Says what failed, where a line for standard error could not be written.
+fn told<R: Eprint>(rt: &R, written: io::Result<()>) {
+    if let Err(why) = written {
+        fail(rt, "write", why);
+    }
+}
+
 // Says on standard error why the list at path is not run.
 fn complain<R: Eprint>(rt: &R, path: &str, wrong: Wrong) {
     match wrong {
         Wrong::Unreadable(why) => fail(rt, path, why),
         Wrong::Line(number, problem) => {
-            let _ = eprintln!(rt; "{path}, line {number}: {problem}");
+            told(rt, eprintln!(rt; "{path}, line {number}: {problem}"));
         }
-        Wrong::Whole(problem) => {
-            let _ = eprintln!(rt; "{path}: {problem}");
-        }
+        Wrong::Whole(problem) => told(rt, eprintln!(rt; "{path}: {problem}")),
     }
 }
 

@@ -110,6 +110,7 @@ impl Page {
         mut left: &[u8],
         mut right: &[u8],
     ) {
+        // Not a `for`: each turn takes a line off what is left of the cells.
         while !(call.is_empty() && left.is_empty() && right.is_empty()) {
             let (a, after_a) = line_of(call, CALL);
             let (b, after_b) = line_of(left, ANSWER);

@@ -22,25 +22,6 @@ impl fmt::Display for Number {
     }
 }
 
-// The name of a kind of call.
-fn name_of(kind: Kind) -> &'static str {
-    match kind {
-        Kind::Wrote => "wrote",
-        Kind::Loaded => "loaded",
-        Kind::Create => "create",
-        Kind::Allocate => "allocate",
-        Kind::Read => "read",
-        Kind::Show => "show",
-        Kind::Write => "write",
-        Kind::Root => "root",
-        Kind::Sink => "sink",
-        Kind::Analyse => "analyse",
-        Kind::Collect => "collect",
-        Kind::Save => "save",
-        Kind::Load => "load",
-    }
-}
-
 // A call with its numbers.
 #[derive(Clone, Copy)]
 pub(crate) struct CallText(pub Call);
@@ -48,8 +29,7 @@ pub(crate) struct CallText(pub Call);
 impl fmt::Display for CallText {
     fn fmt<W: fmt::Write>(&self, f: &mut fmt::Formatter<W>) -> fmt::Result {
         let Call { kind, count, .. } = self.0;
-        let name = name_of(kind);
-        write!(f, "{name}")?;
+        write!(f, "{kind}")?;
         if kind == Kind::Collect {
             let way = if self.0.numbers[0] == 0 {
                 "plain"

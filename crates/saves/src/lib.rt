@@ -20,7 +20,7 @@ use records::{in_use, is_sink, width_of};
 use table::room::Buffers;
 use wellformed::heap_refusal;
 
-// The kind of the chunk of sinks.
+// The kind of the chunk of sinks, which `loads` has too: neither crate stands on the other.
 const SINKS: u32 = 0x8001;
 
 // ---- lengths

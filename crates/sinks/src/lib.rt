@@ -72,6 +72,7 @@ fn make_exact(n: u32, records: &mut [u32], slots: &[u32])
     ensures { records.new ≡ made_exact n slots.now records.old }
 {
     let end = (n as usize).min(records.len());
+    // By index: a record is stored while others are read.
     for i in 0..end {
         let out = exact_out(n, i as u32 + 1, records, slots);
         records[i] = with_out(records[i], out);

@@ -19,7 +19,8 @@ fn is_freed(n: u32, x: u32, records: &[u32]) -> bool
     in_use(r) && !is_marked(r)
 }
 
-// Word j of the freed map, from its highest bit down.
+// Word j of the freed map, from its highest bit down. `places::members::word_of` is the same of another test: with the test as a closure each
+// would be as long.
 fn freed_word(n: u32, j: u32, records: &[u32]) -> u64
     requires { j ≤ 64 }
     ensures { result ≡ word_of (S.freed_at n records.now) j }
@@ -68,6 +69,7 @@ fn free_word(base: u32, word: u64, records: &mut [u32], slots: &mut [u32])
     ensures slots_after { slots.new ≡ S.in_turn S.clear_slots (set_bits 64 word base) slots.old }
 {
     let mut rest = word;
+    // Not a `for`: bit by bit, from the lowest on.
     while rest != 0 {
         let x = base + lowest_bit(rest);
         clear_record(x, records);

@@ -25,6 +25,7 @@ pub fn count_marked(n: u32, records: &[u32]) -> u32
     ensures { result ≡ S.marked_count n records.now }
 {
     let end = (n as usize).min(records.len());
+    // Counted in words of 32 bits, which `count` would have to be cast to.
     let mut k: u32 = 0;
     for r in &records[..end] {
         if is_marked(*r) {
@@ -51,6 +52,7 @@ pub fn mark_members(n: u32, records: &mut [u32])
     ensures { records.new ≡ S.members_marked n records.old }
 {
     let end = (n as usize).min(records.len());
+    // By index: a record is stored while others are read.
     for i in 0..end {
         let r = records[i];
         records[i] = member_marked(n, r, records);
@@ -93,6 +95,7 @@ fn dissolve(n: u32, records: &mut [u32])
     ensures { records.new ≡ each_record n (λ x r. kept_record (S.marked_at n records.old) r) records.old }
 {
     let end = (n as usize).min(records.len());
+    // By index, as in `mark_members`.
     for i in 0..end {
         let r = records[i];
         records[i] = head_kept(n, r, records);

@@ -68,6 +68,7 @@ pub fn exact_out(n: u32, x: u32, records: &[u32], slots: &[u32]) -> bool
 pub fn members(n: u32, c: u32, records: &[u32]) -> u32
     ensures { result ≡ members_of n records.now c }
 {
+    // Not over the records: numbers past their end count too, where c is 0.
     let mut k: u32 = 0;
     for i in 0..n {
         if cluster_of(record_of(n, i + 1, records)) == c {

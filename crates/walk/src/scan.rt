@@ -88,6 +88,7 @@ pub(crate) fn scan_sinks(
 {
     let mut at = top;
     let mut rest = set;
+    // Not a `for`: bit by bit, from the lowest on.
     while rest != 0 {
         let k = lowest_bit(rest) as usize;
         at = scan_unmarked(heap, records, work, at, heap.sinks[k]);
@@ -121,6 +122,7 @@ pub(crate) fn scan_outs(
 {
     let mut at = top;
     let mut x = top_member(link_of(heap.n, work, h));
+    // Not a `for`: along the links.
     while x != 0 {
         at = scan_unmarked(heap, records, work, at, x);
         x = next_member(link_of(heap.n, work, x));

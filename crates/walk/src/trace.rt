@@ -45,6 +45,7 @@ fn follow_roots(heap: Heap, r: u32, roots: &[u32], records: &mut [u32], work: &m
     ensures { Followed (way_of heap.entry) heap.entry.n heap.entry.slots.now records.old (pointers (take r roots.now))
         records.new work.new }
 {
+    // By index: a root that is nil leads nowhere, and the proof goes by how many roots are done.
     for i in 0..r as usize {
         let w = roots[i];
         if w != 0 {
@@ -59,6 +60,7 @@ fn follow_postponed(heap: Heap, records: &mut [u32], work: &mut [u32])
     ensures { Finished (way_of heap.entry) heap.entry.n heap.entry.slots.now records.old records.new }
 {
     let mut x = lowest(heap.n, work);
+    // Not a `for`: taking one up may postpone others.
     while x != 0 {
         let top = take_up(heap, records, work, x);
         drain(heap, records, work, top);

@@ -75,6 +75,7 @@ fn objects_ok(n: u32, records: &[u32], slots: &[u32]) -> bool
     ensures { result ≡ objects_ok n records.now slots.now }
 {
     let mut ok = true;
+    // Objects and slots go by index and are left by a label, as the rules say it.
     'check: for i in 0..n as usize {
         let r = records[i];
         if !record_ok(n, r) || !head_ok(n, r, records) {

@@ -101,6 +101,7 @@ fn still_holds(
 {
     let width = width_of(record_of(n, object, records));
     let at = slots_len(object - 1);
+    // Not `any`: its closure would have to be known to take every k.
     for k in 0..width {
         if word_after(slot, word, k, at, slots) == pointer {
             return true;
