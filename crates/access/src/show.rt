@@ -7,7 +7,8 @@ use layout::limits::{OBJECT_MAX, slots_len};
 use records::width_of;
 use table::named::object_refusal;
 
-// The part itself. `refusal` becomes 0, or the number of the refusal of an empty part.
+// The part itself: what is answered is the caller's own slice, so the number goes beside it. `refusal` becomes 0, or the number of the refusal
+// of an empty part.
 #[tactic(auto, using(crate::proofs::ShowLaws::ends))]
 pub fn show<'a>(
     c: Control,

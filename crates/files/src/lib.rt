@@ -30,6 +30,7 @@ pub enum State {
 
 // A list. Of its input the bytes from `from` to `end` are still to be used; the line found has those from `start` to `stop`. `fd` is a number of the
 // caller's own for the list, which stays (`Found.file`); the reader is handed over.
+// The places stay beside the state, since the clauses speak of them in more than one.
 #[derive(Clone, Copy)]
 pub struct Source {
     pub fd: i32,

@@ -69,7 +69,7 @@ pub const KINDS: [Kind; 13] = [
     Kind::Load,
 ];
 
-// Of the numbers only the first `count` are used, and the others are 0. `collect` has one: 0 for `plain`, 1 for `clusters`. `create` has its two
+// An array with its count, since a call is copied and nothing allocates: only the first `count` numbers are used, and the others are 0. `collect` has one: 0 for `plain`, 1 for `clusters`. `create` has its two
 // sizes, or TUNED numbers.
 #[derive(Clone, Copy, PartialEq, Eq)]
 pub struct Call {
@@ -123,6 +123,7 @@ pub fn with_number(call: Call, k: usize, v: u32) -> Call
     ensures { result ≡ with_number k v call }
 {
     let mut c = call;
+    // By index: no contract says what `get_mut` leaves in an array.
     if k < MOST {
         c.numbers[k] = v;
     }

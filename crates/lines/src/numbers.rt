@@ -6,7 +6,7 @@ use crate::kinds::Problem;
 
 const BOUND: u64 = 0x1_0000_0000;
 
-// The value of a digit to base 16, or 16.
+// The value of a digit to base 16, or 16: no base is above it, so one comparison refuses it with the digits that are too large.
 #[tactic(auto, unfolding(crate::specs::Numeral::digit_of, crate::specs::Numeral::between))]
 fn digit(b: u8) -> u64
     ensures { result ≡ digit_of b }

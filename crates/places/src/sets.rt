@@ -19,6 +19,7 @@ pub(crate) fn fill_places(sinks: &[u32], place: &mut [u8])
 {
     for (k, y) in places(sinks).iter().enumerate() {
         let y = *y as usize;
+        // By index: no contract says what a slice's `get_mut` leaves in the slice.
         if y < place.len() {
             place[y] = (k + 1) as u8;
         }

@@ -18,6 +18,7 @@ fn put_bit(work: &mut [u32], at: usize, i: usize, on: bool) -> u32
 {
     let Some(old) = work.get(at) else { return 0 };
     let w = with_bit(*old, (i % 32) as u32, on);
+    // By index: no contract says what a slice's `get_mut` leaves in the slice.
     work[at] = w;
     w
 }

@@ -1,4 +1,4 @@
-// Text in a buffer of its own. What does not fit is left out.
+// Text in a buffer of its own. What does not fit is left out. Not the library's `InlineText`, as the name of a build need not be text.
 ghost use Rattle.std.specs.Prelude.{◌≤◌};
 
 use std::fmt;

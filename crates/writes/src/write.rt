@@ -155,6 +155,7 @@ fn put_set(h: u32, word: u64, sets: &mut [u64])
         return;
     }
     let at = (h - 1) as usize;
+    // By index: no contract says what a slice's `get_mut` leaves in the slice.
     if at < sets.len() {
         sets[at] = word;
     }
@@ -282,7 +283,6 @@ fn store_member(
 
 // Most writes are to objects in no cluster, and `attempt` makes them. It and `store_member` stay functions that take the control record
 // where it is: so this one is short enough to be put into both exports, and copies a record that stays whole (docs/BENCHMARK.md, "Write").
-
 pub fn write(
     c: Control,
     object: u32,
