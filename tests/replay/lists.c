@@ -12,7 +12,8 @@
 #include <stdlib.h>
 #include <string.h>
 
-enum { MOST_CALLS = 3000, ROOM = MOST_CALLS + 64 };
+/* A change of the right list adds up to ADDED calls to a list that may be full. */
+enum { MOST_CALLS = 3000, ROOM = MOST_CALLS + 64, ADDED = 20 };
 
 typedef struct {
     const char *name;
@@ -21,7 +22,7 @@ typedef struct {
 } call;
 
 typedef struct {
-    call calls[ROOM];
+    call calls[ROOM + ADDED];
     int count;
 } list;
 
