@@ -4,18 +4,22 @@ use Prim.Native.Nat.{ℕ, zero, suc, ◌+◌, ◌-◌, ◌*◌, ◌/◌, ◌%◌
 use mathlib.Core.Path.{◌≡◌, refl, sym, ap, ap₂, subst, ◌∙◌}
 use mathlib.Core.List.Memᴰ
 use mathlib.Core.List.{List, [], ◌∷◌, ◌++◌, append_assoc, append-nil, Memᴰ}
+use mathlib.Core.Bool.{Bool, true, false}
 use mathlib.Core.Logic.{◌⊎◌}
-use native.Mathlib.Nat.{pow-succ'}
+use native.Mathlib.Nat.{pow-succ', sub-zero}
+use native.Mathlib.Numerals.{add-one}
 use native.Mathlib.Decide.{dec_lt, dec_le}
 use native.Mathlib.Omega.{arith}
-use lib.ListN.{length, get_or, set, take, drop, replicate, length-append, length-drop, length-set, take-append-drop, drop_of_length-le}
-use lib.Seq.{take_at, take_all, set_at, drop-append-add, drop-drop, length-take-le, take-suc-set, sets, sets-eq, set_out}
+use lib.ListN.{length, get_or, set, take, drop, replicate, length-append, length-drop, length-replicate, length-set, take-append-drop, drop_of_length-le}
+use lib.Dec.{leb}
+use lib.Seq.{take_at, take_all, take-nil, set_at, drop-append-add, drop-drop, drop-nil, length-take-le, take-suc-set, sets, sets-eq, set_out}
+use borrow.Author.Tests.{leb-true, leb-false, le-leb, lt-leb}
 use borrow.Rule.Slice.PartMut.{put_mid}
 use denote.Ref.{Bor}
 use Rattle.std.specs.Prelude.{Option, Some, None}
 use Rattle.std.specs.Option.{unwrap_or}
 use Rattle.std.specs.Slice.{IsGetRangeResult}
-use Rattle.std.proofs.lemmas.List.{take_more}
+use Rattle.std.proofs.lemmas.List.{take_more, drop_more}
 use Rattle.endian.specs.Bytes.{Octets, bytes, number, number_at, bytes_of}
 
 pub length-bytes : (k v : ℕ) → length (bytes k v) ≡ k
@@ -40,6 +44,51 @@ number-front k v l h = ap number (take_at (bytes k v) l k (length-bytes k v)) �
 pub number_behind : (k i : ℕ) (a l : List ℕ) → number_at k (length a + i) (a ++ l) ≡ number_at k i l
 unfolding number_at
 number_behind k i a l = ap (λ (m : List ℕ). number (take k m)) (drop-append-add a l i)
+
+-- ---- reading byte by byte
+
+-- the lowest byte, and the rest
+pub number_step : (k i : ℕ) (l : List ℕ) → number_at (suc k) i l ≡ get_or l i 0 + 256 * number_at k (suc i) l
+unfolding number_at number
+number_step k i [] = rw (drop-nil i, take-nil k) refl
+number_step k zero (x ∷ l) = refl
+number_step k (suc i) (x ∷ l) = number_step k i l
+
+-- the same, where the next place is known only by what stands there
+next-step : (k i j : ℕ) (l : List ℕ) → drop j l ≡ drop (i + 1) l → get_or l i 0 + 256 * number_at k j l ≡ number_at (suc k) i l
+unfolding number_at
+next-step k i j l e =
+    ap (λ (m : List ℕ). get_or l i 0 + 256 * number (take k m)) (e ∙ ap (λ (m : ℕ). drop m l) (add-one i)) ∙ sym (number_step k i l)
+
+last_step : (i : ℕ) (l : List ℕ) → number (get_or l i 0 ∷ []) ≡ number_at 1 i l
+unfolding number number_at
+last_step i l = sym (number_step 0 i l)
+
+pub number-at-two : (l : List ℕ) (i j : ℕ) → drop j l ≡ drop (i + 1) l → number (get_or l i 0 ∷ get_or l j 0 ∷ []) ≡ number_at 2 i l
+unfolding number
+number-at-two l i j e = ap (λ (m : ℕ). get_or l i 0 + 256 * m) (last_step j l) ∙ next-step 1 i j l e
+
+pub number-at-four : (l : List ℕ) (i j k m : ℕ) → drop j l ≡ drop (i + 1) l → drop k l ≡ drop (j + 1) l → drop m l ≡ drop (k + 1) l
+    → number (get_or l i 0 ∷ get_or l j 0 ∷ get_or l k 0 ∷ get_or l m 0 ∷ []) ≡ number_at 4 i l
+unfolding number
+number-at-four l i j k m e f g =
+    ap (λ (x : ℕ). get_or l i 0 + 256 * (get_or l j 0 + 256 * x)) (number-at-two l k m g)
+    ∙ ap (λ (x : ℕ). get_or l i 0 + 256 * x) (next-step 2 j k l f) ∙ next-step 3 i j l e
+
+pub number-at-next-four : (l : List ℕ) (i : ℕ) → number (get_or l i 0 ∷ get_or l (i + 1) 0 ∷ get_or l (i + 2) 0 ∷ get_or l (i + 3) 0 ∷ []) ≡ number_at 4 i l
+number-at-next-four l i =
+    let a : i + 2 ≡ i + 1 + 1 = omega arith in
+    let b : i + 3 ≡ i + 2 + 1 = omega arith in
+    number-at-four l i (i + 1) (i + 2) (i + 3) refl (ap (λ (m : ℕ). drop m l) a) (ap (λ (m : ℕ). drop m l) b)
+
+-- ---- the test whether bytes are there
+
+pub fits-leb : (i k n : ℕ) → k ≤ n → leb i (n - k) ≡ leb (i + k) n
+fits-leb i k n h = go (leb i (n - k)) refl
+  where
+    go : (t : Bool) → leb i (n - k) ≡ t → t ≡ leb (i + k) n
+    go true e = let a = leb-true i (n - k) e in sym (le-leb (i + k) n (omega arith))
+    go false e = let a = leb-false i (n - k) e in sym (lt-leb (i + k) n (omega arith))
 
 pub length-numbers : (k : ℕ) (l : List ℕ) → length (bytes_of k l) ≡ k * length l
 unfolding bytes_of
@@ -141,6 +190,41 @@ pad-more l k n h p =
     ∙ set_at (take k l) 0 z (get_or l k 0) k (length-take-le k l (omega arith))
     ∙ sym (ap (λ (m : List ℕ). m ++ z) (take_more l k 0 h) ∙ append_assoc (take k l) (get_or l k 0 ∷ []) z)
 
+-- a byte of a list with zeros behind it is that of the list, 0 past its end
+get-pad : (l : List ℕ) (k m : ℕ) → get_or (l ++ replicate m 0) k 0 ≡ get_or l k 0
+get-pad [] k zero = refl
+get-pad [] zero (suc m) = refl
+get-pad [] (suc k) (suc m) = get-pad [] k m
+get-pad (b ∷ l) zero m = refl
+get-pad (b ∷ l) (suc k) m = get-pad l k m
+
+-- one byte more, or 0 past the end, over zeros
+pub pad-next : (l : List ℕ) (k n : ℕ) → k < n
+    → set (take k (l ++ replicate n 0) ++ replicate (n - k) 0) k (get_or l k 0) ≡ take (k + 1) (l ++ replicate n 0) ++ replicate (n - (k + 1)) 0
+pad-next l k n p =
+    let m : List ℕ = l ++ replicate n 0 in
+    ap (λ (b : ℕ). set (take k m ++ replicate (n - k) 0) k b) (sym (get-pad l k n))
+    ∙ pad-more m k n (omega (arith, length-append l (replicate n 0), length-replicate {A = ℕ} n 0)) p
+
+zeros-number : (n m : ℕ) → number (take n (replicate m 0)) ≡ 0
+unfolding number
+zeros-number zero m = refl
+zeros-number (suc n) zero = refl
+zeros-number (suc n) (suc m) = omega (arith, zeros-number n m)
+
+-- and the number is that of the bytes that are there
+pub pad-number : (n m : ℕ) (l : List ℕ) → number (take n (l ++ replicate m 0)) ≡ number (take n l)
+unfolding number
+pad-number zero m l = refl
+pad-number (suc n) m [] = zeros-number (suc n) m
+pad-number (suc n) m (b ∷ l) = ap (λ (x : ℕ). b + 256 * x) (pad-number n m l)
+
+-- ---- the store of a byte
+
+pub ruleset stores = (set_out)
+
+-- ---- numbers of two and of four bytes
+
 pub number_two : (l : List ℕ) → length l ≡ 2 → number l ≡ get_or l 0 0 + 256 * get_or l 1 0
 unfolding number
 number_two [] h = absurd (omega arith)
@@ -206,3 +290,7 @@ module _ (l vs : List ℕ) (i : ℕ) (h : i ≤ length l) where
       rest-put l ys i h
       ∙ ap (λ (m : List ℕ). take i l ++ m) (q ∙ ap (λ (m : ℕ). take m vs) rest_length)
       ∙ sym (sets_cut vs l i h (omega (arith, rest_length)))
+
+  -- the same, stored byte by byte
+  pub put-few : (k : ℕ) → length vs ≡ k → length rest < k → (ys : List ℕ) → ys ≡ sets rest 0 vs → put_mid i (length l - i) l ys ≡ sets l i vs
+  put-few k e p ys q = put-part k e p ys (q ∙ sets_cut vs rest 0 (omega arith) (omega (arith, e, p)) ∙ ap (λ (m : ℕ). take m vs) (sub-zero (length rest)))

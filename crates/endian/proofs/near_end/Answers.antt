@@ -1,19 +1,17 @@
--- `endian::near_end` reads the bytes that are there. Invariant: the bytes so far, and zeros. Assumes nothing.
-use mathlib.Core.Path.{◌≡◌, refl, ap, ◌∙◌}
-use Prim.Native.Nat.{◌-◌, min}
+-- `endian::near_end` reads the bytes that are there. Invariant: the bytes so far, 0 for those past the end, and zeros. Assumes nothing.
+use mathlib.Core.Path.{◌≡◌, refl, ap, ap₂, ◌∙◌}
+use mathlib.Core.List.{◌++◌}
+use Prim.Native.Nat.{◌-◌}
 use native.Mathlib.Omega.{arith}
-use lib.ListN.{length, get_or, set, drop, take}
+use lib.ListN.{set, drop, take, replicate}
 use Rattle.endian.specs.Bytes.{number, number_at}
-use Rattle.endian.proofs.BytesLaws.{rest-is, take-least, number-pad, pad-more}
+use Rattle.endian.proofs.BytesLaws.{rest-is, number-pad, pad-next, pad-number}
 use Rattle.endian.proofs.near_end.Goals as goal
 
 pub loop-k-preserved : goal.loop-k-preserved
 loop-k-preserved g c =
     let l = c.loop-k in
-    let rest = c.unwrap_or-rest.result.now in
-    let m = c.min-k-end.ensures in
-    let t = c.loop-k-test.true in
-    ap (λ m. set m l.k (get_or rest l.k 0)) l.invariant ∙ pad-more rest l.k g.row.K (omega (arith, m, t)) (omega (arith, m, t))
+    ap₂ (λ m b. set m l.k b) l.invariant c.byte_or_zero.ensures ∙ pad-next c.unwrap_or-rest.result.now l.k g.row.K c.loop-k-test.true
 
 pub returns : goal.returns
 unfolding number_at
@@ -22,6 +20,6 @@ returns g c =
     let l = c.loop-k in
     let rest = c.unwrap_or-rest.result.now in
     let e : rest ≡ drop a.i a.b.now = ap (λ x. x.now) c.unwrap_or-rest.ensures ∙ rest-is c.get.result _ a.b.now a.i refl c.get.ensures.lookup in
-    let k : l.k ≡ min (length rest) g.row.K = omega (arith, c.min-k-end.ensures, c.loop-k-test.false, l.auto.k-end) in
-    ap number l.invariant ∙ number-pad (take l.k rest) (g.row.K - l.k)
-    ∙ ap number (ap (λ m. take m rest) k ∙ take-least g.row.K rest ∙ ap (take g.row.K) e)
+    let k : l.k ≡ g.row.K = omega (arith, c.loop-k-test.false, l.auto.k-end) in
+    ap number l.invariant ∙ number-pad (take l.k (rest ++ replicate g.row.K 0)) (g.row.K - l.k)
+    ∙ ap (λ m. number (take m (rest ++ replicate g.row.K 0))) k ∙ pad-number g.row.K g.row.K rest ∙ ap (λ m. number (take g.row.K m)) e
