@@ -4,3 +4,4 @@ pub mod Field
 pub mod Word
 pub mod ControlRecord
 pub mod Refusal
+pub mod Told

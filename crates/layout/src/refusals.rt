@@ -1,6 +1,7 @@
 // The refusals and their numbers, and the tests of the control record.
-ghost use Rattle.std.specs.Prelude.{◌≡◌};
+ghost use Rattle.std.specs.Prelude.{◌≡◌, Some};
 ghost use Rattle.layout.specs.Refusal.{number, refusal_of, Numbered};
+ghost use Rattle.layout.specs.Told.{told};
 ghost use Rattle.layout.specs.ControlRecord.{bad_sizes, bad_tuning, bad_limit, bad_control};
 
 use crate::answers::{Control, Tuning};
@@ -44,6 +45,8 @@ impl From<Refusal> for u32 {
 }
 
 impl fmt::Display for Refusal {
+    ghost output = { λ e. Some (told e) };
+
     fn fmt<W: fmt::Write>(&self, f: &mut fmt::Formatter<W>) -> fmt::Result {
         f.write_str(match self {
             Refusal::BadSizes => "sizes out of range",
