@@ -14,15 +14,17 @@ use lib.Arith.{lt-one}
 use lib.Dec.{lit<, eqb}
 use lib.Pow.{pow_pos, pow_mono, shr_lt, shr-shr}
 use lib.ListN.{length, take, get_or, length-append, length-set, get_or-eq_default, replicate, length-replicate, get_or-replicate}
-use lib.Seq.{set_out, get_or-set_same, get_or-set_other}
+use lib.Seq.{take-suc, set_out, get_or-set_same, get_or-set_other}
 use lib.Bits.{bit_and, and_shr, and_mod, and_self, and_le_r}
 use denote.Ref.{Bor}
-use Rattle.std.specs.Prelude.{Option, Some, None, MatchOption, sum}
+use Rattle.std.specs.Prelude.{Option, Some, None, MatchOption, min, sum}
 use Rattle.std.specs.Slice.{IsItemAt}
+use Rattle.std.proofs.lemmas.List.{take_min}
 use Rattle.std.proofs.lemmas.List.Sums.{sum_by-cons}
 use lib.Count.{ones, ones_in, ones-le, ones_step, count_trailing_zeros, under}
 use Rattle.layout.specs.Field.{field, flag, put_flag}
-use Rattle.bitmap.specs.Bits.{holds, put_bit, cons_if, set_bits, numbers_in, bits_of, word_of}
+use Rattle.layout.specs.Limits.{map_len}
+use Rattle.bitmap.specs.Bits.{map_max, holds, put_bit, cons_if, set_bits, numbers_in, bits_of, word_of}
 use Rattle.layout.proofs.FieldLaws.{and-flag, zero_flag, flag-put-same, flag-put-other}
 
 pub half_lt : {w : ℕ} (k : ℕ) → w < 2 ^ suc k → w / 2 < 2 ^ k
@@ -103,6 +105,22 @@ set_bits-count (suc k) w b h = digits (w % 2) refl (set_bits-count k (w / 2) (su
     digits (suc zero) e ih = rw e (omega arith)
     digits (suc (suc d)) e ih = absurd (omega (arith, mod-lt w (pow_pos 1)))
 
+snoc : (b : ℕ) (ws : List ℕ) (w : ℕ) → w < 2 ^ 64 → length (numbers_in b (ws ++ (w ∷ []))) ≡ length (numbers_in b ws) + ones w
+unfolding numbers_in
+snoc b [] w h = length-append (set_bits 64 w b) [] ∙ omega (arith, set_bits-count 64 w b h)
+snoc b (x ∷ ws) w h =
+    length-append (set_bits 64 x b) (numbers_in (b + 64) (ws ++ (w ∷ [])))
+    ∙ omega (arith, snoc (b + 64) ws w h, length-append (set_bits 64 x b) (numbers_in (b + 64) ws))
+
+-- one word more is counted
+pub count-more : (ws : List ℕ) (n i : ℕ) → n ≡ length (numbers_in 0 (take i ws)) → i < length ws → get_or ws i 0 < 2 ^ 64
+    → n + ones (get_or ws i 0) ≡ length (numbers_in 0 (take (i + 1) ws))
+count-more ws n i e l h = rw (add-one i, take-suc ws i 0 l, snoc 0 (take i ws) (get_or ws i 0) h, e)
+
+pub count_none : (ws : List ℕ) → 0 ≡ length (numbers_in 0 (take 0 ws))
+unfolding numbers_in
+count_none ws = refl
+
 -- the sum of the ones of the first n words, and its bound
 module _ (n : ℕ) (w : ℕ) (ws : List ℕ) where
   first-more : sum (map ones (take (suc n) (w ∷ ws))) ≡ ones w + sum (map ones (take n ws))
@@ -120,6 +138,25 @@ pub sum-ones_le : (n : ℕ) (ws : List ℕ) → ((i : ℕ) → get_or ws i 0 < 2
 sum-ones_le zero ws h = omega arith
 sum-ones_le (suc n) [] h = omega arith
 sum-ones_le (suc n) (w ∷ ws) h = omega (arith, first-more n w ws, ones-le 64 w (h 0), sum-ones_le n ws (λ i. h (suc i)))
+
+-- the count's bound
+pub count_le : (n b : ℕ) (ws : List ℕ) → ((i : ℕ) → get_or ws i 0 < 2 ^ 64) → length (numbers_in b (take n ws)) ≤ 64 * n
+unfolding numbers_in
+count_le zero b ws h = omega arith
+count_le (suc n) b [] h = omega arith
+count_le (suc n) b (w ∷ ws) h =
+    omega (
+      arith,
+      length-append (set_bits 64 w b) (numbers_in (b + 64) (take n ws)),
+      set_bits-count 64 w b (h 0),
+      ones-le 64 w (h 0),
+      count_le n (b + 64) ws (λ i. h (suc i)),
+    )
+
+-- all words that count are counted
+pub count-end : (ws : List ℕ) (n i : ℕ) → n ≡ length (numbers_in 0 (take i ws)) → i ≡ min 64 (length ws) → n ≡ length (numbers_in 0 (take map_max ws))
+unfolding map_len
+count-end ws n i e q = e ∙ ap (λ (l : List ℕ). length (numbers_in 0 l)) (ap (λ (k : ℕ). take k ws) q ∙ take_min 64 ws)
 
 -- a word past the end is 0
 pub holds-past : (i : ℕ) (ws : List ℕ) → length ws ≤ i / 64 → holds i ws ≡ false

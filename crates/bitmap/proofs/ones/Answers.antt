@@ -1,25 +1,25 @@
 -- `bitmap::ones` counts word by word, at most the words of the longest map. Assumes nothing.
-use mathlib.Core.Path.{◌∙◌}
 use native.Mathlib.Omega.{arith}
-use lib.Count.{ones}
-use Rattle.std.proofs.Common.{rules}
-use Rattle.std.proofs.lemmas.Iterator.{YieldsList-from_slice, YieldsList-from_take, YieldsList-from_map}
-use Rattle.std.proofs.lemmas.Iterator.Consumers.{sum_from_yields_List, fits_from_yields_list}
-use Rattle.layout.specs.Limits.{map_len}
-use Rattle.bitmap.proofs.BitLaws.{sum-ones, sum-ones_le}
+use lib.Count.{ones-le}
+use Rattle.bitmap.proofs.BitLaws.{count_none, count_le, count-more, count-end}
 use Rattle.bitmap.proofs.ones.Goals as goal
 
-pub sum-requires-clause-fits : goal.sum-requires-clause-fits
-sum-requires-clause-fits c =
-    let ws = c.args.map.now in
-    fits_from_yields_list c.map.result _
-    (YieldsList-from_map _ ones (YieldsList-from_take 64 (YieldsList-from_slice ws cc) cc) c.map.ensures.closure (λ x r q k. search rules))
-    (omega (arith, sum-ones_le 64 ws (λ i. (c.type_inv.map i).fits)))
+pub loop-i-init : goal.loop-i-init
+loop-i-init c = count_none c.args.map.now
+
+pub overflow_add-n : goal.overflow_add-n
+overflow_add-n c =
+    let l = c.loop-i in
+    let h = count_le l.i 0 c.args.map.now (λ i. (c.type_inv.map i).fits) in
+    omega (arith, h, l.invariant, c.loop-i-test.true, c.min-i-end.ensures, ones-le 64 _ (c.type_inv.map l.i).fits)
+
+pub loop-i-preserved : goal.loop-i-preserved
+loop-i-preserved c =
+    let l = c.loop-i in
+    let m = count-more c.args.map.now l.n l.i l.invariant (omega (arith, c.loop-i-test.true, c.min-i-end.ensures)) (c.type_inv.map l.i).fits in
+    grind (arith, m)
 
 pub returns : goal.returns
-unfolding map_len
 returns c =
-    let ws = c.args.map.now in
-    sum_from_yields_List c.map.result c.sum.result c.sum.ensures.ran
-    (YieldsList-from_map _ ones (YieldsList-from_take 64 (YieldsList-from_slice ws cc) cc) c.map.ensures.closure (λ x r q k. search rules))
-    ∙ sum-ones 64 0 ws (λ i. (c.type_inv.map i).fits)
+    let l = c.loop-i in
+    count-end c.args.map.now l.n l.i l.invariant (omega (arith, l.auto.i-end, c.loop-i-test.false, c.min-i-end.ensures))
