@@ -114,18 +114,24 @@ module _ (c : Control) (width : ℕ) (recs slots : List ℕ) where
         unfolding allocate_tests first short
         last-test t q = rw (b, le-ltb _ _ l, le-ltb _ _ m, le-ltb _ _ w, q) refl
 
-        full : given c recs ≡ 0 → 24 ≡ answer
+        pub full : given c recs ≡ 0 → 24 ≡ answer
         full z = last-test true (eq-eqb _ 0 z)
 
-        chosen : given c recs ≢ 0 → 0 ≡ answer
+        pub chosen : given c recs ≢ 0 → 0 ≡ answer
         chosen d = last-test false (ne_eqb _ 0 d)
 
         pub decided : (o : Option ℕ) → o ≡ object (given c recs) → (r : Result ℕ Refusal) → r ≡ ok_or o Full → refusal_of r ≡ answer
         decided None e r f = rw f (full (object-none _ e))
         decided (Some x) e r f = rw f (chosen (object-some x _ e).1)
 
+        pub is-full : None ≡ object (given c recs) → 24 ≡ answer
+        is-full e = full (object-none _ e)
+
+        pub is-chosen : (x : ℕ) → Some x ≡ object (given c recs) → 0 ≡ answer
+        is-chosen x e = chosen (object-some x _ e).1
+
 -- the ends of the choice, for the search
-pub ruleset ends = (bad-control, too_short, object-room-fits, too_wide)
+pub ruleset ends = (bad-control, too_short, object-room-fits, too_wide, is-full, is-chosen, object-some)
 
 -- ---- the call
 

@@ -54,7 +54,10 @@ pub(crate) fn choose(c: Control, width: u32, records: &[u32], slots: &[u32]) -> 
     if WIDTH_MAX < width {
         return Err(Refusal::TooWide);
     }
-    next_free(c, records).ok_or(Refusal::Full)
+    match next_free(c, records) {
+        Some(x) => Ok(x),
+        None => Err(Refusal::Full),
+    }
 }
 
 // The eight slots from place `at` on become 0. With `table::buffers::clear_eight`, which asks for no room, allocate is too long to be put

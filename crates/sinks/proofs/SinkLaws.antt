@@ -10,8 +10,8 @@ use native.Mathlib.Omega.{arith}
 use native.Mathlib.Numerals.{add-one}
 use lib.Dec.{eqb, leb, ltb}
 use lib.ListN.{length, get_or, take, drop, set, length-set, length-take}
-use lib.Seq.{get_or-set_other, ext_get_or}
-use borrow.Author.Tests.{eq-eqb, eqb-true, ne_eqb, ltb-false, not-false}
+use lib.Seq.{get_or-set_other, ext_get_or, get_or-take}
+use borrow.Author.Tests.{eq-eqb, eqb-true, ne_eqb, lt-ltb, le-ltb, ltb-false, not-false}
 use Rattle.layout.specs.Field.{put, put_flag, digit}
 use Rattle.layout.specs.Limits.{object_max, sink_max, within}
 use Rattle.records.specs.Record.{is_sink, is_written, width, cluster, free, loose, with_out, with_sink, with_cluster}
@@ -48,7 +48,7 @@ use Rattle.wellformed.proofs.CheckLaws.{checked-is}
 use Rattle.std.specs.Prelude.{Option, Some, None, ◌==◌, IsSome}
 use Rattle.std.specs.List.{position_or_len}
 use Rattle.std.proofs.lemmas.List.Quantifiers.{position-Some}
-use Rattle.std.proofs.lemmas.List.Sums.{fails_before_first}
+use Rattle.std.proofs.lemmas.List.Sums.{position_or_len_is, fails_before_first}
 use Rattle.sinks.specs.Sinks.{made_exact, first_empty}
 
 -- ---- the first empty place
@@ -98,6 +98,27 @@ module _ (list : List ℕ) where
   -- it is in the slice
   pub place-low : (k : ℕ) → first_empty list ≡ Some k → (k < sink_max) × (k < length list)
   place-low k e = let n = length-take sink_max list in let i = (found k e).inside in (omega arith, omega arith)
+
+  -- the place at which a search from place 0 on ends is the first empty one
+  module _ (k : ℕ) (h : (j : ℕ) → j < k → get_or list j 0 ≢ 0) where
+    full-below : (m : ℕ) → m ≤ k → m ≤ length (take sink_max list) → (j : ℕ) → j < m → (get_or (take sink_max list) j 0 == 0) ≡ false
+    full-below m p q j r =
+        let n = length-take sink_max list in
+        ne_eqb _ 0 (λ z. h j (omega arith) (sym (get_or-take sink_max list j 0 (omega arith)) ∙ z))
+
+    pub searched : k < sink_max → k < length list → get_or list k 0 ≡ 0 → Some k ≡ first_empty list
+    searched m l z =
+        let n = length-take sink_max list in
+        let p : position_or_len (λ y. y == 0) (take sink_max list) ≡ k
+        = position_or_len_is (λ y. y == 0) (take sink_max list) k 0 (omega arith) (full-below k (omega arith) (omega arith)) (λ q. eq-eqb _ 0 (get_or-take sink_max list k 0 m ∙ z)) in
+        rw (p, lt-ltb k (length (take sink_max list)) (omega arith)) refl
+
+    pub searched-all : length (take sink_max list) ≤ k → None ≡ first_empty list
+    searched-all l =
+        let e = length (take sink_max list) in
+        let p : position_or_len (λ y. y == 0) (take sink_max list) ≡ e
+        = position_or_len_is (λ y. y == 0) (take sink_max list) e 0 (omega arith) (full-below e l (omega arith)) (λ q. absurd (omega arith)) in
+        rw (p, le-ltb e e (omega arith)) refl
 
 -- the object in it
 pub placed-there : (o : ℕ) (list : List ℕ) → sink_max ≤ length list → (k : ℕ) → first_empty list ≡ Some k

@@ -24,7 +24,13 @@ use wellformed::well_formed;
 fn first_empty(sinks: &[u32]) -> Option<usize>
     ensures { result ≡ first_empty sinks.now }
 {
-    sinks.iter().take(SINK_MAX as usize).position(|y| *y == 0)
+    // By index: that the search begins at place 0 is then a fact by itself.
+    for k in 0..sinks.len().min(SINK_MAX as usize) {
+        if sinks[k] == 0 {
+            return Some(k);
+        }
+    }
+    None
 }
 
 // The first test that holds refuses.
