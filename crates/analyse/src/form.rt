@@ -18,6 +18,7 @@ fn put_states(n: u32, records: &[u32], work: &mut [u32])
     requires { (n ≤ length records.now) × (10 * n + 64 ≤ length work.old) × (n ≤ 4095) }
     ensures { Filling n (9 * n) (cluster_of n records.now) work.old work.new n }
 {
+    // By index: the states are one part of the work words, a word at the place of each object.
     for x in 1..n + 1 {
         work[9 * n as usize + x as usize] = cluster_of(record_at(n, records, x));
     }

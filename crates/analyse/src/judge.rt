@@ -48,6 +48,7 @@ fn outs(n: u32, records: &[u32], slots: &[u32], work: &[u32], x: u32, c: u32) ->
     let from = 8 * (x as usize - 1);
     let w = width_of(record_at(n, records, x)) as usize;
     let mut total: u32 = 0;
+    // By index, from the last down, as the proof counts.
     for j in (0..w).rev() {
         total += u32::from(leaves_cluster(n, records, work, slots[from + j], c));
     }
@@ -60,6 +61,7 @@ pub(crate) fn tally(n: u32, records: &[u32], slots: &[u32], work: &mut [u32])
     ensures { Tallying n records.now slots.now work.old work.new n }
 {
     zero(work, n as usize + 1);
+    // By index: a word of one part of the work words says which one of another part counts.
     for x in 1..n + 1 {
         let c = work[9 * n as usize + x as usize] % 4096;
         if c != 0 {
@@ -91,6 +93,7 @@ pub(crate) fn decide(n: u32, t: Tuning, records: &[u32], slots: &[u32], work: &m
     requires { Judgeable n records.now slots.now work.old }
     ensures { Filling n n (left_word n t records.now slots.now work.old) work.old work.new n }
 {
+    // By index: a word of one part of the work words is stored while others are read.
     for x in 1..n + 1 {
         work[n as usize + x as usize] = left(n, t, records, slots, work, x);
     }
@@ -119,6 +122,7 @@ pub(crate) fn settle(n: u32, t: Tuning, records: &mut [u32], work: &[u32]) -> Fo
     let mut loss: u32 = 0;
     let mut clusters: u32 = 0;
     let mut members: u32 = 0;
+    // By index: a record is stored by what the work words have at the place of its object.
     for x in 1..n + 1 {
         let r = records[x as usize - 1];
         let w = word_of(n, work, n as usize, x);

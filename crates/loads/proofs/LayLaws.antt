@@ -136,6 +136,19 @@ module _ (body : List ℕ) (from k : ℕ) (words₀ : List ℕ) (base : ℕ) whe
       let z : k - k ≡ 0 = omega arith in
       rw (e, ea, et, el) (record { few = omega arith; place = omega arith; target = omega arith; long = refl; stored = rw z (laid_none base _ words₀) })
 
+  -- one word more
+  pub storing-turn : (words : List ℕ) (at to left : ℕ) → Storing body from k words₀ base words at to left → left ≢ 0 → (v : ℕ) → v ≡ number_at 4 at body
+      → Storing body from k words₀ base (set words to v) (at + 4) (to + 1) (left - 1)
+  storing-turn words at to left s d v e =
+      let z : k - (left - 1) ≡ k - left + 1 = omega (arith, s.few, d) in
+      record {
+        few = omega (arith, s.few);
+        place = omega (arith, s.place, s.few, d);
+        target = omega (arith, s.target, s.few, d);
+        long = length-set words to v ∙ s.long;
+        stored = rw (z, s.target) (laid-turn base (k - left) _ words₀ words v s.stored (e ∙ ap (λ (a : ℕ). number_at 4 a body) s.place));
+      }
+
   -- the others behind them
   pub storing-end : (words : List ℕ) (at to left : ℕ) → Storing body from k words₀ base words at to left → (e : ℕ) (out : List ℕ)
       → (e ≡ at + 4 * left) × (out ≡ laid to left (λ i. number_at 4 (at + 4 * i) body) words)

@@ -37,6 +37,7 @@ pub(crate) fn lay_rest(body: &[u8], from: usize, k: u32, words: &mut [u32], base
     ensures { (result ≡ from + 4 * k) × (words.new ≡ laid base k (λ i. number_at 4 (from + 4 * i) body.now) words.old) }
 {
     let mut at = from;
+    // By index: four bytes of one slice go to one word of the other.
     for i in 0..k as usize {
         words[base + i] = word_at(body, at);
         at += 4;

@@ -28,6 +28,7 @@ fn push_pointers(
     ensures { Pushed (pointers_in n (take k (drop from slots.now))) work.old top work.new result }
 {
     let mut at = top;
+    // By index, from the last down: what is put in front last is scanned first.
     for j in (0..k).rev() {
         let w = slots[from + j];
         if within(1, n, w) {
