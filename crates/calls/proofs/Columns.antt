@@ -554,6 +554,7 @@ module _ (n r : ℕ) (P : Plain) (L b : List ℕ) (l : Call) (x y : Outcome) (H 
   unfolding next run Run.run_kind as_run plain_call
   pair-of kind.Wrote d = alike kind.Wrote _ _ _ _ refl (λ z K. idled n r P L b z K _ (λ e. cc) refl)
   pair-of kind.Loaded d = alike kind.Loaded _ _ _ _ refl (λ z K. idled n r P L b z K _ (λ e. cc) refl)
+  pair-of (kind.Other k) d = alike (kind.Other k) _ _ _ _ refl (λ z K. idled n r P L b z K _ (λ e. cc) refl)
   pair-of kind.Create d = absurd (d refl)
   pair-of kind.Allocate d = alike kind.Allocate _ _ _ _ refl (allocated n r P L b l)
   pair-of kind.Read d = alike kind.Read _ _ _ _ refl (was_read n r P L b l)

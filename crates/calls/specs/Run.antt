@@ -134,6 +134,7 @@ module _ (c : Control) (saved : ℕ) (recs slots roots list sets work map image 
   run_kind kind.Collect l = collect (way (number 0 l))
   run_kind kind.Save l = save
   run_kind kind.Load l = load
+  run_kind (kind.Other k) l = idle
 
   -- the call by its kind; a line that makes none does nothing
   unfoldable pub run : Option Call → Outcome

@@ -158,7 +158,7 @@ pub fn as_run(call: Option<Call>, plain: bool) -> Option<Call>
     if plain { plainly(call?) } else { call }
 }
 
-// Runs the call of a line; a line that makes none does nothing. `saved` is the length of the last image, which is at the front of its bytes; 0
+// Runs the call of a line; a line that makes none does nothing, and neither does another kind. `saved` is the length of the last image, which is at the front of its bytes; 0
 // before any save. The buffers go one by one: of a struct of lent ones this would have to promise that it still holds the same.
 #[tactic(auto, unfolding(crate::specs::Run::run, crate::specs::Run::run_kind))]
 pub fn run(
@@ -182,7 +182,7 @@ pub fn run(
     };
     let v = call.numbers;
     match call.kind {
-        Kind::Wrote | Kind::Loaded => answer(0, 0, 0, 0, c, saved),
+        Kind::Wrote | Kind::Loaded | Kind::Other(_) => answer(0, 0, 0, 0, c, saved),
         Kind::Create => of_done(
             create(
                 v[0],

@@ -1,7 +1,6 @@
 -- When two calls are answered the same.
 use Rattle.std.specs.Prelude.{ℕ, ◌+◌, Bool, true, false, not, ◌&&◌, ◌||◌, List, eqb, leb, length, take, drop, Option, Some, None}
-use denote.Enum.Bare.{sameb}
-use Rattle.lines.specs.contracts.kinds.Kind.{the_type}
+use Rattle.lines.specs.Kinds.{kind_number}
 use Rattle.lines.specs.declared.kinds.Kind.{Kind}
 use Rattle.lines.specs.declared.kinds.Kind.TheVariants as kind
 use Rattle.lines.specs.declared.kinds.Call.{Call}
@@ -13,9 +12,9 @@ use Rattle.calls.specs.Compare.{agrees}
 abbrev pub same_list : List ℕ → List ℕ → Bool
 same_list = same_bytes
 
--- `==` on kinds
+-- the same kind, by its number
 abbrev pub same_kind : Kind → Kind → Bool
-same_kind = sameb the_type
+same_kind c d = eqb (kind_number c) (kind_number d)
 
 -- the words of a list from start on, n of them
 abbrev pub part : ℕ → ℕ → List ℕ → List ℕ

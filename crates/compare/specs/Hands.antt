@@ -6,7 +6,8 @@ use Rattle.lines.specs.declared.kinds.Kind.{Kind}
 use Rattle.lines.specs.declared.kinds.Kind.TheVariants as kind
 use Rattle.lines.specs.declared.kinds.Call.{Call}
 use Rattle.calls.specs.declared.Ran.{Ran}
-use Rattle.compare.specs.Answers.{same_kind}
+use denote.Enum.Bare.{sameb}
+use Rattle.lines.specs.contracts.kinds.Kind.{the_type}
 
 -- the word of an object that was freed and has not changed hands
 abbrev pub freed : ℕ
@@ -23,7 +24,7 @@ word_of left x = cond left x (4096 + x)
 -- a line makes a call of this kind
 abbrev pub makes : Kind → Option Call → Bool
 makes k None = false
-makes k (Some c) = same_kind c.kind k
+makes k (Some c) = sameb the_type c.kind k
 
 -- the object that a call gave; 0 for none
 unfoldable pub given_by : Bool → Option Call → Ran → ℕ

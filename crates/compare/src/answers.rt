@@ -81,7 +81,7 @@ pub fn same_answers(x: &Answered, y: &Answered) -> bool
     match (x.call, y.call) {
         (None, None) => true,
         (Some(c), Some(d)) => {
-            c.kind == d.kind
+            usize::from(c.kind) == usize::from(d.kind)
                 && agree(c, x.ran, beside(c.kind, x.ran, y.ran))
                 && (x.ran.refusal != 0 || same_values(c.kind, x, y))
         }

@@ -5,13 +5,15 @@ ghost use Rattle.compare.specs.Turns as T;
 
 use lines::kinds::*;
 
-// Where a column is: on its way to the next call, at a call that was run, at an analysis that was run, past the last line.
+// Where a column is: on its way to the next call, at a call that was run, at an analysis that was run, past the last line; or another number,
+// which no column has and which counts as a call.
 #[derive(Clone, Copy, PartialEq, Eq)]
 pub enum State {
     Reading,
     AtCall,
     AtAnalysis,
     Done,
+    Other(u32),
 }
 
 // What comes next: which columns are at it, and whether it is a difference.

@@ -4,7 +4,7 @@ use Rattle.std.proofs.Common.{◌≡◌, ℕ, ◌-◌, ◌<◌, ◌≤◌, Bool,
 use Rattle.lines.specs.Word.{line_end, run_end}
 use Rattle.lines.specs.declared.words.Kind.TheVariants as kind
 use Rattle.files.specs.declared.State.{State}
-use Rattle.files.specs.declared.State.TheVariants.{More, Line, End, Long, Failed}
+use Rattle.files.specs.declared.State.TheVariants.{More, Line, End, Long, Failed, Other}
 use Rattle.files.specs.declared.Source.{Source}
 use Rattle.files.specs.Reading.{longest, room, held, line_state, next_number, taken, number_after, Found}
 
@@ -43,6 +43,7 @@ same-number Line n a b = absurd (a refl)
 same-number End n a b = refl
 same-number Long n a b = absurd (b refl)
 same-number Failed n a b = refl
+same-number (Other k) n a b = refl
 
 pub held_found : (s : Source) (from end : ℕ) (state : State) → (state ≡ Line → ⊥) → (state ≡ Long → ⊥) → (state ≡ More → (end ≤ room) × (end - from ≤ longest))
     → Found s (held s from end state)

@@ -18,7 +18,8 @@ pub const ROOM: usize = 65536;
 // The most bytes of a line.
 const LONGEST: usize = 4096;
 
-// The state of a source: bytes are wanted, a line was found, the file is at its end, a line is too long, a read failed.
+// The state of a source: bytes are wanted, a line was found, the file is at its end, a line is too long, a read failed; or another number, which
+// `next_line` never answers.
 #[derive(Clone, Copy, PartialEq, Eq)]
 pub enum State {
     More,
@@ -26,6 +27,7 @@ pub enum State {
     End,
     Long,
     Failed,
+    Other(u32),
 }
 
 // A list. Of its input the bytes from `from` to `end` are still to be used; the line found has those from `start` to `stop`. `fd` is a number of the

@@ -2,7 +2,7 @@
 use Rattle.std.specs.Prelude.{ℕ, Bool, cond, List, [], ◌∷◌, ltb, get_or, set, Option, Some, None, Result, Ok, Err}
 use Rattle.lines.specs.Text.{bytes}
 use Rattle.lines.specs.declared.kinds.Kind.{Kind}
-use Rattle.lines.specs.declared.kinds.Kind.TheVariants.{Wrote, Loaded, Create, Allocate, Read, Show, Write, Root, Sink, Analyse, Collect, Save, Load}
+use Rattle.lines.specs.declared.kinds.Kind.TheVariants.{Wrote, Loaded, Create, Allocate, Read, Show, Write, Root, Sink, Analyse, Collect, Save, Load, Other}
 use Rattle.lines.specs.declared.kinds.Problem.{Problem}
 use Rattle.lines.specs.declared.kinds.Problem.TheVariants.{NoCreate, SecondCreate}
 use Rattle.lines.specs.declared.kinds.Call.{Call}
@@ -18,6 +18,23 @@ most = 5
 -- the kinds, in the order of the table
 abbrev pub kinds : List Kind
 kinds = Wrote ∷ Loaded ∷ Create ∷ Allocate ∷ Read ∷ Show ∷ Write ∷ Root ∷ Sink ∷ Analyse ∷ Collect ∷ Save ∷ Load ∷ []
+
+-- the number of each kind, that of its row in the table; another has a number of its own
+abbrev pub kind_number : Kind → ℕ
+kind_number Wrote = 1
+kind_number Loaded = 2
+kind_number Create = 3
+kind_number Allocate = 4
+kind_number Read = 5
+kind_number Show = 6
+kind_number Write = 7
+kind_number Root = 8
+kind_number Sink = 9
+kind_number Analyse = 10
+kind_number Collect = 11
+kind_number Save = 12
+kind_number Load = 13
+kind_number (Other n) = n
 
 -- the numbers of a create that names those of the analysis behind its sizes
 abbrev pub tuned_count : ℕ

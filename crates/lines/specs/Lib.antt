@@ -3,5 +3,6 @@ pub mod Text
 pub mod Word
 pub mod Numeral
 pub mod Kinds
+pub mod Told
 pub mod Line
 pub mod Examples

@@ -1,6 +1,7 @@
 // The call that a line makes, and what may be wrong with a line.
-ghost use Rattle.std.specs.Prelude.{◌≡◌};
-ghost use Rattle.lines.specs.Kinds.{with_number, problem_of};
+ghost use Rattle.std.specs.Prelude.{◌≡◌, Some};
+ghost use Rattle.lines.specs.Kinds.{kind_number, with_number, problem_of};
+ghost use Rattle.lines.specs.Told.{name, told};
 
 use std::fmt;
 
@@ -14,7 +15,8 @@ pub const TABLE: [u8; 106] =
 // The numbers of a create that names those of the analysis behind its sizes.
 pub const TUNED: u32 = 5;
 
-// The kinds of line, in the order of TABLE.
+// The kinds of line, in the order of TABLE. `Other` has a number of no row, which no line makes: what is lent a kind answers for each number,
+// as it does for a kind that a caller makes.
 #[derive(Clone, Copy, PartialEq, Eq)]
 pub enum Kind {
     Wrote,
@@ -30,9 +32,36 @@ pub enum Kind {
     Collect,
     Save,
     Load,
+    Other(usize),
+}
+
+// The number of a kind: that of its row in TABLE, from 1 on.
+impl From<Kind> for usize {
+    ghost from_gives = { λ k n. n ≡ kind_number k };
+
+    fn from(kind: Kind) -> usize {
+        match kind {
+            Kind::Wrote => 1,
+            Kind::Loaded => 2,
+            Kind::Create => 3,
+            Kind::Allocate => 4,
+            Kind::Read => 5,
+            Kind::Show => 6,
+            Kind::Write => 7,
+            Kind::Root => 8,
+            Kind::Sink => 9,
+            Kind::Analyse => 10,
+            Kind::Collect => 11,
+            Kind::Save => 12,
+            Kind::Load => 13,
+            Kind::Other(n) => n,
+        }
+    }
 }
 
 impl fmt::Display for Kind {
+    ghost output = { λ k. Some (name k) };
+
     fn fmt<W: fmt::Write>(&self, f: &mut fmt::Formatter<W>) -> fmt::Result {
         f.write_str(match self {
             Kind::Wrote => "wrote",
@@ -48,6 +77,7 @@ impl fmt::Display for Kind {
             Kind::Collect => "collect",
             Kind::Save => "save",
             Kind::Load => "load",
+            Kind::Other(_) => "",
         })
     }
 }
@@ -97,9 +127,13 @@ pub enum Problem {
     TooLong,
     // A list that could not be read.
     Unreadable,
+    // A number of none of these, which no line has.
+    Other(u32),
 }
 
 impl fmt::Display for Problem {
+    ghost output = { λ e. Some (told e) };
+
     fn fmt<W: fmt::Write>(&self, f: &mut fmt::Formatter<W>) -> fmt::Result {
         f.write_str(match self {
             Problem::NoCall => "expected the name of a call",
@@ -113,6 +147,7 @@ impl fmt::Display for Problem {
             Problem::NeverCreated => "expected create, and the list has no call",
             Problem::TooLong => "the line is longer than 4096 bytes",
             Problem::Unreadable => "the list could not be read",
+            Problem::Other(_) => "",
         })
     }
 }
