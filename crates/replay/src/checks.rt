@@ -4,6 +4,7 @@ use crate::text::Text;
 use files::{ROOM, Source, State, call_of, end_problem, next_line, opened};
 use lines::kinds::{Kind, Problem, problem_of};
 use lines::words::next_word;
+use std::fmt::Display;
 use std::fs::File;
 use std::io;
 use std::io::{Read, Seek};
@@ -59,21 +60,23 @@ impl From<io::Error> for Wrong {
     }
 }
 
-// Says what failed, where a line for standard error could not be written.
-fn told<R: Eprint>(rt: &R, written: io::Result<()>) {
-    if let Err(why) = written {
+// Writes a line to standard error at once, however long the path in it is, so that nothing of another program stands inside it.
+fn tell<R: Eprint, W: Print>(rt: &R, err: &W, line: impl Display + Drop) {
+    let mut text = Text::<8192>::new();
+    text.put(line);
+    if let Err(why) = err.write_all(text.bytes()) {
         fail(rt, "write", why);
     }
 }
 
 // Says on standard error why the list at path is not run.
-fn complain<R: Eprint>(rt: &R, path: &str, wrong: Wrong) {
+fn complain<R: Eprint, W: Print>(rt: &R, err: &W, path: &str, wrong: Wrong) {
     match wrong {
         Wrong::Unreadable(why) => fail(rt, path, why),
         Wrong::Line(number, problem) => {
-            told(rt, eprintln!(rt; "{path}, line {number}: {problem}"));
+            tell(rt, err, format_args!("{path}, line {number}: {problem}\n"));
         }
-        Wrong::Whole(problem) => told(rt, eprintln!(rt; "{path}: {problem}")),
+        Wrong::Whole(problem) => tell(rt, err, format_args!("{path}: {problem}\n")),
     }
 }
 
@@ -136,15 +139,16 @@ fn checked<R: Files<File = File>>(rt: &R, path: &str, names: &mut Names) -> Resu
 }
 
 // The list at path, ready to be run. Where it cannot be, standard error is told why.
-pub(crate) fn open<R: Files<File = File> + Eprint>(
+pub(crate) fn open<R: Files<File = File> + Eprint, W: Print>(
     rt: &R,
+    err: &W,
     path: &str,
     names: &mut Names,
 ) -> Option<List> {
     match checked(rt, path, names) {
         Ok(list) => Some(list),
         Err(wrong) => {
-            complain(rt, path, wrong);
+            complain(rt, err, path, wrong);
             None
         }
     }

@@ -122,8 +122,9 @@ pub(crate) struct Columns<'a> {
 impl<'a> Columns<'a> {
     // Runs both lists to their ends: a line of a column that is on its way to its next call, or else the next turn of both.
     pub(crate) fn play<R: Print + Eprint>(&mut self, rt: &R, page: &mut Page) {
-        // Counted, since nothing says how many lines a file has.
-        for _ in 0..u64::MAX {
+        // Counted, since nothing says how many lines a file has, and down, not by a `for`: that the turns end is then a fact by itself.
+        let mut turns = u64::MAX;
+        while 0 < turns {
             if self.left.state == State::Reading {
                 self.left.next(rt);
             } else if self.right.state == State::Reading {
@@ -131,6 +132,7 @@ impl<'a> Columns<'a> {
             } else if self.turn(rt, page) {
                 break;
             }
+            turns -= 1;
         }
     }
 

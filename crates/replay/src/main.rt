@@ -56,18 +56,9 @@ fn heading<R: Print + Eprint>(rt: &R, page: &mut Page, one: bool, first: &Names,
     page.line(rt, if one { ONE_HEAD } else { TWO_HEADS });
 }
 
-// Reports on the lists at `first` and `second`, or, if they are one, on that list run in two ways.
-fn replay<R: Files<File = File> + Print + Eprint>(rt: &R, first: &str, second: &str, one: bool) {
-    let mut first_names = Names::none();
-    let Some(left) = open(rt, first, &mut first_names) else {
-        return;
-    };
-    let mut second_names = Names::none();
-    let Some(right) = open(rt, second, &mut second_names) else {
-        return;
-    };
-    let mut page = Page::new();
-    heading(rt, &mut page, one, &first_names, &second_names);
+// Runs two lists that were checked, the left one plainly if it is also the right one, and reports. The memory is made here, where it is
+// used: a function clears its locals as it begins, and clears them once only where nothing comes before they are made.
+fn report<R: Print + Eprint>(rt: &R, page: &mut Page, left: List, right: List, one: bool) {
     let mut left_memory = Memory::new();
     let mut right_memory = Memory::new();
     let mut columns = Columns {
@@ -80,8 +71,29 @@ fn replay<R: Files<File = File> + Print + Eprint>(rt: &R, first: &str, second: &
             right: None,
         },
     };
-    columns.play(rt, &mut page);
-    ends(rt, &mut page, &columns);
+    columns.play(rt, page);
+    ends(rt, page, &columns);
+}
+
+// Reports on the lists at `first` and `second`, or, if they are one, on that list run in two ways.
+fn replay<R: Files<File = File> + Print + Eprint, W: Print>(
+    rt: &R,
+    err: &W,
+    first: &str,
+    second: &str,
+    one: bool,
+) {
+    let mut first_names = Names::none();
+    let Some(left) = open(rt, err, first, &mut first_names) else {
+        return;
+    };
+    let mut second_names = Names::none();
+    let Some(right) = open(rt, err, second, &mut second_names) else {
+        return;
+    };
+    let mut page = Page::new();
+    heading(rt, &mut page, one, &first_names, &second_names);
+    report(rt, &mut page, left, right, one);
 }
 
 // Whether there is an argument i; 0 is the program's name.
@@ -131,5 +143,5 @@ fn main(rt: HostRuntime) {
     let Some(right) = arg(&rt, last, "second list", &mut second) else {
         return;
     };
-    replay(&rt, left, right, one);
+    replay(&rt, &rt.stderr(), left, right, one);
 }
