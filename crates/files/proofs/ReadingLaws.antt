@@ -27,12 +27,13 @@ taken-found s stop next h m = go (ltb longest (stop - s.from)) refl
   where
     go : (b : Bool) → ltb longest (stop - s.from) ≡ b
         → Found s (record { fd = s.fd; from = next; end = s.end; number = next_number s.number; start = s.from; stop = stop; state = cond b Long Line })
-    go true e = record { file = refl; counted = refl; line = λ z. cc; little = λ z. cc }
+    go true e = record { file = refl; counted = refl; line = λ z. cc; known = λ k z. cc; little = λ z. cc }
     go false e =
         record {
           file = refl;
           counted = refl;
           line = λ z. record { forward = h; inside = m; short = ltb-false _ _ e };
+          known = λ k z. cc;
           little = λ z. cc;
         }
 
@@ -45,13 +46,14 @@ same-number Long n a b = absurd (b refl)
 same-number Failed n a b = refl
 same-number (Other k) n a b = refl
 
-pub held_found : (s : Source) (from end : ℕ) (state : State) → (state ≡ Line → ⊥) → (state ≡ Long → ⊥) → (state ≡ More → (end ≤ room) × (end - from ≤ longest))
+pub held_found : (s : Source) (from end : ℕ) (state : State) → (state ≡ Line → ⊥) → (state ≡ Long → ⊥) → ((k : ℕ) → state ≡ Other k → ⊥)
+    → (state ≡ More → (end ≤ room) × (end - from ≤ longest))
     → Found s (held s from end state)
-held_found s from end state a b m = record { file = refl; counted = same-number state s.number a b; line = λ e. absurd (a e); little = m }
+held_found s from end state a b o m = record { file = refl; counted = same-number state s.number a b; line = λ e. absurd (a e); known = o; little = m }
 
 -- only what a source has of its file and its number matters
 pub found-held : (s r : Source) (from end : ℕ) (state : State) → Found (held s from end state) r → Found s r
-found-held s r from end state f = record { file = f.file; counted = f.counted; line = f.line; little = f.little }
+found-held s r from end state f = record { file = f.file; counted = f.counted; line = f.line; known = f.known; little = f.little }
 
 -- the rest of a file after its last newline
 pub rest-found : (s : Source) (kept : ℕ) → kept ≤ room → Found s (taken (held s 0 kept More) kept kept)
@@ -62,6 +64,6 @@ pub found-next : (s t r : Source) → t.state ≡ More → Found s t → Found t
 unfolding number_after
 found-next s t r e f g =
     let same : t.number ≡ s.number = rw e at f.counted in
-    record { file = g.file ∙ f.file; counted = rw same at g.counted; line = g.line; little = g.little }
+    record { file = g.file ∙ f.file; counted = rw same at g.counted; line = g.line; known = g.known; little = g.little }
 
 pub ruleset fills = (held_found, found-held)

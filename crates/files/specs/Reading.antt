@@ -6,7 +6,7 @@ use Rattle.lines.specs.declared.kinds.Call.{Call}
 use Rattle.lines.specs.declared.kinds.Problem.{Problem}
 use Rattle.lines.specs.declared.kinds.Problem.TheVariants.{NeverCreated, TooLong, Unreadable}
 use Rattle.files.specs.declared.State.{State}
-use Rattle.files.specs.declared.State.TheVariants.{More, Line, Long, Failed}
+use Rattle.files.specs.declared.State.TheVariants.{More, Line, Long, Failed, Other}
 use Rattle.files.specs.declared.Source.{Source}
 
 -- the most bytes of a line
@@ -75,6 +75,7 @@ pub record Found (s r : Source) : Type 0 where
   pub file : r.fd ≡ s.fd
   pub counted : r.number ≡ number_after r.state s.number
   pub line : r.state ≡ Line → Lies r
+  pub known : (k : ℕ) → r.state ≢ Other k
   pub little : r.state ≡ More → (r.end ≤ room) × (r.end - r.from ≤ longest)
 
 -- where the bytes at hand say what the next line is, that is the answer, and the input is as it was

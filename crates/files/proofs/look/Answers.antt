@@ -5,7 +5,7 @@ use Rattle.files.proofs.ReadingLaws.{stop-from, taken-found, held_found}
 use Rattle.files.proofs.look.Goals as goal
 
 pub returns-then-end-gt-ROOM-clause-found : goal.returns-then-end-gt-ROOM-clause-found
-returns-then-end-gt-ROOM-clause-found c = rw c.holding.ensures (held_found _ _ _ _ (λ e. cc) (λ e. cc) (λ e. cc))
+returns-then-end-gt-ROOM-clause-found c = rw c.holding.ensures (held_found _ _ _ _ (λ e. cc) (λ e. cc) (λ k e. cc) (λ e. cc))
 
 pub returns-then-stop-end-clause-found : goal.returns-then-stop-end-clause-found
 returns-then-stop-end-clause-found c =
